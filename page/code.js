@@ -1,21 +1,25 @@
-// A function's instructions, of which each can be skipped or made another word.
+// A function's instructions, of which each can be skipped or made another word, or another half if it has 16 bits.
 import { $, element } from './dom.js';
-import { disassembled, targetOf, NOTHING } from './instructions.js';
-import { grouped, hexWord, numberOf } from './numbers.js';
-import { skipLine } from './scenario.js';
+import { disassembledHalf } from './halves.js';
+import { disassembled, targetOf } from './instructions.js';
+import { HALF, NOTHING, USUAL, WORD, hasHalves, lengthOf, nameOf, unitOf } from './isa.js';
+import { grouped, hexWord, hexadecimal, numberOf } from './numbers.js';
+import { setLine, skipLine } from './scenario.js';
 
 const MOST_ROWS = 1500;
+// What a text is where there are instructions of 16 bits: a half has four digits at most, a word more.
+const HALF_DIGITS = /^0[xX][0-9a-fA-F]{4}$/, SHORT_DIGITS = /^(?:0[xX][0-9a-fA-F]{1,4}|[0-9]{1,5})$/;
 
 export class Code {
   // `edit` takes the scenario after an edit, `alter` a line that alters the run at its step; `refuse` a sentence.
   constructor({ edit, alter, refuse }) {
-    Object.assign(this, { edit, alter, refuse, shown: null, at: null, writing: null, pc: null, step: 0 });
+    Object.assign(this, { edit, alter, refuse, isa: USUAL, shown: null, at: null, writing: null, pc: null, step: 0 });
     $('function').addEventListener('change', () => this.visit(Number($('function').value)));
   }
 
-  // Shows `main` of a program, or its first function.
-  open(elf, lineOf, scenario) {
-    Object.assign(this, { elf, lineOf, scenario, shown: null, at: null, writing: null, pc: null });
+  // Shows `main` of a program for an instruction set, or its first function.
+  open({ elf, lineOf, isa }, scenario) {
+    Object.assign(this, { elf, lineOf, isa, scenario, shown: null, at: null, writing: null, pc: null });
     $('function').replaceChildren(...elf.functions.map((it) => element('option', { value: it.address }, it.name)));
     $('code-rows').replaceChildren();
     const first = elf.functions.find((it) => it.name === 'main') ?? elf.functions[0];
@@ -37,12 +41,33 @@ export class Code {
     if (row) $('code').scrollTop = row.offsetTop - $('code').clientHeight / 2;
   }
 
-  // The words that are shown, null where no function is.
+  // The words, or the instructions of either length, that are shown; null where no function is. `starts` are their addresses.
   get range() {
     if (!this.shown) return null;
-    const begin = this.shown.address & ~3;
-    return { begin: begin >>> 0, count: Math.min(MOST_ROWS, Math.ceil(this.shown.size / 4)) };
+    const unit = unitOf(this.isa), begin = (this.shown.address & -unit) >>> 0;
+    const count = Math.ceil(this.shown.size / unit);
+    return hasHalves(this.isa) ? this.instructionsIn(begin, begin + unit * (count - 1))
+      : { begin, starts: Array.from({ length: Math.min(MOST_ROWS, count) }, (_, i) => begin + WORD * i) };
   }
+
+  // The instructions from one address on that begin at another one or before it, by their lengths: a half that isn't loaded, and
+  // the first half of a longer instruction without its second, are passed over.
+  instructionsIn(begin, last) {
+    const starts = [], lengths = new Map();
+    for (let at = begin; at <= last && starts.length < MOST_ROWS;) {
+      const half = this.valueAt(at, HALF), length = half === null ? HALF : lengthOf(this.isa, half);
+      const isThere = this.valueAt(at, length) !== null;
+      if (isThere) {
+        starts.push(at);
+        lengths.set(at, length);
+      }
+      at += isThere ? length : HALF;
+    }
+    return { begin, starts, lengths };
+  }
+
+  // What is at an address in the run that is shown, null where nothing is loaded.
+  valueAt(at, length) { return this.scenario.valueAt(at, length, (...it) => this.elf.loaded(...it)); }
 
   show(scenario) {
     const isSame = this.scenario?.patches === scenario.patches;
@@ -59,45 +84,51 @@ export class Code {
   }
 
   render() {
-    const { begin, count } = this.range;
+    const { starts, lengths } = this.range;
     const held = document.activeElement?.dataset?.held;
-    $('code-rows').replaceChildren(...Array.from({ length: count }, (_, i) => this.row(begin + 4 * i)).filter(Boolean));
+    $('code-rows').replaceChildren(...starts.map((at) => this.row(at, lengths?.get(at) ?? WORD)).filter(Boolean));
     if (held) $('code-rows').querySelector(`[data-held="${held}"]`)?.focus();
   }
 
-  row(address) {
-    const loaded = this.elf.loaded(address);
-    if (loaded === null) return null;
-    const patched = this.scenario.patches.get(address), word = patched ?? loaded;
-    const text = disassembled(word, address);
-    const isNow = address === this.pc;
-    const names = [address === this.at && 'at', patched !== undefined && 'patched', isNow && 'now'].filter(Boolean).join(' ');
+  row(address, length) {
+    const value = this.valueAt(address, length);
+    if (value === null) return null;
+    const isPatched = this.scenario.patchesOf(address, length).length > 0;
+    const text = (length === HALF ? disassembledHalf : disassembled)(value, address);
+    const isNow = address === this.pc, isAt = address <= this.at && this.at < address + length;
+    const names = [isAt && 'at', isPatched && 'patched', isNow && 'now'].filter(Boolean).join(' ');
     return element('tr', { className: names },
-      element('td', {}, ...this.edits(address, patched)), element('td', {}, `${isNow ? '▸ ' : ''}${hexWord(address)}`),
-      element('td', {}, this.instruction(text)),
-      element('td', { className: 'quiet' }, this.lineOf(address) ?? ''), element('td', { className: 'quiet' }, hexWord(word)));
+      element('td', {}, ...this.edits(address, length, isPatched)), element('td', {}, `${isNow ? '▸ ' : ''}${hexWord(address)}`),
+      element('td', {}, this.instruction(text)), element('td', { className: 'quiet' }, this.lineOf(address) ?? ''),
+      element('td', { className: 'quiet' }, hexadecimal(value, 2 * length)));
   }
 
   instruction(text) {
     const there = this.elf.nameAt(targetOf(text));
-    return `${text ?? 'no instruction of RV32IM'}${there ? ` <${there}>` : ''}`;
+    return `${text ?? `no instruction of ${nameOf(this.isa)}`}${there ? ` <${there}>` : ''}`;
   }
 
-  edits(address, patched) {
+  edits(address, length, isPatched) {
     // The name by which focus comes back to the button when the rows are made anew.
     const button = (held, what, told, does) => {
       const made = element('button', { onclick: does, 'aria-label': `${told} ${hexWord(address)}` }, what);
       made.dataset.held = `${held} ${address}`;
       return made;
     };
-    if (this.writing === address) return [this.field(address)];
-    const set = (word) => this.edit(this.scenario.withPatch(address, word));
-    const first = patched === undefined ? button('first', 'skip', 'skip the instruction at', () => set(NOTHING))
-      : button('first', 'put back', 'put back the word at', () => set(null));
-    const all = [first, ' ', button('word', 'word…', 'another word at', () => this.write(address))];
+    if (this.writing === address) return [this.field(address, length)];
+    const skip = () => this.edit(this.scenario.withPatch(address, NOTHING[length], length));
+    const what = length === HALF ? 'half' : 'word';
+    const first = isPatched ? button('first', 'put back', `put back the ${what} at`, () => this.edit(this.scenario.withoutPatches(address, length)))
+      : button('first', 'skip', 'skip the instruction at', skip);
+    const all = [first, ' ', button('word', `${what}…`, `another ${what} at`, () => this.write(address))];
     if (address !== this.pc) return all;
     const told = `in step ${grouped(this.step)} alone, leave out the instruction at`;
-    return [...all, ' ', button('here', 'skip here', told, () => this.alter(skipLine(this.step)))];
+    return [...all, ' ', button('here', 'skip here', told, () => this.alter(this.lineThatSkips(length)))];
+  }
+
+  // The line `skip` goes on by four bytes.
+  lineThatSkips(length) {
+    return length === WORD ? skipLine(this.step) : setLine(this.step, 'pc', this.pc + length);
   }
 
   // Has a field for the word at an address, or none.
@@ -107,27 +138,30 @@ export class Code {
     $('new-word')?.select();
   }
 
-  field(address) {
-    const word = this.scenario.patches.get(address) ?? this.elf.loaded(address);
+  field(address, length) {
+    const value = this.valueAt(address, length), what = length === HALF ? 'half' : 'word';
     const key = (event) => {
       if (event.key === 'Escape') this.write(null);
-      else if (event.key === 'Enter') this.set(address, event.target.value.trim());
+      else if (event.key === 'Enter') this.set(address, length, event.target.value.trim());
       else return;
       event.preventDefault();  // or Enter would press the button that has the focus now
     };
-    const made = element('input', { id: 'new-word', value: hexWord(word), onkeydown: key, spellcheck: false,
-      'aria-label': `new word at ${hexWord(address)}, Enter sets it` });
+    const made = element('input', { id: 'new-word', value: hexadecimal(value, 2 * length), onkeydown: key, spellcheck: false,
+      'aria-label': `new ${what} at ${hexWord(address)}, Enter sets it` });
     made.dataset.held = `word ${address}`;
     return made;
   }
 
-  set(address, text) {
-    const word = numberOf(text);
-    if (word === null) {
-      this.refuse(`A word is a number such as 0x00000013, and not “${text}”. \`replaycheck word\` prints an instruction’s.`);
+  // Sets the instruction at an address, which has so many bytes, to that of a text, of either length.
+  set(address, length, text) {
+    const value = numberOf(text);
+    if (value === null) {
+      const such = length === HALF ? 'A half is a number such as 0x0001' : 'A word is a number such as 0x00000013';
+      this.refuse(`${such}, and not “${text}”. \`replaycheck word\` prints an instruction’s.`);
       return;
     }
+    const isHalf = length === HALF ? SHORT_DIGITS.test(text) && value < 1 << 16 : hasHalves(this.isa) && HALF_DIGITS.test(text);
     this.write(null);
-    this.edit(this.scenario.withPatch(address, word));
+    this.edit(this.scenario.withPatch(address, value, isHalf ? HALF : WORD));
   }
 }

@@ -102,18 +102,18 @@ export class Elf {
     });
   }
 
-  // Where a loaded word stands in the file, -1 where it isn't in it as a whole.
-  offsetOf(address) {
+  // Where so many loaded bytes stand in the file, -1 where they aren't in it as a whole.
+  offsetOf(address, length = 4) {
     const it = this.segmentAt(address);
-    return it && address + 4 - it.address <= it.inFile ? it.offset + address - it.address : -1;
+    return it && address + length - it.address <= it.inFile ? it.offset + address - it.address : -1;
   }
 
-  // The word that is loaded at an address, null where there is none.
-  loaded(address) {
+  // The word, or the half of two bytes, that is loaded at an address, null where there is none.
+  loaded(address, length = 4) {
     const segment = this.segmentAt(address);
-    if (!segment || address + 4 > segment.address + segment.size) return null;
+    if (!segment || address + length > segment.address + segment.size) return null;
     let word = 0;
-    for (let i = 3; i >= 0; i--) {
+    for (let i = length - 1; i >= 0; i--) {
       const inSegment = address + i - segment.address;
       word = word * 256 + (inSegment < segment.inFile ? this.bytes[segment.offset + inSegment] ?? 0 : 0);
     }

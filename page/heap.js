@@ -21,13 +21,13 @@ export function unseenIn(elf) {
 }
 
 // The same of a run up to a step: one that makes a block has a heap that is seen.
-export async function unseenHeap({ module, files, elf, limit, makeWorker }, step) {
+export async function unseenHeap({ module, files, isa, elf, limit, makeWorker }, step) {
   const unseen = unseenIn(elf);
   if (!unseen) return '';
   const helper = new Helper(makeWorker);
   try {
     const lines = [`look next shadow ${hexWord(FIRST_BLOCK)} 1 ${step}`];
-    const { told } = await helper.ask('look', { module, files, limit, lines });
+    const { told } = await helper.ask('look', { module, files, isa, limit, lines });
     return told.startsWith('step ') ? '' : `Errors of the heap can’t be found. ${unseen}`;
   } finally {
     helper.stop();

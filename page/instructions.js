@@ -1,4 +1,5 @@
 // Instructions of RV32IM as text, in the words of an assembler.
+import { NOTHING, WORD } from './isa.js';
 import { hexadecimal, hexWord } from './numbers.js';
 
 export const REGISTERS = ['zero', 'ra', 'sp', 'gp', 'tp', 't0', 't1', 't2', 's0', 's1', 'a0', 'a1', 'a2', 'a3', 'a4', 'a5', 'a6', 'a7',
@@ -10,7 +11,6 @@ const IMMEDIATES = { 0: 'addi', 2: 'slti', 3: 'sltiu', 4: 'xori', 6: 'ori', 7: '
 const PLAIN = ['add', 'sll', 'slt', 'sltu', 'xor', 'srl', 'or', 'and'];
 const OTHER = { 0: 'sub', 5: 'sra' };
 const PRODUCTS = ['mul', 'mulh', 'mulhsu', 'mulhu', 'div', 'divu', 'rem', 'remu'];
-export const NOTHING = 0x13;  // the instruction that does nothing
 
 const place = (address) => hexWord(address >>> 0);
 const signed = (number, bits) => (number << (32 - bits)) >> (32 - bits);
@@ -29,7 +29,7 @@ function between(word, rd, rs1, rs2) {
 
 function immediate(word, rd, rs1) {
   const kind = word >>> 12 & 7, value = word >> 20;
-  if (word === NOTHING) return 'nop';
+  if (word === NOTHING[WORD]) return 'nop';
   if (kind === 1 || kind === 5) return shift(word, rd, rs1);
   if (kind === 0 && rs1 === 'zero') return `li ${rd},${value}`;
   if (kind === 0 && value === 0) return `mv ${rd},${rs1}`;
@@ -78,6 +78,6 @@ export function disassembled(word, address) {
 
 // The address that an instruction names, null where it names none.
 export function targetOf(text) {
-  const found = /(?:^j |^jal |^b.*,)(?:\w+,)?(0x[0-9a-f]{8})$/.exec(text ?? '');
+  const found = /^(?:c\.)?(?:j |jal |b.*,)(?:\w+,)?(0x[0-9a-f]{8})$/.exec(text ?? '');
   return found && Number(found[1]);
 }

@@ -2,6 +2,7 @@
 import { $, element } from './dom.js';
 import { grouped } from './numbers.js';
 import { editLine } from './scenario.js';
+import { lengthAt } from './sweeping.js';
 
 const MOST = 60;
 
@@ -36,7 +37,7 @@ export class Legend {
       this.changed();
     });
     const button = number && first
-      ? element('button', { onclick: () => this.make(asked.kind, ...first) }, editLine(asked.kind, ...first)) : '';
+      ? element('button', { onclick: () => this.make(asked.kind, ...first) }, editLine(asked.kind, ...first, lengthAt(asked, first[0]))) : '';
     if (button) button.dataset.held = `first ${number}`;
     const cell = (className, ...children) => element('td', { role: 'cell', className }, ...children);
     return element('tr', { role: 'row' }, cell('shows', element('label', {}, box, swatch)), cell('number', grouped(tallies[number])),

@@ -5,6 +5,7 @@ import { $, say } from './dom.js';
 import { Edits } from './edits.js';
 import { ERROR_KINDS, LAST_STEP, LEAK_KINDS, MODULE_SUM } from './facts.js';
 import { History } from './history.js';
+import { isaIn, isaLines, unitOf } from './isa.js';
 import { Machine } from './machine.js';
 import { grouped, hexByte, many } from './numbers.js';
 import { Opened } from './opened.js';
@@ -36,7 +37,7 @@ class App {
     Object.assign(this, { turn: 0, left: 0, isTravelling: false, opened: null, history: null, sources: new Map() });
     const edit = (scenario, series) => this.edit(scenario, series);
     const refuse = (text, how) => this.notice(text, how);
-    const make = (kind, at, value) => this.make(kind, at, value);
+    const make = (...edit) => this.make(...edit);
     this.opening = new Opening({ open: (files, how) => this.open(files, how), refuse });
     this.bytes = new Bytes({ edit, tell: (at) => this.byteTold(at) });
     const alter = (line) => this.edit(this.scenario.after(line));
@@ -45,13 +46,14 @@ class App {
       again: () => this.showMachine(), alter, refuse, showPc: (pc, step) => this.code.showPc(pc, step),
       visit: (address) => this.code.visit(address) });
     this.reports = new Reports({ lineOf: (address) => this.opened.lineOf(address), visit: (address) => this.code.visit(address),
-      suppress: (text) => this.edit(this.scenario.withSuppression(text)), kinds: { errors: ERROR_KINDS, leaks: LEAK_KINDS } });
+      suppress: (text) => this.edit(this.scenario.withSuppression(text)), kinds: { errors: ERROR_KINDS, leaks: LEAK_KINDS },
+      isa: () => this.opened.isa });
     this.steps = new Steps({ go: (step) => this.go(step), most: LAST_STEP });
     this.edits = new Edits({ edit, clear: () => this.edit(this.opened.plain), use: (text) => this.use(text), refuse,
       tell: (text) => this.notice(text, 'good'),
-      link: async () => new URL(await this.opening.link(this.lines), location.href).href, text: () => `${this.lines.join('\n')}\n` });
+      link: async () => new URL(await this.opening.link(this.lines), location.href).href, text: () => [...isaLines(this.opened.isa), ...this.lines, ''].join('\n') });
     const state = () => ({ program: this.opened.program, lineOf: this.opened.lineOf, scenario: this.scenario, step: this.step,
-      range: this.code.range, isEnd: this.step === this.opened.follow });
+      range: this.code.range, instructionsIn: (...ends) => this.code.instructionsIn(...ends), isEnd: this.step === this.opened.follow });
     this.sweeps = new SweepPart({ state, make, refuse, fail: (fault) => this.notice(sentence(fault, LIMIT)),
       told: () => this.bytes.tellOf(this.bytes.here), makeWorker, workers: WORKERS });
     this.listen();
@@ -84,12 +86,12 @@ class App {
 
   // Opens files, and uses lines of a session. What can't be used leaves all as it was. Gives whether they were opened; others
   // may be opened meanwhile: then these aren't.
-  async open(files, { lines = [], example = null } = {}) {
+  async open(files, { lines = [], example = null, isa } = {}) {
     const base = files.input?.bytes.slice() ?? new Uint8Array();
-    const opened = await this.judge(files, base);
+    const opened = await this.judge(files, base, isa);
     if (!opened) return false;
     const scenario = this.keptOver(opened);
-    this.sources.set(base, { files, example });
+    this.sources.set(base, { files, example, isa });
     this.replace(opened, example);
     if (this.history) this.history.add(scenario);
     else this.history = new History(scenario);
@@ -98,13 +100,13 @@ class App {
   }
 
   // Runs files before anything is given up for them: null where they can't be used, which a line says, or are no longer wanted.
-  async judge(files, base) {
+  async judge(files, base, isa) {
     const wanted = this.wanted = Symbol('wanted');
     this.judged?.close();
     try {
       const module = await loadModule().catch((fault) => { throw new NotLoaded(notLoaded(fault)); });
       if (wanted !== this.wanted) return null;
-      const shape = { limit: LIMIT, again: words.has('again'), lines: Number(words.get('lines')) || undefined, makeWorker };
+      const shape = { isa, limit: LIMIT, again: words.has('again'), lines: Number(words.get('lines')) || undefined, makeWorker };
       const opened = this.judged = new Opened(files, module, base, shape);
       await this.told('The program runs', opened.run());
       if (wanted === this.wanted) return opened;
@@ -126,7 +128,7 @@ class App {
   keptOver(opened) {
     if (this.opened?.files.program !== opened.files.program) return opened.plain;
     const isSame = this.opened.files.supp === opened.files.supp;
-    const { scenario, left } = this.scenario.over(opened.base, isSame);
+    const { scenario, left } = this.scenario.over(opened.base, isSame, unitOf(opened.isa));
     this.left = left;
     return scenario.lines.length ? scenario : opened.plain;
   }
@@ -136,7 +138,7 @@ class App {
     const { history } = this;
     this.close();
     Object.assign(this, { opened, judged: null, history, isTravelling: false });
-    this.opening.hold(opened.files, example);
+    this.opening.hold(opened.files, example, opened.isa);
   }
 
   // Ends what goes on with the files that are open.
@@ -182,7 +184,7 @@ class App {
     const title = [files.program, files.input].filter(Boolean).map((it) => it.name).join(' with ');
     document.title = `${title} — replaycheck`;
     this.steps.open(last, follow);
-    this.code.open(opened.elf, opened.lineOf, scenario);
+    this.code.open(opened, scenario);
     this.machine.open();
     if (lines.length) this.use(lines.join('\n'));
     const were = left === 1 ? 'was' : 'were';
@@ -252,8 +254,8 @@ class App {
 
   // Opens the files that a scenario is of. Gives whether that could be done.
   async openAgain(scenario) {
-    const { files, example } = this.sources.get(scenario.base);
-    const opened = await this.judge(files, scenario.base);
+    const { files, example, isa } = this.sources.get(scenario.base);
+    const opened = await this.judge(files, scenario.base, isa);
     if (!opened) return false;
     this.replace(opened, example);
     await this.begin(scenario.lines.length ? scenario : opened.plain);
@@ -266,16 +268,20 @@ class App {
     this.refresh();
   }
 
-  // Makes an edit of the picture.
-  make(kind, at, value) {
-    this.edit(kind === 'bytes' ? this.scenario.withByte(at, value) : this.scenario.withPatch(at, value));
+  // Makes an edit of the picture; an instruction has so many bytes.
+  make(kind, at, value, length) {
+    this.edit(kind === 'bytes' ? this.scenario.withByte(at, value) : this.scenario.withPatch(at, value, length));
     if (kind === 'bytes') this.bytes.pick(at);
     else this.code.visit(at, false);
   }
 
-  // Makes the lines of a text the scenario.
+  // Makes the lines of a text the scenario; for another instruction set, which a line may name, the files are opened again.
   use(text) {
-    const { plain, follow } = this.opened;
+    const isa = isaIn(text), { plain, follow } = this.opened;
+    if (isa !== null && isa !== this.opened.isa) {
+      this.opening.again(isa, text.split('\n'));
+      return;
+    }
     let scenario = plain, step = follow;
     try {
       for (const line of text.split('\n').map((it) => it.replace(/\r$/, ''))) {

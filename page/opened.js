@@ -15,12 +15,13 @@ const MOST_BEFORE = 500;  // reports of the unedited run that are kept
 const isRunning = (report) => report.state.startsWith('running');
 
 export class Opened {
-  // `base` is the input as it is read, a value of its own for each opening: scenarios over it are of these files.
-  constructor(files, module, base, { limit, again, lines, makeWorker }) {
+  // `base` is the input as it is read, a value of its own for each opening: scenarios over it are of these files and of this
+  // instruction set.
+  constructor(files, module, base, { isa, limit, again, lines, makeWorker }) {
     const elf = new Elf(files.program.bytes);
     const given = Object.fromEntries(Object.entries(files).map(([role, it]) => [role, it.bytes]));
-    this.program = { module, files: given, base, elf, limit, again, makeWorker, loaded: (at) => elf.loaded(at) };
-    Object.assign(this, { files, elf, base, plain: new Scenario(base), before: new Map(), lineOf: remembered(sourceLines(elf)) });
+    this.program = { module, files: given, isa, base, elf, limit, again, makeWorker, loaded: (at, length) => elf.loaded(at, length) };
+    Object.assign(this, { files, isa, elf, base, plain: new Scenario(base), before: new Map(), lineOf: remembered(sourceLines(elf)) });
     this.session = new Session(this.program, lines);
     this.unedited = new Session(this.program);
     this.search = new Session(this.program);

@@ -1,6 +1,8 @@
 // The files that are given: from the disk, dropped, from an example, or named by a link.
 import { $, element } from './dom.js';
 import { EXAMPLES } from './examples.js';
+import { ISAS } from './facts.js';
+import { USUAL } from './isa.js';
 import { many, size } from './numbers.js';
 
 const ELF = [0x7f, 0x45, 0x4c, 0x46];
@@ -26,10 +28,12 @@ const hasFiles = (event) => event.dataTransfer?.types.includes('Files');
 export class Opening {
   // `open` takes files by their roles, each with a name and bytes, and gives whether they were opened; `refuse` a sentence.
   constructor({ open, refuse }) {
-    Object.assign(this, { open, refuse, files: {}, example: null });
+    Object.assign(this, { open, refuse, files: {}, example: null, isa: USUAL });
     for (const role of ROLES) {
       $(`open-${role}`).addEventListener('change', (event) => this.chosen(role, event.target));
     }
+    $('isa').append(...ISAS.map((it) => element('option', { value: it }, it)));
+    $('isa').addEventListener('change', () => this.again($('isa').value));
     $('example').append(...EXAMPLES.map((it) => element('option', { value: it.name }, it.name)));
     $('example').addEventListener('change', () => $('example').value && this.choose($('example').value));
     $('examples').append(...EXAMPLES.map((it) => element('button', { onclick: () => this.choose(it.name) },
@@ -82,25 +86,41 @@ export class Opening {
     this.refuse(`${names} will be used with the next program. Open one: an ELF file for RV32IM, as the linker writes it.`, 'good');
   }
 
-  async choose(name, lines) {
+  async choose(name, lines, isa = null) {
     const example = EXAMPLES.find((it) => it.name === name);
     const files = { program: { name: example.program, bytes: bytesOf(example.programBytes) } };
     if (example.inputBytes !== undefined) files.input = { name: example.input, bytes: bytesOf(example.inputBytes) };
-    await this.begin(files, { lines, example });
+    await this.begin(files, { lines, example, isa: isa ?? example.isa ?? USUAL });
     $('example').value = this.example?.name ?? '';
   }
 
-  async begin(files, { lines, example = null }) {
-    const used = lines ?? (this.wanted && files[this.wanted.last] ? this.wanted.lines : undefined);
+  // Opens the files that are there for another instruction set, and uses lines; without a program, that waits for one.
+  async again(isa, lines) {
+    if (!this.check(isa)) return;
+    if (this.files.program) await this.begin(this.files, { lines, example: this.example, isa });
+    else this.isa = isa;
+    $('isa').value = this.isa;
+  }
+
+  // Whether the page has an instruction set; says so where it doesn't.
+  check(isa) {
+    if (!ISAS.includes(isa)) this.refuse(`There is no instruction set “${isa}” here, but ${ISAS.join(' and ')}.`);
+    return ISAS.includes(isa);
+  }
+
+  async begin(files, { lines, example = null, isa = this.isa }) {
+    const isWanted = this.wanted && files[this.wanted.last];
+    const used = lines ?? (isWanted ? this.wanted.lines : undefined);
     const notice = this.wanted && used ? await this.differing(files) : '';
-    if (!await this.open(files, { lines: used, example })) return;
+    if (!await this.open(files, { lines: used, example, isa: isWanted ? this.wanted.isa : isa })) return;
     if (used) this.wanted = null;
     if (notice && files === this.files) this.refuse(notice);
   }
 
   // Notes what is open now.
-  hold(files, example) {
-    Object.assign(this, { files, example });
+  hold(files, example, isa) {
+    Object.assign(this, { files, example, isa });
+    $('isa').value = isa;
     $('example').value = example?.name ?? '';
   }
 
@@ -115,6 +135,7 @@ export class Opening {
         words.set(`${role}-sum`, it.sum ??= await sumOf(it.bytes));
       }
     }
+    if (this.isa !== (this.example?.isa ?? USUAL)) words.set('isa', this.isa);
     if (lines.length) words.set('lines', lines.join('\n'));
     return `#${words}`;
   }
@@ -123,13 +144,14 @@ export class Opening {
   async follow(hash) {
     const words = new URLSearchParams(hash.slice(1));
     const lines = (words.get('lines') ?? '').split('\n').filter(Boolean);
-    const example = words.get('example');
+    const example = words.get('example'), isa = words.get('isa');
+    if (isa !== null && !this.check(isa)) return;
     if (example) {
-      if (EXAMPLES.some((it) => it.name === example)) await this.choose(example, lines);
+      if (EXAMPLES.some((it) => it.name === example)) await this.choose(example, lines, isa);
       else this.refuse(`There is no example “${example}” here.`);
     } else if (words.get('program')) {
       const roles = ROLES.filter((it) => words.has(it));
-      this.wanted = { lines, roles, last: roles.at(-1), sums: roles.map((it) => words.get(`${it}-sum`)) };
+      this.wanted = { lines, isa: isa ?? USUAL, roles, last: roles.at(-1), sums: roles.map((it) => words.get(`${it}-sum`)) };
       const names = roles.map((it) => `“${words.get(it)}”`).join(' with ');
       const what = roles.length > 1 ? 'these files' : 'this file';
       const then = lines.length ? `, and its ${many(lines.length, 'line')} ${lines.length === 1 ? 'is' : 'are'} used` : '';

@@ -2,9 +2,9 @@
 // outcome.
 import { $, say } from './dom.js';
 import { Legend } from './legend.js';
-import { hexByte, hexWord, many } from './numbers.js';
+import { hexByte, hexWord, hexadecimal, many } from './numbers.js';
 import { Outcomes } from './outcomes.js';
-import { placesOf, valuesOf } from './sweeping.js';
+import { indexOf, lengthAt, placeAt, placesOf, valuesOf } from './sweeping.js';
 
 const MOST_COLUMNS = 1000, LEAST_MARK = 3;
 const EDGES = [0, 1, 0x7f, 0x80, 0xff];
@@ -73,8 +73,7 @@ export class Picture {
   }
 
   columnOf(at) {
-    const index = (at - this.swept.asked.first) / (this.isOfBytes ? 1 : 4);
-    return Math.floor(index * this.columns / this.count);
+    return Math.floor(indexOf(this.swept.asked, at) * this.columns / this.count);
   }
 
   // Takes what the sweep has more of, and draws it a moment later, at the end at once.
@@ -166,7 +165,7 @@ export class Picture {
 
   // The first place of a column.
   firstOf(column) {
-    return this.swept.asked.first + (this.isOfBytes ? 1 : 4) * Math.ceil(column * this.count / this.columns);
+    return placeAt(this.swept.asked, Math.ceil(column * this.count / this.columns));
   }
 
   fill(on, cell, index, least) {
@@ -191,12 +190,13 @@ export class Picture {
 
   tell() {
     if (!this.swept?.outcomes.length) return;
-    const { cell } = this, valueName = this.isOfBytes ? hexByte : hexWord;
+    const { cell } = this, { asked } = this.swept;
     if (!cell) {
-      const columns = this.isOfBytes ? 'bytes of the input' : 'words of the function';
+      const columns = this.isOfBytes ? 'bytes of the input' : asked.code ? 'instructions of the function' : 'words of the function';
       say('picture-told', `Columns: ${columns}. Rows: values. Point at one, or move by arrow keys; a click or Enter makes the edit.`);
       return;
     }
+    const valueName = this.isOfBytes ? hexByte : (value) => hexadecimal(value, 2 * lengthAt(asked, cell.at));
     const place = this.isOfBytes ? `byte ${cell.at}` : hexWord(cell.at);
     const shares = this.count > this.columns ? ', the worst of its column' : '';
     const other = this.otherRun(), now = other ? 'there' : 'now';

@@ -1,4 +1,6 @@
 // A run of the proved program: its command line, its files, its streams, and nothing else of the world.
+import { isaWords } from './isa.js';
+
 const encoder = new TextEncoder();
 const decoder = new TextDecoder();
 const FIRST_FILE = 3;
@@ -79,7 +81,7 @@ export class Run {
   }
 }
 
-// The words that name the files there are.
-export function fileWords(files) {
-  return ['program', ...['input', 'supp'].flatMap((name) => (files[name] ? [`--${name}`, name] : []))];
+// The words that name the files there are, and an instruction set that isn't the usual one.
+export function fileWords(files, isa) {
+  return [...isaWords(isa), 'program', ...['input', 'supp'].flatMap((name) => (files[name] ? [`--${name}`, name] : []))];
 }

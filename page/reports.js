@@ -1,25 +1,27 @@
 // The report in place: what is new against the unedited run first, with source lines behind the frames.
 import { $, element, say } from './dom.js';
+import { nameOf, unitOf } from './isa.js';
 import { grouped, hexWord, many, milliseconds } from './numbers.js';
 import { compared, stateOf, suppressionOf } from './report.js';
 
 const BADGES = { new: 'new', changed: 'changed', gone: 'gone' };
 const STATES = {
-  jump: 'jumped to where no memory is', break: 'met an EBREAK', illegal: 'met no instruction of RV32IM',
-  misaligned: 'jumped to an address that is no multiple of 4',
+  jump: () => 'jumped to where no memory is', break: () => 'met an EBREAK', illegal: (isa) => `met no instruction of ${nameOf(isa)}`,
+  misaligned: (isa) => `jumped to an address that is no multiple of ${unitOf(isa)}`,
 };
 const MOST_GROUPS = 200;
 
-function stateWords({ name, rest, address }) {
+function stateWords({ name, rest, address }, isa) {
   if (name === 'exited') return `exited with ${rest}`;
   if (name === 'running') return `running at ${rest}`;
-  return `stopped: ${STATES[rest.split(' ')[0]] ?? rest}, at ${hexWord(address)}`;
+  return `stopped: ${STATES[rest.split(' ')[0]]?.(isa) ?? rest}, at ${hexWord(address)}`;
 }
 
 export class Reports {
-  // `lineOf` tells the source line of an address; `visit` shows its code; `suppress` takes a suppression's text.
-  constructor({ lineOf, visit, suppress, kinds }) {
-    Object.assign(this, { lineOf, visit, suppress, kinds });
+  // `lineOf` tells the source line of an address; `visit` shows its code; `suppress` takes a suppression's text; `isa` tells for
+  // which instruction set the run is.
+  constructor({ lineOf, visit, suppress, kinds, isa }) {
+    Object.assign(this, { lineOf, visit, suppress, kinds, isa });
   }
 
   // `where` tells where in the run the reports are, its own and that of the unedited run; `isLast` whether nothing comes after.
@@ -53,7 +55,7 @@ export class Reports {
     const state = stateOf(report), line = state.address === null ? null : this.lineOf(state.address);
     const lost = report.sums['definitely lost'].bytes;
     const words = [
-      stateWords(state) + (line ? ` (${line})` : ''),
+      stateWords(state, this.isa()) + (line ? ` (${line})` : ''),
       report.errors ? `${many(report.errors, 'error')} in ${many(report.contexts, 'place')}` : 'no errors',
       lost ? `${many(lost, 'byte')} lost` : '',
     ];

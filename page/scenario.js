@@ -1,7 +1,8 @@
 // The edits that stand, as a value that is never changed: how it looks as lines of a session, what lines lead from one to
 // another, and what is left of it without one of its edits. Whether an edit may be made, the program says.
-import { NOTHING, REGISTERS } from './instructions.js';
-import { hexByte, hexWord, many, numberOf } from './numbers.js';
+import { REGISTERS } from './instructions.js';
+import { HALF, NOTHING, WORD } from './isa.js';
+import { hexByte, hexWord, hexadecimal, many, numberOf } from './numbers.js';
 
 const KINDS = ['defined', 'undefined', 'noaccess'];
 export const OPTIONS = { redzone: '16', queue: '20000000', callers: '12', show: 'definite,possible' };
@@ -52,7 +53,45 @@ export class Scenario {
     return this.with({ cut: this.cut + 1, changes: changed(this.changes, this.kept - 1, null) });
   }
 
-  withPatch(at, word) { return this.with({ patches: changed(this.patches, at, word) }); }
+  // A patch of so many bytes, over those that are there: of one that it covers in part, the other half stays.
+  withPatch(at, value, length = WORD) {
+    if (this.patches.get(at)?.length === length) return this.with({ patches: changed(this.patches, at, { value, length }) });
+    const patches = new Map(this.patches);
+    for (const [begin, it] of this.patches) {
+      if (begin >= at + length || at >= begin + it.length) continue;
+      patches.delete(begin);
+      if (begin < at) patches.set(begin, { value: it.value & 0xffff, length: HALF });
+      if (begin + it.length > at + length) patches.set(begin + HALF, { value: it.value >>> 16, length: HALF });
+    }
+    return this.with({ patches: changed(patches, at, { value, length }) });
+  }
+
+  withoutPatch(at) { return this.with({ patches: changed(this.patches, at, null) }); }
+  withoutPatches(at, length) { return this.patchesOf(at, length).reduce((it, begin) => it.withoutPatch(begin), this); }
+
+  // Where patches begin that have one of some bytes.
+  patchesOf(at, length) {
+    return [...this.patches].filter(([begin, it]) => begin < at + length && at < begin + it.length).map(([begin]) => begin);
+  }
+
+  // The word or the half at an address, null where there is none. `loaded` tells what a program's file has there.
+  valueAt(at, length, loaded) {
+    const patch = this.patches.get(at);
+    if (patch?.length === length) return patch.value;
+    if (length === HALF) return this.patchedHalf(at) ?? loaded(at, HALF);
+    if (!this.patchesOf(at, length).length) return loaded(at, length);
+    const halves = [at, at + HALF].map((it) => this.valueAt(it, HALF, loaded));
+    return halves.includes(null) ? null : (halves[1] << 16 | halves[0]) >>> 0;
+  }
+
+  // What a patch writes to two bytes, null where none does.
+  patchedHalf(at) {
+    const whole = this.patches.get(at);
+    if (whole) return whole.value & 0xffff;
+    const before = this.patches.get(at - HALF);
+    return before?.length === WORD ? before.value >>> 16 : null;
+  }
+
   // A mark of a range, or what is altered at a step: its line, and what it is called.
   withMark(mark) { return this.with({ marks: [...this.marks, mark] }); }
   withoutMark(index) { return this.with({ marks: this.marks.filter((_, it) => it !== index) }); }
@@ -61,14 +100,15 @@ export class Scenario {
     return this.with({ options: changed(this.options, name, value === OPTIONS[name] ? null : value) });
   }
 
-  // The same edits over another input, and over other suppressions where these aren't the same: those that fit, and how many
-  // don't.
-  over(base, areSame) {
+  // The same edits over another input, over other suppressions where these aren't the same, and for an instruction set whose
+  // instructions are at multiples of a unit: those that fit, and how many don't.
+  over(base, areSame, unit = HALF) {
     const changes = new Map([...this.changes].filter(([at, value]) => at < base.length - this.cut && value !== base[at]));
     const beyond = [...this.changes.keys()].filter((at) => at >= base.length - this.cut).length;
     const cut = Math.min(this.cut, base.length), switched = areSame ? this.switched : new Map();
-    const left = beyond + this.cut - cut + this.switched.size - switched.size;
-    return { scenario: new Scenario(base, { ...this, changes, cut, switched }), left };
+    const patches = new Map([...this.patches].filter(([at, it]) => at % unit === 0 && it.length >= unit));
+    const left = beyond + this.cut - cut + this.switched.size - switched.size + this.patches.size - patches.size;
+    return { scenario: new Scenario(base, { ...this, changes, cut, switched, patches }), left };
   }
 
   withSuppression(text) { return this.with({ added: [...this.added, text] }); }
@@ -80,7 +120,7 @@ export class Scenario {
       ...[...this.options].map(([name, value]) => `option ${name} ${value}`),
       ...this.added.map((it) => `supp add ${it}`),
       ...[...this.switched].map(([index, how]) => `supp ${how} ${index}`),
-      ...[...this.patches].map(([at, word]) => patchLine(at, word)),
+      ...[...this.patches].map(([at, it]) => patchLine(at, it.value, it.length)),
       ...this.marks.map(markLine),
       ...Array(this.cut).fill('input cut'),
       ...this.appended.map((value) => `input append ${value}`),
@@ -105,11 +145,11 @@ function changed(map, key, value) {
 }
 
 const inputLine = (at, value) => `input ${at} ${value}`;
-const patchLine = (at, word) => `patch ${hexWord(at)} ${hexWord(word)}`;
+const patchLine = (at, value, length = WORD) => `patch${length === HALF ? '16' : ''} ${hexWord(at)} ${hexadecimal(value, 2 * length)}`;
 const markLine = (it) => it.line ?? `mark ${it.step} ${hexWord(it.at)} ${it.length} ${it.kind}`;
 
-// The line that makes an edit of a sweep.
-export const editLine = (kind, at, value) => (kind === 'bytes' ? inputLine : patchLine)(at, value);
+// The line that makes an edit of a sweep; `length` is that of an instruction.
+export const editLine = (kind, at, value, length) => (kind === 'bytes' ? inputLine(at, value) : patchLine(at, value, length));
 
 // What a line does to a scenario, by its first words; null where the others aren't what it takes.
 const AFTER = new Map();
@@ -122,6 +162,7 @@ AFTER.set('input', withNumbers(2, (it, at, value) => it.withByte(at, value)));
 AFTER.set('input append', withNumbers(1, (it, value) => it.withAppended(value)));
 AFTER.set('input cut', withNumbers(0, (it) => (it.length ? it.withCut() : null)));
 AFTER.set('patch', withNumbers(2, (it, at, word) => it.withPatch(at, word)));
+AFTER.set('patch16', withNumbers(2, (it, at, half) => (half < 1 << 16 ? it.withPatch(at, half, HALF) : null)));
 AFTER.set('mark', (it, words) => {
   const [step, at, length] = words.slice(0, 3).map(numberOf), [, , , kind] = words;
   const isMark = words.length === 4 && KINDS.includes(kind) && ![step, at, length].includes(null);
@@ -188,13 +229,17 @@ function suppressionLines(a, b) {
 
 function patchLines(a, b, loaded) {
   const lines = [];
-  for (const at of new Set([...a.patches.keys(), ...b.patches.keys()])) {
-    if (a.patches.get(at) === b.patches.get(at)) continue;
-    const word = b.patches.get(at) ?? loaded(at);
-    if (word === null) return null;
-    lines.push(patchLine(at, word));
+  const add = (at, value, length) => lines.push(value === null ? null : patchLine(at, value, length));
+  for (const [at, { length }] of a.patches) {
+    const left = Array.from({ length: length / HALF }, (_, i) => at + HALF * i).filter((it) => b.patchedHalf(it) === null);
+    if (left.length === length / HALF) add(at, loaded(at, length), length);
+    else for (const it of left) add(it, loaded(it, HALF), HALF);
   }
-  return lines;
+  for (const [at, { value, length }] of b.patches) {
+    const had = a.patches.get(at);
+    if (had?.value !== value || had.length !== length) add(at, value, length);
+  }
+  return lines.includes(null) ? null : lines;
 }
 
 function markLines(a, b) {
@@ -250,8 +295,9 @@ export function editsOf(it) {
   for (const [index, how] of it.switched) {
     add(`suppression ${index} ${how}`, [`supp ${how} ${index}`], it.with({ switched: changed(it.switched, index, null) }));
   }
-  for (const [at, word] of it.patches) {
-    add(`${hexWord(at)}: ${word === NOTHING ? 'skipped' : hexWord(word)}`, [patchLine(at, word)], it.withPatch(at, null));
+  for (const [at, { value, length }] of it.patches) {
+    const told = value === NOTHING[length] ? 'skipped' : hexadecimal(value, 2 * length);
+    add(`${hexWord(at)}: ${told}`, [patchLine(at, value, length)], it.withoutPatch(at));
   }
   it.marks.forEach((mark, index) => {
     const label = mark.label ?? `${mark.length} at ${hexWord(mark.at)} ${mark.kind} from step ${mark.step}`;

@@ -4,7 +4,7 @@ import { size } from './numbers.js';
 import { NoEdit } from './scenario.js';
 import { Ended, Refused, Stopped, TooManyLines } from './sessions.js';
 
-const FOR_THE_PROCESSOR = 'Compile and link it for RV32IM: -march=rv32im -mabi=ilp32.';
+const FOR_THE_PROCESSOR = 'Compile and link it for RV32IM or RV32IMC: -march=rv32im -mabi=ilp32, or -march=rv32imc.';
 const ADVICE = {
   13: 'The manual has their form, in the section on suppressions.',
   14: 'Take a shorter input, or cut it in a file.',

@@ -1,9 +1,10 @@
 // The part of the page that makes every edit: what is asked for, how far it is, what came of it.
 import { $, element, say } from './dom.js';
+import { HALF } from './isa.js';
 import { grouped, hexWord, many, milliseconds, size } from './numbers.js';
 import { Picture } from './picture.js';
 import { editsOf } from './scenario.js';
-import { Idle, MOST_EDITS, Sweep, mostEditsOf } from './sweeping.js';
+import { Idle, MOST_EDITS, Sweep, lengthAt, mostEditsOf } from './sweeping.js';
 
 const VALUES = {
   bytes: { all: 'all 255 others', flips: 'one bit turned', edges: '0, 1, 0x7f, 0x80, 0xff, ±1' },
@@ -16,10 +17,11 @@ export function filesOf(scenario, { files, elf }) {
   const left = [], swept = { program: files.program.slice() };
   if (scenario.length || files.input) swept.input = scenario.input;
   const view = new DataView(swept.program.buffer);
-  for (const [at, word] of scenario.patches) {
-    const offset = elf.offsetOf(at);
+  for (const [at, { value, length }] of scenario.patches) {
+    const offset = elf.offsetOf(at, length);
     if (offset < 0) left.push(`the patch at ${hexWord(at)}`);
-    else view.setUint32(offset, word, true);
+    else if (length === HALF) view.setUint16(offset, value, true);
+    else view.setUint32(offset, value, true);
   }
   const blocks = scenario.added.map((it) => `{\nadded\nMemcheck:${it.split(' ').join('\n')}\n}\n`).join('');
   if (files.supp || blocks) {
@@ -36,11 +38,12 @@ export function filesOf(scenario, { files, elf }) {
 }
 
 export class SweepPart {
-  // `state` gives what is swept: the program, the scenario, the step and the function that is shown; `make` makes an edit;
-  // `refuse` takes a sentence, `fail` a fault; `told` is called when more is known of the edits.
+  // `state` gives what is swept: the program, the scenario, the step and the function that is shown, and how instructions lie in
+  // a range; `make` makes an edit; `refuse` takes a sentence, `fail` a fault; `told` is called when more is known of the edits.
   constructor({ state, make, refuse, fail, told, makeWorker, workers }) {
     Object.assign(this, { state, refuse, fail, told, workers, sweep: null, of: null, ended: null, idle: new Idle(makeWorker) });
-    this.picture = new Picture({ make, otherRun: () => this.otherRun });
+    const makeEdit = (kind, at, value) => make(kind, at, value, lengthAt(this.of.asked, at));
+    this.picture = new Picture({ make: makeEdit, otherRun: () => this.otherRun });
     $('goal').addEventListener('input', () => this.showGoal());
     $('sweep').addEventListener('click', () => this.begin());
     $('stop').addEventListener('click', () => this.sweep?.stop());
@@ -73,7 +76,7 @@ export class SweepPart {
   get asked() {
     const kind = $('sweep-what').value, values = $('sweep-values').value, { scenario, step, range } = this.state();
     if (kind === 'bytes') return scenario.length ? { kind, values, step, first: 0, last: scenario.length - 1 } : null;
-    return range && { kind, values, step, first: range.begin, last: range.begin + 4 * (range.count - 1) };
+    return range && range.starts.length ? { kind, values, step, ...placesIn(range) } : null;
   }
 
   // ---- of which run the picture is
@@ -114,7 +117,7 @@ export class SweepPart {
   get askedNow() {
     if (!this.of) return this.asked?.kind === 'bytes' ? this.asked : null;
     const { scenario, step } = this.state(), { asked } = this.of;
-    if (asked.kind === 'words') return { ...asked, step };
+    if (asked.kind === 'words') return { ...asked, step, ...(asked.code && placesIn(this.state().instructionsIn(asked.first, asked.last))) };
     return scenario.length ? { ...asked, step, last: scenario.length - 1 } : null;
   }
 
@@ -129,7 +132,7 @@ export class SweepPart {
     }
     const { files, left } = filesOf(scenario, program);
     const sweep = this.sweep = new Sweep(program, files, asked, this.idle, () => this.goesOn(sweep));
-    const word = (at) => scenario.patches.get(at) ?? program.elf.loaded(at) ?? 0;
+    const word = (at) => scenario.valueAt(at, lengthAt(asked, at), program.loaded) ?? 0;
     this.of = { asked, scenario, step, isEnd, left };
     this.picture.begin(sweep.swept, asked.kind === 'bytes' ? (at) => scenario.byte(at) : word, lineOf, $('goal').value);
     this.showOf();
@@ -181,6 +184,12 @@ export class SweepPart {
     this.picture.seek($('goal').value);
     if (this.ended?.swept === this.picture.swept) this.tellEnd();
   }
+}
+
+// The places of a sweep of the words, or of the instructions of either length, that the code has.
+function placesIn({ starts, lengths }) {
+  const code = lengths && new Map(starts.map((at, index) => [at, { index, length: lengths.get(at) }]));
+  return { first: starts[0], last: starts.at(-1), ...(code && { starts, code }) };
 }
 
 const isSameRun = (a, b) => a.base === b.base && a.lines.join('\n') === b.lines.join('\n');

@@ -1,14 +1,22 @@
 // Every edit of the input's bytes, or of a function's words, alone: parts of the proved sweep, in as many workers as there are
 // processors.
+import { WORD } from './isa.js';
 import { Helper, Stopped } from './sessions.js';
 
 const PARTS_EACH = 4;  // so that no worker waits long for the last one
 const MOST_PARTS = 1000;
 
-// How many bytes or words are swept, how many values each has at most, and how many edits that are.
-export const placesOf = ({ kind, first, last }) => (kind === 'bytes' ? last - first + 1 : (last - first) / 4 + 1);
+// How many bytes, words or instructions are swept, how many values each has at most, and how many edits that are. Instructions of
+// either length have `starts`, their addresses, and `code`, the place and the length of each.
+export const placesOf = ({ kind, first, last, starts }) => starts?.length ?? (kind === 'bytes' ? last - first + 1 : (last - first) / 4 + 1);
 export const valuesOf = ({ kind, values }) => ({ all: 255, edges: 7, skip: 1, flips: kind === 'bytes' ? 8 : 32 })[values];
-export const mostEditsOf = (asked) => placesOf(asked) * valuesOf(asked);
+export const mostEditsOf = (asked) => (asked.code && asked.values === 'flips'
+  ? [...asked.code.values()].reduce((sum, it) => sum + 8 * it.length, 0) : placesOf(asked) * valuesOf(asked));
+// Where a place is among all, which place is there, and how many bytes an instruction has.
+const stride = ({ kind }) => (kind === 'bytes' ? 1 : WORD);
+export const indexOf = (asked, at) => (asked.code ? asked.code.get(at)?.index ?? 0 : (at - asked.first) / stride(asked));
+export const placeAt = (asked, index) => asked.starts?.[index] ?? asked.first + stride(asked) * index;
+export const lengthAt = ({ code }, at) => code?.get(at)?.length ?? WORD;
 
 const partsOf = (places, workers) => (workers === 1 ? 1 : Math.max(1, Math.min(places, workers * PARTS_EACH, MOST_PARTS)));
 
@@ -99,10 +107,10 @@ export class Sweep {
   }
 
   async part(helper, number, count) {
-    const { module, limit } = this.program;
+    const { module, isa, limit } = this.program;
     const part = { numbers: [] };
     const words = [...this.words, `--part=${number}/${count}`];
-    const { memory } = await helper.ask('sweep', { module, files: this.files, limit, words }, (told) => {
+    const { memory } = await helper.ask('sweep', { module, files: this.files, isa, limit, words }, (told) => {
       this.swept.add(part, told);
       this.told(this.swept);
     });

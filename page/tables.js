@@ -1,5 +1,6 @@
 // Reads the table of a part of a sweep while it is written: its outcomes as texts, its edits as numbers.
 const EDIT_FIELDS = 3;
+const EDITS = new Set(['input', 'patch', 'patch16']);
 
 export class Table {
   constructor() {
@@ -25,7 +26,7 @@ export class Table {
     if (first === 'outcome') {
       this.close();
       this.outcome = [];
-    } else if ((first === 'input' || first === 'patch') && fields.length === EDIT_FIELDS) {
+    } else if (EDITS.has(first) && fields.length === EDIT_FIELDS) {
       this.close();
       this.edits.push(Number(fields[0]), Number(fields[1]), Number(fields[2]));
     } else if (first === 'unedited' || first === 'tally') {
