@@ -1,4 +1,4 @@
--- How a number that is written as an address is read: `0x` and eight hexadecimal digits.
+-- How a number that is written as an address is read: `0x` and eight hexadecimal digits; and one of 16 bits, with four.
 use Rattle.std.proofs.Common.{◌≡◌, ℕ, zero, suc, ◌+◌, ◌*◌, ◌/◌, ◌%◌, ◌^◌, ◌<◌, List, [], ◌∷◌, map, false, Some, refl}
 use Rattle.std.proofs.Common.{sym, ap, ◌∙◌, length, arith, pow-suc, div-one}
 use Rattle.std.specs.Char.{digit_value}
@@ -8,6 +8,7 @@ use Rattle.std.proofs.lemmas.Bool.Decides.{nat_tests}
 use native.Mathlib.Nat.{div-div-eq-div-mul}
 use Rattle.report_lines.specs.Text.{address_text, hex_digit}
 use Rattle.commands.specs.Commands.{number}
+use Rattle.sweeps.specs.Tables.{half_text}
 use Rattle.driver.proofs.Numerals.{in_greater_base, number_of_digits}
 
 -- a hexadecimal digit is read as the value that it was written for
@@ -67,3 +68,31 @@ module _ (n : ℕ) (fits : n < 2 ^ 32) where
   pub address_length : length (address_text n) ≡ 10
   unfolding address_text
   address_length = refl
+
+-- what is written of a number below 2^16
+module _ (n : ℕ) (fits : n < 2 ^ 16) where
+  four_digits : digits_value 16 (map (hex_digit n) (places 4)) ≡ n
+  four_digits =
+      let nothing : n / 16 ^ 4 ≡ 0 = omega arith in
+      ap (λ m. digits_value_after 16 m (map (hex_digit n) (places 4))) (sym nothing) ∙ value_of_places n 4
+
+  pub number_of_half : number (half_text n) ≡ Some n
+  unfolding number half_text
+  number_of_half =
+      number_of_digits 16 8 n (map (hex_digit n) (places 4)) (omega arith) (omega arith) (all_hexadecimal n 4)
+      four_digits (omega arith)
+
+  pub half_plain : AllDigits 36 (half_text n)
+  unfolding half_text
+  half_plain = (
+    omega arith,
+    (
+      omega arith,
+      in_greater_base 16 36 (map (hex_digit n) (places 4)) (omega arith)
+          (all_hexadecimal n 4),
+    ),
+  )
+
+  pub half_length : length (half_text n) ≡ 6
+  unfolding half_text
+  half_length = refl

@@ -6,15 +6,16 @@ use Rattle.std.specs.Str.Parse.{AllDigits}
 use Rattle.std.proofs.lemmas.Bool.Decides.{nat_tests}
 use Rattle.report_lines.specs.Text.{address_text}
 use Rattle.commands.specs.Commands.{command_of, fields, has_empty, input_of, input_with, number, parsed, patch_of}
-use Rattle.commands.specs.Commands.{patch_with, replace_of, taken}
+use Rattle.commands.specs.Commands.{patch_half_of, patch_half_with, patch_with, replace_of, taken}
 use Rattle.replay_session.specs.Turns.{Turn, accepted, after, if_command, line_refusal, most_lines}
 use Rattle.line_server.specs.Lines.{longest_line}
-use Rattle.sweeps.specs.Tables.{change_text}
-use Rattle.sweep_plans.specs.declared.change.Change.TheVariants.{Byte, Word}
+use Rattle.sweeps.specs.Tables.{change_text, half_text}
+use Rattle.sweep_plans.specs.declared.change.Change.TheVariants.{Byte, Word, Half}
 use Rattle.driver.specs.Laws.{RowsAreLines}
 use Rattle.driver.proofs.Decimals.{decimal_digits, decimal_plain, decimal_short, decimal_some, not_word}
 use Rattle.driver.proofs.Decimals.{number_of_decimal}
-use Rattle.driver.proofs.Hexadecimals.{address_length, address_plain, number_of_address}
+use Rattle.driver.proofs.Hexadecimals.{address_length, address_plain, half_length, half_plain, number_of_address}
+use Rattle.driver.proofs.Hexadecimals.{number_of_half}
 use Rattle.driver.proofs.LineFields.{none_empty, spaced, three_fields}
 
 -- a line with no empty field that adds no suppression is the command of its fields
@@ -24,7 +25,7 @@ by_fields : (line word : List ℕ) (more : List (List ℕ)) → fields line ≡ 
 unfolding parsed
 by_fields line word more are full other = rw (are, full, other)
 
--- `input` and `patch` with two numbers
+-- `input`, `patch` and `patch16` with two numbers
 input_command : (a b : List ℕ) (offset byte : ℕ) → AllDigits 10 a → number a ≡ Some offset → number b ≡ Some byte
     → byte < 256
     → command_of (codes "input") (a ∷ b ∷ []) ≡ taken (input_with (Some offset) (Some byte))
@@ -39,7 +40,12 @@ patch_command : (a b : List ℕ) (addr word : ℕ) → number a ≡ Some addr �
 unfolding command_of patch_of
 patch_command a b addr word first second = rw (first, second)
 
--- the line of a change of a byte, and of a word: its command, and that it isn't too long
+patch_half_command : (a b : List ℕ) (addr half : ℕ) → number a ≡ Some addr → number b ≡ Some half → half < 65536
+    → command_of (codes "patch16") (a ∷ b ∷ []) ≡ taken (patch_half_with (Some addr) (Some half))
+unfolding command_of patch_half_of
+patch_half_command a b addr half first second small = rw (first, second, lt-ltb half 65536 small)
+
+-- the line of a change of a byte, of a word, and of a half: its command, and that it isn't too long
 module _ (offset byte : ℕ) (fits : offset < 2 ^ 32) (small : byte < 256) where
   byte_text : change_text (Byte offset byte) ≡ codes "input" ++ 32 ∷ (decimal offset ++ 32 ∷ decimal byte)
   unfolding change_text
@@ -99,6 +105,35 @@ module _ (addr word : ℕ) (fits : addr < 2 ^ 32) (small : word < 2 ^ 32) where
         address_length word small,
       )
 
+module _ (addr half : ℕ) (fits : addr < 2 ^ 32) (small : half < 2 ^ 16) where
+  half_row : change_text (Half addr half) ≡ codes "patch16" ++ 32 ∷ (address_text addr ++ 32 ∷ half_text half)
+  unfolding change_text
+  half_row = spaced (codes "patch16") (address_text addr) (half_text half)
+
+  half_parsed : parsed (change_text (Half addr half)) ≡ taken (patch_half_with (Some addr) (Some half))
+  half_parsed =
+      let a = address_text addr in
+      let b = half_text half in
+      let name : AllDigits 36 (codes "patch16") = (
+        omega arith,
+        (omega arith, (omega arith, (omega arith, (omega arith, (omega arith, (omega arith, tt)))))),
+      ) in
+      ap parsed half_row ∙ by_fields _ (codes "patch16") (a ∷ b ∷ [])
+      (three_fields (codes "patch16") a b name (address_plain addr fits) (half_plain half small))
+      (none_empty (codes "patch16") a b (omega arith) (omega (arith, address_length addr fits))
+      (omega (arith, half_length half small))) refl
+      ∙ patch_half_command a b addr half (number_of_address addr fits) (number_of_half half small) (omega arith)
+
+  half_short : length (change_text (Half addr half)) ≤ longest_line
+  half_short =
+      omega (
+        arith,
+        ap length half_row,
+        length-append (address_text addr) (32 ∷ half_text half),
+        address_length addr fits,
+        half_length half small,
+      )
+
 -- a line that isn't too long is judged by its command, while lines are answered
 judged : (turn : Turn) (line : List ℕ) → turn.lines < most_lines → length line ≤ longest_line
     → accepted turn line ≡ if_command turn.scenario (parsed line)
@@ -115,5 +150,9 @@ rows_are_lines turn (Byte offset byte) few small free =
 rows_are_lines turn (Word addr word) few small free =
     let read = judged turn _ few (word_short addr word small.0 small.1)
     ∙ ap (if_command turn.scenario) (word_parsed addr word small.0 small.1) ∙ rw free in
+    (read, ap (after turn.scenario) read)
+rows_are_lines turn (Half addr half) few small free =
+    let read = judged turn _ few (half_short addr half small.0 small.1)
+    ∙ ap (if_command turn.scenario) (half_parsed addr half small.0 small.1) ∙ rw free in
     (read, ap (after turn.scenario) read)
 rows_are_lines turn _ few small free = absurd small

@@ -1,7 +1,7 @@
 -- A sweep and a session: the line of a row applies the row's edit.
 use Rattle.std.specs.Prelude.{◌≡◌, ℕ, ◌+◌, ◌^◌, ◌<◌, ◌≤◌, false, List, Some, Ok}
 use Rattle.scenario.specs.Edits.{IsTaken, row}
-use Rattle.commands.specs.Commands.{input_with, patch_with, taken}
+use Rattle.commands.specs.Commands.{input_with, patch_half_with, patch_with, taken}
 use Rattle.commands.specs.declared.command.Command.TheVariants.{Edit}
 use Rattle.looks.specs.Views.{looks, read_as}
 use Rattle.replay_session.specs.Turns.{Turn, accepted, accepted_as, applied, applied_as, most_lines}
@@ -9,20 +9,23 @@ use Rattle.sweep_plans.specs.Changes.{edit_of, glitch_edit}
 use Rattle.sweeps.specs.Outcomes.{edited}
 use Rattle.sweeps.specs.Tables.{change_text, glitch_text}
 use Rattle.sweep_plans.specs.declared.change.Change.{Change}
-use Rattle.sweep_plans.specs.declared.change.Change.TheVariants.{Byte, Word, Twice}
+use Rattle.sweep_plans.specs.declared.change.Change.TheVariants.{Byte, Word, Half, Twice}
 use Rattle.sweep_plans.specs.declared.change.Glitch.{Glitch}
 use Rattle.sweep_plans.specs.declared.change.Glitch.TheVariants.{Skip, Flip, FlipPc, Set, Turn as TurnBits}
 
--- a change of a byte or a word, whose numbers fit their types; what faults do at a step are no lines of a session
+-- a change of a byte, a word or a half, whose numbers fit their types; what faults do at a step are no lines of a session
 abbrev pub IsSmall : Change → Type 0
 IsSmall (Byte offset byte) = (offset < 2 ^ 32) × (byte < 256)
 IsSmall (Word addr word) = (addr < 2 ^ 32) × (word < 2 ^ 32)
+IsSmall (Half addr half) = (addr < 2 ^ 32) × (half < 2 ^ 16)
 IsSmall _ = ⊥
 
--- a line is accepted as the command that is a change's edit: `input OFFSET BYTE` or `patch ADDR WORD`
+-- a line is accepted as the command that is a change's edit: `input OFFSET BYTE`, `patch ADDR WORD` or
+-- `patch16 ADDR HALF`
 abbrev pub IsAcceptedAs : Turn → List ℕ → Change → Type 0
 IsAcceptedAs turn line (Byte offset byte) = accepted turn line ≡ taken (input_with (Some offset) (Some byte))
 IsAcceptedAs turn line (Word addr word) = accepted turn line ≡ taken (patch_with (Some addr) (Some word))
+IsAcceptedAs turn line (Half addr half) = accepted turn line ≡ taken (patch_half_with (Some addr) (Some half))
 IsAcceptedAs turn line _ = ⊥
 
 -- and leaves the scenario with that edit
@@ -30,7 +33,7 @@ abbrev pub Makes : Turn → List ℕ → Change → Type 0
 Makes turn line change =
     IsAcceptedAs turn line change × ((applied turn line).scenario ≡ (row turn.scenario (edit_of change)).after)
 
--- while lines are answered, the line of a row on a byte or a word applies the row's change, if its edit isn't rejected
+-- while lines are answered, the line of a row on a byte, a word or a half applies the row's change, if its edit isn't rejected
 abbrev pub RowsAreLines : Type 0
 RowsAreLines =
     (turn : Turn) (change : Change) → turn.lines < most_lines → IsSmall change → IsTaken turn.scenario (edit_of change)

@@ -8,7 +8,7 @@
 //! | [`tell`] | writes the error line of an end, and returns the exit status |
 //! | [`Files`] | the source of the files' bytes: the machine, or a test |
 //! | [`read_opened`] | returns the first bytes of an opened file, or a [`ReadFault`] |
-//! | [`laws::rows_are_lines`] | does nothing; its contract says that the line of a row on a byte or a word, as a session reads it, applies the edit |
+//! | [`laws::rows_are_lines`] | does nothing; its contract says that the line of a row on a byte, a word or a half, as a session reads it, applies the edit |
 //! | [`laws::faults_are_lines`] | the same for the row of a fault, and of two, in a session whose run can be looked at |
 //!
 //! # What a caller can rely on

@@ -1,3 +1,4 @@
+pub mod CodeSteps
 pub mod ListSteps
 pub mod GlitchSteps
 pub mod PlaceSteps

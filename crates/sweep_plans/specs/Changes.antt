@@ -3,9 +3,9 @@ use Rattle.std.specs.Prelude.{ℕ, ◌+◌, ◌^◌, ◌<◌, ◌≤◌, Option,
 use Rattle.run_values.specs.declared.alteration.Act.{Act}
 use Rattle.run_values.specs.declared.alteration.Act.TheVariants as Acts
 use Rattle.commands.specs.declared.edit.Edit.{Edit}
-use Rattle.commands.specs.declared.edit.Edit.TheVariants.{Input, Patch, Mark}
+use Rattle.commands.specs.declared.edit.Edit.TheVariants.{Input, Patch, PatchHalf, Mark}
 use Rattle.sweep_plans.specs.declared.change.Change.{Change}
-use Rattle.sweep_plans.specs.declared.change.Change.TheVariants.{Byte, Word, Once, Twice}
+use Rattle.sweep_plans.specs.declared.change.Change.TheVariants.{Byte, Word, Half, Once, Twice}
 use Rattle.sweep_plans.specs.declared.change.Glitch.{Glitch}
 use Rattle.sweep_plans.specs.declared.change.Glitch.TheVariants.{Skip, Flip, FlipPc, Set, Turn}
 
@@ -32,6 +32,7 @@ glitch_edit step glitch = Mark (record { step = step; act = act_of glitch })
 abbrev pub edit_of : Change → Edit
 edit_of (Byte offset byte) = Input offset byte
 edit_of (Word addr word) = Patch addr word
+edit_of (Half addr half) = PatchHalf addr half
 edit_of (Once step glitch) = glitch_edit step glitch
 edit_of (Twice step glitch later other) = glitch_edit step glitch
 

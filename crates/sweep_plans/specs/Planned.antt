@@ -1,11 +1,14 @@
 -- The places of a request, in a program with an input.
 use Rattle.std.specs.Prelude.{◌≡◌, ℕ, ◌+◌, ◌-◌, ◌*◌, ◌/◌, ◌≤◌, ◌⊎◌, ◌&&◌, ◌||◌, nat_lt, nat_le, Bool, true, false}
-use Rattle.std.specs.Prelude.{if◌then◌else◌, List, Option, Some, None, is_some}
+use Rattle.std.specs.Prelude.{if◌then◌else◌, List, [], ◌∷◌, Option, Some, None, is_some}
 use Rattle.guest_elf.specs.declared.image.Image.{Image}
+use Rattle.guest_elf.specs.Images.{profile_of}
+use Rattle.guest_elf.specs.Profiles.{has_halves}
 use Rattle.command_line.specs.declared.order.SweepWords.{SweepWords}
 use Rattle.command_line.specs.Orders.{text_of}
-use Rattle.sweep_plans.specs.Plans.{any_word, count, place_count}
+use Rattle.sweep_plans.specs.Plans.{any_word, count, instructions, place_count}
 use Rattle.sweep_plans.specs.declared.plan.ByteValues.{ByteValues}
+use Rattle.sweep_plans.specs.declared.plan.Place.{Place}
 use Rattle.sweep_plans.specs.declared.plan.Places.{Places}
 use Rattle.sweep_plans.specs.declared.plan.WordValues.{WordValues}
 use Rattle.sweep_plans.specs.declared.plan.Plan.{Plan}
@@ -93,15 +96,36 @@ bytes_by None false len = inside 0 len len
 unfoldable pub bytes_meant : Request → ℕ → Option Places
 bytes_meant request len = bytes_by request.bytes (is_some request.words || is_some request.steps) len
 
--- the words to edit of a program, by a quarter of their addresses: those at the multiples of 4 from one address to
--- another, if one of them is loaded whole
+-- the words to edit of a program all of whose instructions are words, by a quarter of their addresses: those at the
+-- multiples of 4 from one address to another, if one of them is loaded whole
 abbrev pub loaded_places : Image → Places → Option Places
 loaded_places image words = if any_word image words.first (count words) then Some words else None
 
 abbrev pub words_by : Image → Option Range → Option Places
 words_by image (Some range) =
-    loaded_places image (record { first = (range.first + 3) / 4; end = (end_behind range.last 4294967296 + 3) / 4 })
+    if has_halves (profile_of image).isa then Some nowhere
+    else loaded_places image (record {
+      first = (range.first + 3) / 4;
+      end = (end_behind range.last 4294967296 + 3) / 4;
+    })
 words_by image None = Some nowhere
+
+-- the instructions to edit of a program that has some of 16 bits, if there is one: those that begin at one address,
+-- rounded up to a multiple of 2, or after it, up to another
+abbrev pub halves_in : Range → Places
+halves_in range = record { first = (range.first + 1) / 2; end = (end_behind range.last 4294967296 + 1) / 2 }
+
+abbrev pub instructions_in : Image → Range → List Place
+instructions_in image range = instructions image false (2 * (halves_in range).first) (count (halves_in range))
+
+abbrev pub if_any : List Place → Option (List Place)
+if_any [] = None
+if_any (place ∷ places) = Some (place ∷ places)
+
+abbrev pub instructions_by : Image → Option Range → Option (List Place)
+instructions_by image (Some range) =
+    if has_halves (profile_of image).isa then if_any (instructions_in image range) else Some []
+instructions_by image None = Some []
 
 -- the steps of a request, those below the step of the outcomes, and what is tried at them
 abbrev pub steps_by : Option StepRequest → ℕ → Option Places
@@ -120,12 +144,23 @@ abbrev pub pairs_by : Option StepRequest → Bool
 pairs_by (Some steps) = steps.pairs
 pairs_by None = false
 
--- why a request has no plan: its bytes are checked first, then its words, then its steps
+-- why a request has no plan: its bytes are checked first, then its words or its instructions, of which a list is made
+-- for which memory may run out, then its steps
+abbrev pub NoInstructions : Option Range → Image → End → Type 0
+NoInstructions named image end =
+    ((end ≡ WordsRefused) × (instructions_by image named ≡ None))
+    ⊎ ((end ≡ NoMemory) × (has_halves (profile_of image).isa ≡ true))
+
+abbrev pub NoPlanInstructions : Request → Image → ℕ → End → Type 0
+NoPlanInstructions request image step end =
+    NoInstructions request.words image end
+    ⊎ ((list : List Place) × (instructions_by image request.words ≡ Some list) × (end ≡ StepsRefused)
+    × (steps_by request.steps step ≡ None))
+
 abbrev pub NoPlanWords : Request → Image → ℕ → End → Type 0
 NoPlanWords request image step end =
     ((end ≡ WordsRefused) × (words_by image request.words ≡ None))
-    ⊎ ((words : Places) × (words_by image request.words ≡ Some words) × (end ≡ StepsRefused)
-    × (steps_by request.steps step ≡ None))
+    ⊎ ((words : Places) × (words_by image request.words ≡ Some words) × NoPlanInstructions request image step end)
 
 abbrev pub HasNoPlan : Request → Image → ℕ → ℕ → End → Type 0
 HasNoPlan request image len step end =
@@ -137,6 +172,7 @@ pub record IsPlanOf (request : Request) (image : Image) (len step : ℕ) (plan :
   pub bytes : bytes_meant request len ≡ Some plan.bytes
   pub byte_values : plan.byte_values ≡ request.byte_values
   pub words : words_by image request.words ≡ Some plan.words
+  pub instructions : instructions_by image request.words ≡ Some plan.instructions.items
   pub word_values : plan.word_values ≡ request.word_values
   pub steps : steps_by request.steps step ≡ Some plan.steps
   pub models : plan.models ≡ models_by request.steps

@@ -12,7 +12,7 @@ use Rattle.sweep_plans.specs.declared.plan.ByteValues.{ByteValues}
 use Rattle.sweep_plans.specs.declared.plan.ByteValues.TheVariants.{All, Flips as FlippedBytes, Edges}
 use Rattle.sweep_plans.specs.declared.plan.ByteValues.TheVariants.{Listed as ListedBytes}
 use Rattle.sweep_plans.specs.declared.plan.WordValues.{WordValues}
-use Rattle.sweep_plans.specs.declared.plan.WordValues.TheVariants.{Flips as FlippedWords, Listed as ListedWords}
+use Rattle.sweep_plans.specs.declared.plan.WordValues.TheVariants.{Flips as FlippedWords, Skip as NoOps, Listed as ListedWords}
 use Rattle.sweep_plans.specs.declared.request.Range.{Range}
 use Rattle.sweep_plans.specs.declared.request.Part.{Part}
 
@@ -83,20 +83,15 @@ pub record NamesNoByteValues (text : List ℕ) : Type 0 where
   pub edges : bytes_eq text (codes "edges") ≡ false
   pub list : list_of 255 text ≡ None
 
--- `skip` is the instruction that does nothing, `addi x0, x0, 0` (ISA 2.4)
-abbrev pub no_op : ℕ
-no_op = 0x13
-
-abbrev pub listed_words : List ℕ → Option (List ℕ)
-listed_words text = if bytes_eq text (codes "skip") then Some (no_op ∷ []) else list_of 4294967295 text
-
 abbrev pub NamesWordValues : List ℕ → WordValues → Type 0
 NamesWordValues text FlippedWords = bytes_eq text (codes "flips") ≡ true
-NamesWordValues text (ListedWords list) = listed_words text ≡ Some list.items
+NamesWordValues text NoOps = bytes_eq text (codes "skip") ≡ true
+NamesWordValues text (ListedWords list) = list_of 4294967295 text ≡ Some list.items
 
 pub record NamesNoWordValues (text : List ℕ) : Type 0 where
   pub flips : bytes_eq text (codes "flips") ≡ false
-  pub list : listed_words text ≡ None
+  pub skip : bytes_eq text (codes "skip") ≡ false
+  pub list : list_of 4294967295 text ≡ None
 
 -- for words, a range must have an end
 abbrev pub closed : Option Range → Option Range

@@ -29,10 +29,15 @@ pub enum Change {
         offset: u32,
         byte: u8,
     },
-    /// Another word of the program, at a multiple of 4.
+    /// Another word of the program.
     Word {
         addr: u32,
         word: u32,
+    },
+    /// Another half of the program.
+    Half {
+        addr: u32,
+        half: u16,
     },
     /// A glitch just before a step.
     Once {
@@ -93,6 +98,7 @@ impl Change {
         match self {
             Change::Byte { offset, byte } => Edit::Input { offset, byte },
             Change::Word { addr, word } => Edit::Patch { addr, word },
+            Change::Half { addr, half } => Edit::PatchHalf { addr, half },
             Change::Once { step, glitch } | Change::Twice { step, glitch, .. } => {
                 glitch_edit(step, glitch)
             }

@@ -12,11 +12,13 @@
 //! | [`has_word`] | returns whether one of some words is loaded whole |
 //! | [`laws::parts_make_the_whole`] | does nothing; its contract says that the places of the parts 1 to N are all places, in order |
 //!
-//! In `specs/`: `Requests`, `Steps` and `Models`, the request in some arguments; `Planned`, the places of a request; `Plans`, the places by
-//! their numbers and the changes at each; `Glitches`, those at a step; `Changes`, the edits of a change; `Laws`, the places of the parts.
+//! In `specs/`: `Requests`, `Steps` and `Models`, the request in some arguments; `Planned`, the places of a request; `Plans`, the
+//! instructions of 16 and of 32 bits by their lengths, the places by their numbers, and the changes at each; `Glitches`, those at a step;
+//! `Changes`, the edits of a change; `Laws`, the places of the parts.
 #![tactic(auto)]
 
 mod change;
+mod code;
 mod glitches;
 pub mod laws;
 mod loaded;

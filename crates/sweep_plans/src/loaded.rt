@@ -7,13 +7,11 @@ use crate::plan::Places;
 use guest_elf::Image;
 
 /// Returns whether a word, given by a quarter of its address, is loaded whole.
-#[tactic(auto, unfolding(guest_elf::specs::Images::is_word))]
 fn is_word(image: &Image, word: u32) -> bool
     requires { word < 2 ^ 30 }
     ensures { result ≡ is_word image.now (4 * word) }
 {
-    let addr = 4 * word;
-    addr % 4 == 0 && image.patchable(addr)
+    image.is_word(4 * word)
 }
 
 /// Returns whether one of some words, given by a quarter of their addresses, is loaded whole.

@@ -1,12 +1,24 @@
 //! The changes of a sweep: the places, and the changes at each.
-ghost use Rattle.std.specs.Prelude.{◌≤◌, ◌^◌};
+ghost use Rattle.std.specs.Prelude.{◌≤◌, ◌^◌, length};
 
 use crate::change::Change;
 use crate::glitches::glitches;
 use crate::request::Range;
 use crate::standing::Standing;
-use crate::values::{byte_changes, byte_values, flips, others, word_changes};
+use crate::values::{byte_changes, byte_values, flips, half_changes, others, word_changes};
 use std::alloc::{AllocError, Global};
+
+/// The number of bits of a word.
+const WORD_BITS: u32 = 32;
+
+/// The number of bits of a half.
+const HALF_BITS: u32 = 16;
+
+/// The instruction that does nothing, of 32 bits.
+const NO_OP: &[u32] = &[0x13];
+
+/// The same, of 16 bits.
+const HALF_NO_OP: &[u32] = &[1];
 
 /// Consecutive places from the first one up to an end. Bytes are numbered by their offsets in the input, words by a quarter of their
 /// addresses, and steps by their numbers.
@@ -49,6 +61,8 @@ pub enum Place {
     Byte(u32),
     /// The word of the program at an address.
     Word(u32),
+    /// The instruction of 16 bits at an address.
+    Half(u32),
     /// A step of the run.
     Step(u32),
     /// No place.
@@ -68,12 +82,14 @@ pub enum ByteValues {
     Listed(Vec<u32>),
 }
 
-/// The values that a word gets.
+/// The values that a word or an instruction of 16 bits gets.
 #[derive(Drop)]
 pub enum WordValues {
     /// Each value that differs in one bit, from bit 0 on.
     Flips,
-    /// These values, in their order.
+    /// The instruction of the same length that does nothing.
+    Skip,
+    /// These values, in their order, for words only.
     Listed(Vec<u32>),
 }
 
@@ -103,9 +119,11 @@ pub struct Plan {
     pub bytes: Places,
     /// The values that each byte gets.
     pub byte_values: ByteValues,
-    /// The words of the program, by a quarter of their addresses.
+    /// The words of a program all of whose instructions are words, by a quarter of their addresses.
     pub words: Places,
-    /// The values that each word gets.
+    /// The instructions of a program that has some of 16 bits, in ascending order of their addresses.
+    pub instructions: Vec<Place>,
+    /// The values that each word and each instruction gets.
     pub word_values: WordValues,
     /// The steps of the run.
     pub steps: Places,
@@ -116,11 +134,12 @@ pub struct Plan {
     /// Whether pairs of skips are tried, too.
     pub pairs: bool,
     ghost addresses: { words.end ≤ 2 ^ 30 },
+    ghost few: { length instructions.items ≤ 2 ^ 31 },
 }
 
 impl Plan {
     ghost use Rattle.std.specs.Prelude.{◌≡◌, ◌<◌, ◌^◌, IfOk};
-    ghost use Rattle.sweep_plans.specs.Plans.{HasNext, changes_of, place_at, place_behind, place_count, wanted_words, word_values};
+    ghost use Rattle.sweep_plans.specs.Plans.{HasNext, changes_of, place_at, place_behind, place_behind_words, place_count, wanted_halves, wanted_words, word_values};
 
     /// Returns the number of places.
     pub fn places(&self) -> u64
@@ -129,10 +148,11 @@ impl Plan {
     {
         u64::from(self.bytes.count())
             + u64::from(self.words.count())
+            + self.instructions.len() as u64
             + u64::from(self.steps.count())
     }
 
-    /// Returns the place of a number: the bytes come first, then the words, then the steps.
+    /// Returns the place of a number: the bytes come first, then the words or the instructions, then the steps.
     pub fn place(&self, i: u64) -> Place
         ensures { result ≡ place_at self.now i }
     {
@@ -149,9 +169,19 @@ impl Plan {
         if let Some(word) = self.words.at(i) {
             return Place::Word(4 * word);
         }
+        self.place_behind_words(i.saturating_sub(u64::from(self.words.count())))
+    }
+
+    /// Returns the place of a number among those after the words.
+    fn place_behind_words(&self, i: u64) -> Place
+        ensures { result ≡ place_behind_words self.now i }
+    {
+        if let Some(place) = self.instructions.get(i as usize) {
+            return *place;
+        }
         match self
             .steps
-            .at(i.saturating_sub(u64::from(self.words.count())))
+            .at(i.saturating_sub(self.instructions.len() as u64))
         {
             Some(step) => Place::Step(step),
             None => Place::Nowhere,
@@ -163,8 +193,21 @@ impl Plan {
         ensures { IfOk result (λ values. values.items ≡ word_values word (wanted_words self.now.word_values word)) }
     {
         match &self.word_values {
-            WordValues::Flips => others(alloc, &flips(alloc, word)?, word),
+            WordValues::Flips => others(alloc, &flips(alloc, word, WORD_BITS)?, word),
+            WordValues::Skip => others(alloc, NO_OP, word),
             WordValues::Listed(list) => others(alloc, list, word),
+        }
+    }
+
+    /// Returns the values that an instruction of 16 bits gets instead of its own, in order.
+    #[tactic(auto, unfolding(crate::specs::Plans::word_values))]
+    fn values_for_half(&self, alloc: Global, half: u32) -> Result<Vec<u32>, AllocError>
+        ensures { IfOk result (λ values. values.items ≡ word_values half (wanted_halves self.now.word_values half)) }
+    {
+        match &self.word_values {
+            WordValues::Flips => others(alloc, &flips(alloc, half, HALF_BITS)?, half),
+            WordValues::Skip => others(alloc, HALF_NO_OP, half),
+            WordValues::Listed(_) => Ok(Vec::new(alloc)),
         }
     }
 
@@ -180,6 +223,9 @@ impl Plan {
             }
             Standing::Word { addr, word } => {
                 word_changes(alloc, addr, &self.values_for(alloc, word)?)
+            }
+            Standing::Half { addr, half } => {
+                half_changes(alloc, addr, &self.values_for_half(alloc, u32::from(half))?)
             }
             Standing::Step { step, pc } => glitches(alloc, self.models, step, pc),
         }

@@ -1,14 +1,16 @@
 //! The places of a sweep of a program with an input.
-ghost use Rattle.std.specs.Prelude.{◌≡◌, ◌≤◌, ◌+◌, ◌/◌, ◌^◌, IfErr, IfOk, None, Some};
-ghost use Rattle.sweep_plans.specs.Planned.{HasNoPlan, IsPlanOf, bytes_by, bytes_meant, code_by, end_behind, inside, models_by, pairs_by, steps_by, words_by};
-ghost use Rattle.ends.specs.declared.ends.End.TheVariants.{BytesRefused, StepsRefused, WordsRefused};
+ghost use Rattle.std.specs.Prelude.{◌≡◌, ◌≤◌, ◌+◌, ◌/◌, ◌^◌, ◌⊎◌, ◌||◌, IfErr, IfOk, None, Some, is_some, length};
+ghost use Rattle.sweep_plans.specs.Planned.{HasNoPlan, IsPlanOf, NoInstructions, bytes_by, bytes_meant, code_by, end_behind, if_any, inside, instructions_by, instructions_in, models_by, pairs_by, steps_by, words_by};
+ghost use Rattle.ends.specs.declared.ends.End.TheVariants.{BytesRefused, NoMemory, StepsRefused, WordsRefused};
 
+use crate::code::instructions;
 use crate::loaded::has_word;
-use crate::plan::{FaultModels, Places, Plan};
+use crate::plan::{FaultModels, Place, Places, Plan};
 use crate::request::{Range, Request};
 use crate::steps::StepRequest;
 use ends::End;
 use guest_elf::Image;
+use std::alloc::Global;
 
 /// No places.
 const NOWHERE: Places = Places { first: 0, end: 0 };
@@ -55,7 +57,7 @@ fn quarter(address: u64) -> u32
     ((address + 3) / 4) as u32
 }
 
-/// Returns the words to edit.
+/// Returns the words to edit, if all instructions are words.
 fn words_of<'a>(named: Option<Range>, image: &Image) -> Result<Places, End<'a>>
     ensures ok { IfOk result (λ places. words_by image.now named ≡ Some places) }
     ensures small { IfOk result (λ places. places.end ≤ 2 ^ 30) }
@@ -64,6 +66,9 @@ fn words_of<'a>(named: Option<Range>, image: &Image) -> Result<Places, End<'a>>
     let Some(range) = named else {
         return Ok(NOWHERE);
     };
+    if image.profile().isa.has_halves() {
+        return Ok(NOWHERE);
+    }
     let words = Places {
         first: quarter(u64::from(range.first)),
         end: quarter(end_behind(range.last, ADDRESSES)),
@@ -72,6 +77,55 @@ fn words_of<'a>(named: Option<Range>, image: &Image) -> Result<Places, End<'a>>
         Ok(words)
     } else {
         Err(End::WordsRefused)
+    }
+}
+
+/// Returns half of the first multiple of 2 from an address on.
+fn half(address: u64) -> u32
+    requires { address ≤ 2 ^ 32 }
+    ensures value { result ≡ (address + 1) / 2 }
+    ensures small { result ≤ 2 ^ 31 }
+{
+    ((address + 1) / 2) as u32
+}
+
+/// Returns the instructions that begin at the addresses of a range, if there is one.
+fn instructions_in<'a>(alloc: Global, range: Range, image: &Image) -> Result<Vec<Place>, End<'a>>
+    ensures ok { IfOk result (λ list. if_any (instructions_in image.now range) ≡ Some list.items) }
+    ensures few { IfOk result (λ list. length list.items ≤ 2 ^ 31) }
+    ensures err { IfErr result (λ end. ((end ≡ WordsRefused) × (if_any (instructions_in image.now range) ≡ None)) ⊎ (end ≡ NoMemory)) }
+{
+    let halves = Places {
+        first: half(u64::from(range.first)),
+        end: half(end_behind(range.last, ADDRESSES)),
+    };
+    let Ok(list) = instructions(alloc, image, halves) else {
+        return Err(End::NoMemory);
+    };
+    if list.is_empty() {
+        Err(End::WordsRefused)
+    } else {
+        Ok(list)
+    }
+}
+
+/// Returns the instructions to edit, if some have 16 bits.
+fn instructions_of<'a>(
+    alloc: Global,
+    named: Option<Range>,
+    image: &Image,
+) -> Result<Vec<Place>, End<'a>>
+    ensures ok { IfOk result (λ list. instructions_by image.now named ≡ Some list.items) }
+    ensures few { IfOk result (λ list. length list.items ≤ 2 ^ 31) }
+    ensures err { IfErr result (NoInstructions named image.now) }
+{
+    let Some(range) = named else {
+        return Ok(Vec::new(alloc));
+    };
+    if image.profile().isa.has_halves() {
+        instructions_in(alloc, range, image)
+    } else {
+        Ok(Vec::new(alloc))
     }
 }
 
@@ -122,20 +176,35 @@ fn pairs_of(named: Option<StepRequest>) -> bool
     }
 }
 
+/// Returns whether a request names words or steps.
+fn names_others(request: &Request) -> bool
+    ensures { result ≡ (is_some request.now.words || is_some request.now.steps) }
+{
+    request.words.is_some() || request.steps.is_some()
+}
+
 /// Returns the plan of a sweep of a program with an input of some length, for outcomes at a step.
 #[tactic(auto, unfolding(crate::specs::Planned::bytes_meant))]
-pub fn plan_of<'a>(request: Request, image: &Image, len: u32, step: u32) -> Result<Plan, End<'a>>
+pub fn plan_of<'a>(
+    alloc: Global,
+    request: Request,
+    image: &Image,
+    len: u32,
+    step: u32,
+) -> Result<Plan, End<'a>>
     ensures ok { IfOk result (λ plan. IsPlanOf request image.now len step plan) }
     ensures err { IfErr result (HasNoPlan request image.now len step) }
 {
-    let has_others = request.words.is_some() || request.steps.is_some();
+    let has_others = names_others(&request);
     let bytes = bytes_of(request.bytes, has_others, len)?;
     let words = words_of(request.words, image)?;
+    let instructions = instructions_of(alloc, request.words, image)?;
     let steps = steps_of(request.steps, step)?;
     Ok(Plan {
         bytes,
         byte_values: request.byte_values,
         words,
+        instructions,
         word_values: request.word_values,
         steps,
         models: models_of(request.steps),

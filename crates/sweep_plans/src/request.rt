@@ -2,7 +2,7 @@
 ghost use Rattle.std.specs.Prelude.{◌≡◌, IfErr, IfOk, IfSome, MatchOption, Some, option_map};
 ghost use Rattle.command_line.specs.Orders.{text_of};
 ghost use Rattle.sweep_plans.specs.Planned.{AreBadByteValues, AreBadWordValues, IsBadPart, IsNoRequest, IsPart, IsRequestOf};
-ghost use Rattle.sweep_plans.specs.Requests.{IsBadRange, NamesByteValues, NamesNoByteValues, NamesNoWordValues, NamesRange, NamesWordValues, closed_range_of, joined_by, list_of, listed_words, part_in, part_of, range_in, range_of, up_to};
+ghost use Rattle.sweep_plans.specs.Requests.{IsBadRange, NamesByteValues, NamesNoByteValues, NamesNoWordValues, NamesRange, NamesWordValues, closed_range_of, joined_by, list_of, part_in, part_of, range_in, range_of, up_to};
 ghost use Rattle.ends.specs.declared.ends.SweepOption.TheVariants.{Bytes, Words};
 
 use crate::plan::{ByteValues, WordValues};
@@ -21,8 +21,6 @@ const EDGES: &[u8] = b"edges";
 
 const SKIP: &[u8] = b"skip";
 
-/// The instruction that does nothing.
-const NO_OP: u32 = 0x13;
 /// The greatest number of parts of a sweep.
 const MOST_PARTS: u32 = 1_000_000;
 
@@ -187,18 +185,6 @@ fn byte_values(alloc: Global, text: &[u8]) -> Result<Option<ByteValues>, AllocEr
     }
 }
 
-/// Returns the words that a text lists.
-fn listed_words(alloc: Global, text: &[u8]) -> Result<Option<Vec<u32>>, AllocError>
-    ensures { IfOk result (λ list. option_map (λ v. v.items) list ≡ listed_words text.now) }
-{
-    if text == SKIP {
-        let mut list = Vec::new(alloc);
-        list.push(NO_OP)?;
-        return Ok(Some(list));
-    }
-    list_of(alloc, text, u32::MAX)
-}
-
 /// Returns the values that a text names for words.
 fn word_values(alloc: Global, text: &[u8]) -> Result<Option<WordValues>, AllocError>
     ensures { IfOk result (λ values. MatchOption values (NamesNoWordValues text.now) (NamesWordValues text.now)) }
@@ -206,7 +192,10 @@ fn word_values(alloc: Global, text: &[u8]) -> Result<Option<WordValues>, AllocEr
     if text == FLIPS {
         return Ok(Some(WordValues::Flips));
     }
-    match listed_words(alloc, text)? {
+    if text == SKIP {
+        return Ok(Some(WordValues::Skip));
+    }
+    match list_of(alloc, text, u32::MAX)? {
         Some(list) => Ok(Some(WordValues::Listed(list))),
         None => Ok(None),
     }

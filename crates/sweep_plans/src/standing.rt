@@ -5,8 +5,10 @@
 pub enum Standing {
     /// A byte of the input.
     Byte { offset: u32, byte: u8 },
-    /// A word of the program, at a multiple of 4.
+    /// A word of the program.
     Word { addr: u32, word: u32 },
+    /// An instruction of 16 bits.
+    Half { addr: u32, half: u16 },
     /// A step of the run, before which pc has this value.
     Step { step: u32, pc: u32 },
 }

@@ -1,6 +1,6 @@
 //! The values that a place gets, and the changes to them.
-ghost use Rattle.std.specs.Prelude.{◌≡◌, ◌++◌, ◌∷◌, ◌&&◌, ◌==◌, [], OnOk, IfOk, if◌then◌else◌, map, not};
-ghost use Rattle.sweep_plans.specs.Plans.{byte_to, byte_values, flips_below, is_edge, is_flip, is_wanted, word_values};
+ghost use Rattle.std.specs.Prelude.{◌≡◌, ◌≤◌, ◌++◌, ◌∷◌, ◌&&◌, ◌==◌, [], OnOk, IfOk, if◌then◌else◌, map, not};
+ghost use Rattle.sweep_plans.specs.Plans.{byte_to, byte_values, flips_below, half_to, is_edge, is_flip, is_wanted, word_values};
 ghost use Rattle.sweep_plans.specs.declared.change.Change.TheVariants.{Word};
 
 use crate::change::Change;
@@ -70,12 +70,13 @@ pub fn byte_values(alloc: Global, wanted: &ByteValues, old: u8) -> Result<Vec<u3
     Ok(values)
 }
 
-/// Returns a word with each of its bits flipped, from bit 0 on.
-pub fn flips(alloc: Global, old: u32) -> Result<Vec<u32>, AllocError>
-    ensures { IfOk result (λ words. words.items ≡ flips_below old 32) }
+/// Returns a value with each of its lowest bits flipped, from bit 0 on.
+pub fn flips(alloc: Global, old: u32, bits: u32) -> Result<Vec<u32>, AllocError>
+    requires { bits ≤ 32 }
+    ensures { IfOk result (λ words. words.items ≡ flips_below old bits) }
 {
     let mut words = Vec::new(alloc);
-    for bit in 0..32u32 {
+    for bit in 0..bits {
         words.push(old ^ (1 << bit))?;
     }
     Ok(words)
@@ -111,6 +112,18 @@ pub fn word_changes(alloc: Global, addr: u32, values: &[u32]) -> Result<Vec<Chan
     let mut changes = Vec::new(alloc);
     for word in values {
         changes.push(Change::Word { addr, word: *word })?;
+    }
+    Ok(changes)
+}
+
+/// Returns the changes of the half at an address to some values, of each the low sixteen bits.
+pub fn half_changes(alloc: Global, addr: u32, values: &[u32]) -> Result<Vec<Change>, AllocError>
+    ensures { IfOk result (λ changes. changes.items ≡ map (half_to addr) values.now) }
+{
+    let mut changes = Vec::new(alloc);
+    for value in values {
+        let half = (*value % 65536) as u16;
+        changes.push(Change::Half { addr, half })?;
     }
     Ok(changes)
 }

@@ -140,7 +140,7 @@ pub fn sweep_program<'a, W: Write>(
 {
     let part = request.part;
     let named = request.words;
-    let plan = plan_of(request, &image, input.len() as u32, words.step)?;
+    let plan = plan_of(alloc, request, &image, input.len() as u32, words.step)?;
     sweep_part(
         alloc,
         file,

@@ -1,37 +1,42 @@
 -- A change at a place is no rejected edit, and what takes it back leaves the scenario as it was.
 use Rattle.std.proofs.Common.{◌≡◌, ℕ, zero, suc, ◌+◌, ◌-◌, ◌<◌, ◌≤◌, ◌&&◌, nat_lt, nat_le, Bool, true, false, not}
 use Rattle.std.proofs.Common.{if◌then◌else◌, length, take, remove, List, [], ◌∷◌, ◌++◌, Option}
-use Rattle.std.proofs.Common.{Some, None, unwrap_or, Result, Ok, Err, OnOk, OnErr, refl, ap, sym, ◌∙◌, subst, arith}
+use Rattle.std.proofs.Common.{Some, None, is_some, unwrap_or, Result, Ok, Err, OnOk, OnErr, refl, ap, sym, ◌∙◌, subst, arith}
 use Rattle.std.proofs.Common.{slice_set, slice_index_or}
 use Rattle.std.proofs.lemmas.Bool.{false≢true}
 use Rattle.std.proofs.lemmas.Bool.Decides.{nat_tests}
 use Rattle.std.proofs.lemmas.List.{length-append, length-set}
 use Rattle.shadow_memory.specs.Ranges.{little_word, window}
+use Rattle.instructions.specs.Codes.{len_of}
+use Rattle.instructions.specs.declared.code.Code.{Code}
+use Rattle.instructions.specs.declared.code.Code.TheVariants.{Word as WholeWord, Half as HalfWord}
 use Rattle.scenario.proofs.EditLaws.{cut-appended}
-use Rattle.guest_elf.specs.Images.{is_word}
+use Rattle.guest_elf.specs.Images.{is_half_word, is_word, profile_of}
+use Rattle.guest_elf.specs.Profiles.{has_halves}
+use Rattle.guest_elf.specs.declared.image.Image.{Image}
 use Rattle.run_values.specs.declared.alteration.Alteration.{Alteration}
-use Rattle.scenario.specs.Edits.{row, refused_if, is_bad_range, mark_refusal, IsTaken, TakesBack}
+use Rattle.scenario.specs.Edits.{half_refusal, is_bad_range, mark_refusal, refused_if, row, IsTaken, TakesBack}
 use Rattle.scenario.specs.Limits.{most_marks, most_steps}
 use Rattle.scenario.specs.Scenario.{Scenario, first_state, run_of}
 use Rattle.commands.specs.declared.edit.Edit.TheVariants.{Input}
 use Rattle.commands.specs.declared.refusal.Refusal.{Refusal}
-use Rattle.commands.specs.declared.refusal.Refusal.TheVariants.{OutsideInput, NotPatchable}
+use Rattle.commands.specs.declared.refusal.Refusal.TheVariants.{OutsideInput, NoHalves, NotPatchable}
 use Rattle.sweep_plans.specs.Changes.{IsFit, IsRight, act_of, edit_of, glitch_edit, second_of}
-use Rattle.checkpoints.specs.Effects.{word_effect}
+use Rattle.checkpoints.specs.Effects.{code_effect}
 use Rattle.checkpoints.specs.Forks.{IsForkFor}
 use Rattle.checkpoints.specs.declared.effect.Effect.TheVariants.{After, Input as InputFrom}
 use Rattle.checkpoints.specs.declared.forks.Fork.{Fork}
 use Rattle.sweeps.specs.Spots.{Continues, IsFoundAt}
 use Rattle.sweeps.specs.declared.spots.Spot.{Spot}
 use Rattle.sweeps.specs.Standing.{GoesBack, IsAt, IsBelow, MayFollow, Stands, is_struck, standing_byte, standing_in}
-use Rattle.sweeps.specs.Standing.{standing_step}
-use Rattle.sweeps.specs.Standing.{standing_word, state_before}
+use Rattle.sweeps.specs.Standing.{standing_half, standing_step, standing_word, state_before}
 use Rattle.sweep_plans.specs.declared.plan.Place.{Place}
-use Rattle.sweep_plans.specs.declared.plan.Place.TheVariants.{Byte as ByteAt, Word as WordAt, Step as StepAt, Nowhere}
+use Rattle.sweep_plans.specs.declared.plan.Place.TheVariants.{Byte as ByteAt, Word as WordAt, Half as HalfAt}
+use Rattle.sweep_plans.specs.declared.plan.Place.TheVariants.{Step as StepAt, Nowhere}
 use Rattle.sweep_plans.specs.declared.plan.Plan.{Plan}
 use Rattle.sweep_plans.specs.declared.request.Range.{Range}
 use Rattle.sweep_plans.specs.declared.change.Change.{Change}
-use Rattle.sweep_plans.specs.declared.change.Change.TheVariants.{Byte, Word, Once, Twice}
+use Rattle.sweep_plans.specs.declared.change.Change.TheVariants.{Byte, Word, Half, Once, Twice}
 use Rattle.sweep_plans.specs.declared.change.Glitch.{Glitch}
 use Rattle.sweep_plans.specs.declared.change.Glitch.TheVariants.{Turn}
 use Rattle.sweep_plans.specs.declared.standing.Standing.{Standing}
@@ -41,6 +46,10 @@ use Rattle.sweep_plans.specs.declared.standing.Standing.TheVariants as At
 there : {A : Type 0} (b : Bool) (x y : A) → (if b then Some x else None) ≡ Some y → (b ≡ true) × (x ≡ y)
 there true x y h = (refl, ap (λ o. unwrap_or o x) h)
 there false x y h = cc
+
+-- is an instruction of 16 bits loaded at an address, if there are some?
+abbrev half-test : Scenario → ℕ → Bool
+half-test sc addr = has_halves (profile_of sc.image).isa && is_half_word sc.image addr
 
 -- what is at a place stands there, and at a step that is below the chosen one
 module _ (sc : Scenario) (plan : Plan) (near : sc.step ≤ most_steps) (none : sc.marks ≡ []) where
@@ -57,7 +66,7 @@ module _ (sc : Scenario) (plan : Plan) (near : sc.step ≤ most_steps) (none : s
 
   pub stands-there : (place : Place) (s : Standing) → standing_in sc plan place ≡ Some s
       → Stands sc s × IsBelow sc.step s
-  unfolding standing_byte standing_word
+  unfolding standing_byte standing_word standing_half
   stands-there (ByteAt offset) s h =
       let is = (there (nat_lt offset (length sc.setup.input)) (At.Byte offset (slice_index_or sc.setup.input offset 0))
       s h).1 in
@@ -65,6 +74,9 @@ module _ (sc : Scenario) (plan : Plan) (near : sc.step ≤ most_steps) (none : s
   stands-there (WordAt addr) s h =
       let is = (there (is_word sc.image addr) (At.Word addr (little_word (window (first_state sc).bytes addr 4))) s h).1
       in
+      subst (λ x. Stands sc x × IsBelow sc.step x) is (h ∙ ap Some (sym is), tt)
+  stands-there (HalfAt addr) s h =
+      let is = (there (half-test sc addr) (At.Half addr (little_word (window (first_state sc).bytes addr 2))) s h).1 in
       subst (λ x. Stands sc x × IsBelow sc.step x) is (h ∙ ap Some (sym is), tt)
   stands-there (StepAt step) s h =
       let is = step-there plan.code step s h in
@@ -87,11 +99,50 @@ pub loaded : (sc : Scenario) (addr : ℕ) (s : Standing) → standing_word sc ad
 unfolding standing_word
 loaded sc addr s h = (there (is_word sc.image addr) _ s h).0
 
+both-true : (a b : Bool) → (a && b) ≡ true → (a ≡ true) × (b ≡ true)
+both-true true b h = (refl, h)
+both-true false b h = cc
+
+pub loaded-half : (sc : Scenario) (addr : ℕ) (s : Standing) → standing_half sc addr ≡ Some s
+    → (has_halves (profile_of sc.image).isa ≡ true) × (is_half_word sc.image addr ≡ true)
+unfolding standing_half
+loaded-half sc addr s h = both-true _ _ (there (half-test sc addr) _ s h).0
+
+-- what is at a half, by whether another one there is rejected
+half-by : {A : Type 0} (x : A) (a b : Bool) → is_some (if a then refused_if (not b) NotPatchable else Some NoHalves)
+    ≡ false → (if a && b then Some x else None) ≡ Some x
+half-by x true true h = refl
+half-by x true false h = cc
+half-by x false b h = cc
+
+half-by-none : {A : Type 0} (x : A) (a b : Bool)
+    → is_some (if a then refused_if (not b) NotPatchable else Some NoHalves) ≡ true
+    → (if a && b then Some x else None) ≡ None
+half-by-none x true true h = cc
+half-by-none x true false h = refl
+half-by-none x false b h = refl
+
+pub half-there : (sc : Scenario) (addr : ℕ) → is_some (half_refusal sc.image addr) ≡ false
+    → standing_half sc addr ≡ Some (At.Half addr (little_word (window (first_state sc).bytes addr 2)))
+unfolding half_refusal standing_half
+half-there sc addr h =
+    half-by (At.Half addr (little_word (window (first_state sc).bytes addr 2))) (has_halves (profile_of sc.image).isa)
+    (is_half_word sc.image addr) h
+
+pub half-refused : (sc : Scenario) (addr : ℕ) → is_some (half_refusal sc.image addr) ≡ true
+    → standing_half sc addr ≡ None
+unfolding half_refusal standing_half
+half-refused sc addr h =
+    half-by-none (At.Half addr (little_word (window (first_state sc).bytes addr 2)))
+    (has_halves (profile_of sc.image).isa)
+    (is_half_word sc.image addr) h
+
 -- ---- a change at a place isn't rejected
 
 pub fits : (sc : Scenario) (standing : Standing) (change : Change) → IsAt sc standing change → IsFit change
 fits sc (At.Byte offset old) (Byte at value) is = tt
 fits sc (At.Word addr old) (Word at value) is = tt
+fits sc (At.Half addr old) (Half at value) is = tt
 fits sc (At.Step step pc) (Once at glitch) is = is.1
 fits sc (At.Step step pc) (Twice at glitch later other) is =
     (is.1, is.2, subst (λ k. k ≤ later) (sym is.0) is.3.forward)
@@ -110,6 +161,11 @@ glitch-taken sc step glitch near room right =
     let few : nat_le most_marks (length sc.marks) ≡ false = grind (arith, nat_tests) in
     rw (early, good-range glitch right, few) refl
 
+half-taken : (image : Image) (addr : ℕ) → has_halves (profile_of image).isa ≡ true → is_half_word image addr ≡ true
+    → half_refusal image addr ≡ None
+unfolding half_refusal
+half-taken image addr some loaded = rw (some, loaded) refl
+
 pub taken : (sc : Scenario) (standing : Standing) (change : Change) → Stands sc standing → IsAt sc standing change
     → IsTaken sc (edit_of change)
 taken sc (At.Byte offset old) (Byte at value) h is =
@@ -118,6 +174,9 @@ taken sc (At.Byte offset old) (Byte at value) h is =
 taken sc (At.Word addr old) (Word at value) h is =
     taken-where (not (is_word sc.image at)) NotPatchable
     (ap not (ap (is_word sc.image) is ∙ loaded sc addr (At.Word addr old) h))
+taken sc (At.Half addr old) (Half at value) h is =
+    let there = loaded-half sc addr (At.Half addr old) h in
+    ap (half_refusal sc.image) is ∙ half-taken sc.image addr there.0 there.1
 taken sc (At.Step step pc) (Once at glitch) h is =
     glitch-taken sc at glitch (subst (λ k. k ≤ most_steps) (sym is.0) h.0) h.1 is.1
 taken sc (At.Step step pc) (Twice at glitch later other) h is =
@@ -142,6 +201,7 @@ goes-back sc (At.Byte offset old) (Byte at value) h is =
     taken-where (nat_le (length (slice_set sc.setup.input at value)) offset) OutsideInput
     (ap (λ n. nat_le n offset) (length-set sc.setup.input at value) ∙ inside sc offset (At.Byte offset old) h)
 goes-back sc (At.Word addr old) (Word at value) h is = tt
+goes-back sc (At.Half addr old) (Half at value) h is = tt
 goes-back sc (At.Step step pc) (Once at glitch) h is = with-mark sc at glitch h.1
 goes-back sc (At.Step step pc) (Twice at glitch later other) h is = with-mark sc at glitch h.1
 goes-back sc _ _ h is = absurd is
@@ -189,20 +249,34 @@ put-back-byte law sc now new offset old standing change result is stands at left
     ∙ ap (λ s. (row s (Input offset old)).after) left
     ∙ byte-back law sc offset old change (subst (Stands sc) is stands) (subst (λ s. IsAt sc s change) is at)
 
--- the word is no longer written
+-- the word or the half is no longer written
+abbrev without-last : Scenario → Scenario
+without-last sc = record sc { words = take (length sc.words - 1) sc.words }
+
 word-back : (sc : Scenario) (addr old : ℕ) (change : Change) → IsAt sc (At.Word addr old) change
-    → (let after = (row sc (edit_of change)).after in
-    record after { words = take (length after.words - 1) after.words }) ≡ sc
+    → without-last (row sc (edit_of change)).after ≡ sc
 word-back sc addr old (Word at value) is =
-    ap (λ words. record sc { words = words }) (cut-appended sc.words (record { addr = at; word = value }))
+    ap (λ words. record sc { words = words })
+    (cut-appended sc.words (record { addr = at; code = WholeWord value }))
 word-back sc addr old _ is = absurd is
+
+half-back : (sc : Scenario) (addr old : ℕ) (change : Change) → IsAt sc (At.Half addr old) change
+    → without-last (row sc (edit_of change)).after ≡ sc
+half-back sc addr old (Half at value) is =
+    ap (λ words. record sc { words = words }) (cut-appended sc.words (record { addr = at; code = HalfWord value }))
+half-back sc addr old _ is = absurd is
 
 pub put-back-word : (sc now new : Scenario) (addr old : ℕ) (standing : Standing) (change : Change)
     → standing ≡ At.Word addr old → IsAt sc standing change → now ≡ (row sc (edit_of change)).after
-    → new ≡ record now { words = take (length now.words - 1) now.words } → new ≡ sc
+    → new ≡ without-last now → new ≡ sc
 put-back-word sc now new addr old standing change is at left dropped =
-    dropped ∙ ap (λ (s : Scenario). record s { words = take (length s.words - 1) s.words }) left
-    ∙ word-back sc addr old change (subst (λ s. IsAt sc s change) is at)
+    dropped ∙ ap without-last left ∙ word-back sc addr old change (subst (λ s. IsAt sc s change) is at)
+
+pub put-back-half : (sc now new : Scenario) (addr old : ℕ) (standing : Standing) (change : Change)
+    → standing ≡ At.Half addr old → IsAt sc standing change → now ≡ (row sc (edit_of change)).after
+    → new ≡ without-last now → new ≡ sc
+put-back-half sc now new addr old standing change is at left dropped =
+    dropped ∙ ap without-last left ∙ half-back sc addr old change (subst (λ s. IsAt sc s change) is at)
 
 -- the last mark is taken out
 remove-last : (marks : List Alteration) (mark : Alteration) (n : ℕ) → n ≡ length marks
@@ -269,7 +343,8 @@ byte-continues sc offset standing fork h is =
 
 pub word-continues : (sc : Scenario) (addr : ℕ) (standing : Standing) (fork : Fork)
     → standing_word sc addr ≡ Some standing
-    → ((word : ℕ) → IsForkFor (word_effect sc.marks addr word) (run_of sc) sc.step fork) → Continues sc standing fork
+    → ((code : Code) → len_of code ≡ 4 → IsForkFor (code_effect sc.marks addr code) (run_of sc) sc.step fork)
+    → Continues sc standing fork
 unfolding standing_word
 word-continues sc addr standing fork h is =
     subst (λ (s : Standing). Continues sc s fork) (there (is_word sc.image addr) _ standing h).1
@@ -277,7 +352,23 @@ word-continues sc addr standing fork h is =
   where
     go : (old : ℕ) → Continues sc (At.Word addr old) fork
     go old (Word at value) e =
-        subst (λ k. IsForkFor (word_effect sc.marks k value) (run_of sc) sc.step fork) (sym e) (is value)
+        subst (λ k. IsForkFor (code_effect sc.marks k (WholeWord value)) (run_of sc) sc.step fork) (sym e)
+        (is (WholeWord value) refl)
+    go old _ e = absurd e
+
+pub half-continues : (sc : Scenario) (addr : ℕ) (standing : Standing) (fork : Fork)
+    → standing_half sc addr ≡ Some standing
+    → ((code : Code) → len_of code ≡ 2 → IsForkFor (code_effect sc.marks addr code) (run_of sc) sc.step fork)
+    → Continues sc standing fork
+unfolding standing_half
+half-continues sc addr standing fork h is =
+    subst (λ (s : Standing). Continues sc s fork) (there (half-test sc addr) _ standing h).1
+    (go (little_word (window (first_state sc).bytes addr 2)))
+  where
+    go : (old : ℕ) → Continues sc (At.Half addr old) fork
+    go old (Half at value) e =
+        subst (λ k. IsForkFor (code_effect sc.marks k (HalfWord value)) (run_of sc) sc.step fork) (sym e)
+        (is (HalfWord value) refl)
     go old _ e = absurd e
 
 pub step-continues : (sc : Scenario) (code : Option Range) (step : ℕ) (standing : Standing) (fork : Fork)

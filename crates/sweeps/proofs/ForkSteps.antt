@@ -1,7 +1,8 @@
 -- A fork of the run of a scenario, by what its setup and marks are equal to.
-use Rattle.std.proofs.Common.{◌≡◌, ℕ, ◌+◌, ◌≤◌, List, Some, inl, inr, refl, sym, arith}
+use Rattle.std.proofs.Common.{◌≡◌, ℕ, ◌+◌, ◌≤◌, List, Some, inl, inr, refl, ap, sym, ◌∙◌, arith}
 use Rattle.std.proofs.lemmas.Bool.{cases_lt}
 use Rattle.std.proofs.Math.Path.{transport}
+use Rattle.guest_elf.specs.declared.image.Image.{Image}
 use Rattle.guest_machine.specs.Run.{post}
 use Rattle.guest_machine.specs.Shows.{Shows}
 use Rattle.guest_machine.specs.State.{State}
@@ -11,7 +12,8 @@ use Rattle.run_values.specs.declared.alteration.Alteration.{Alteration}
 use Rattle.checkpoints.specs.Edits.{IsRightForRun}
 use Rattle.checkpoints.specs.Effects.{LeadsTo, Run}
 use Rattle.checkpoints.specs.Forks.{IsForkFor, ShowsEdited}
-use Rattle.checkpoints.specs.Trails.{IsRightFor}
+use Rattle.checkpoints.specs.Trails.{IsRightFor, LoadsAs, loaded_of}
+use Rattle.checkpoints.specs.Words.{is_among}
 use Rattle.checkpoints.specs.declared.effect.Effect.{Effect}
 use Rattle.checkpoints.specs.declared.effect.Effect.TheVariants.{After}
 use Rattle.checkpoints.specs.declared.forks.Fork.{Fork}
@@ -28,6 +30,11 @@ fork-for effect sc setup marks step trail fork given marked chosen forks h =
     transport (λ i. IsForkFor (effect (marked i))
     (record { start = first_state sc; setup = given i; marks = marked i }) (chosen i) fork)
     (forks (first_state sc) (transport (λ i. IsRightFor trail (first_state sc) (sym given i) (sym marked i)) h))
+
+-- a trail that loads the same ranges as before
+pub still-loads : (old new : Trail) (image : Image) → loaded_of new ≡ loaded_of old → LoadsAs old image
+    → LoadsAs new image
+still-loads old new image same loads a = ap (λ ranges. is_among ranges a) same ∙ loads a
 
 -- and a later one, of a scenario in which an earlier step was struck
 pub fork-later : (sc : Scenario) (setup : Setup) (marks : List Alteration) (s : ℕ) (one : Run) (fork next : Fork)
@@ -56,7 +63,7 @@ fork-before step last run fork is = elim (cases_lt step fork.step) [
 pub scout-for : (sc : Scenario) (fork : Fork) → IsScout sc (Some fork)
     → IsForkFor (After fork.step) (run_of sc) sc.step fork
 scout-for sc fork is = record {
-  aligned = tt;
+  whole = tt;
   shows = is.1;
   step = record {
     within = is.0;

@@ -7,6 +7,7 @@ pub mod TallySteps
 pub mod OneMet
 pub mod PartSteps
 pub mod PairSteps
+pub mod LandmarkSteps
 pub mod RecallSteps
 pub mod LoneSteps
 pub mod AccessSteps

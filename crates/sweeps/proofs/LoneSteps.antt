@@ -1,19 +1,16 @@
 -- Skips whose outcomes are foreseen.
-use Rattle.std.proofs.Common.{◌≡◌, ◌⊎◌, ℕ, zero, suc, ◌+◌, ◌-◌, ◌*◌, ◌<◌, ◌≤◌, ◌==◌, ◌&&◌, Bool, true, false, cond}
+use Rattle.std.proofs.Common.{◌≡◌, ℕ, zero, suc, ◌+◌, ◌-◌, ◌*◌, ◌<◌, ◌≤◌, ◌==◌, ◌&&◌, Bool, true, false, cond}
 use Rattle.std.proofs.Common.{nat_lt, List, [], ◌∷◌, ◌++◌, length, fold, Option, Some, None, is_some, is_none, inl, inr}
-use Rattle.std.proofs.Common.{refl, ap, sym, subst, ◌∙◌, add-one, append-nil, arith}
+use Rattle.std.proofs.Common.{refl, ap, sym, subst, ◌∙◌, append-nil, arith}
 use Rattle.std.specs.List.{slice_get}
-use Rattle.std.proofs.lemmas.Bool.{cases_lt}
 use Rattle.std.proofs.lemmas.Bool.Decides.{nat_tests}
-use Rattle.std.proofs.lemmas.Option.{same_Some}
-use Rattle.checkpoints.proofs.MarkSteps.{after-no_marks, after-none, made-until}
+use Rattle.checkpoints.proofs.MarkSteps.{after-no_marks, made-until}
 use Rattle.guest_elf.specs.Hooks.{hook_at}
-use Rattle.guest_elf.specs.declared.hook.Hook.{Hook}
 use Rattle.guest_machine.specs.Alterations.{altered}
 use Rattle.guest_machine.specs.Exec.{exec, is_running}
 use Rattle.guest_machine.specs.Run.{after_marks, marks_at, post, pre}
 use Rattle.guest_machine.specs.Shows.{Shows}
-use Rattle.guest_machine.specs.State.{Core, State}
+use Rattle.guest_machine.specs.State.{State}
 use Rattle.guest_machine.specs.declared.machine.Machine.{Machine}
 use Rattle.guest_machine.specs.declared.setup.Setup.{Setup}
 use Rattle.run_values.specs.declared.alteration.Act.TheVariants as Acts
@@ -25,181 +22,98 @@ use Rattle.sweep_plans.specs.declared.change.Glitch.TheVariants.{Skip}
 use Rattle.sweep_plans.specs.declared.request.Range.{Range}
 use Rattle.sweep_plans.specs.declared.standing.Standing.{Standing}
 use Rattle.sweep_plans.specs.declared.standing.Standing.TheVariants as At
-use Rattle.sweeps.specs.LoneSkips.{AreForeseen, AreSpaced, Follows, IsLone, Joins, NoneFrom}
-use Rattle.sweeps.specs.LoneSkips.{left_out, strikes, struck_pc}
+use Rattle.sweeps.specs.Landmarks.{Follows, HoldsAnother, IsHeld, NoneFrom}
+use Rattle.sweeps.specs.LoneSkips.{AreForeseen, IsLone, Joins, left_out, strikes, struck_pc}
 use Rattle.sweeps.specs.Outcomes.{IsOutcome}
 use Rattle.sweeps.specs.Standing.{is_in_code, is_struck, skipped, standing_step, state_before}
+use Rattle.sweeps.specs.declared.landmarks.Landmarks.{Landmarks}
 use Rattle.sweeps.specs.declared.lone_skips.LoneSkip.{LoneSkip}
 use Rattle.sweeps.specs.declared.lone_skips.LoneSkips.{LoneSkips}
+use Rattle.sweeps.proofs.LandmarkSteps.{get-push, get-within, marks-more, quiet-on, same-held}
 
 -- ---- the table
-
--- what is at a place after a push
-get-push : {X : Type 0} (xs : List X) (y z : X) (i : ℕ) → slice_get (xs ++ y ∷ []) i ≡ Some z
-    → (slice_get xs i ≡ Some z) ⊎ ((i ≡ length xs) × (y ≡ z))
-get-push [] y z zero e = inr (refl, same_Some y z e)
-get-push [] y z (suc i) e = cc
-get-push (x ∷ xs) y z zero e = inl e
-get-push (x ∷ xs) y z (suc i) e = go (get-push xs y z i e)
-  where
-    go : (slice_get xs i ≡ Some z) ⊎ ((i ≡ length xs) × (y ≡ z))
-        → (slice_get xs i ≡ Some z) ⊎ ((suc i ≡ suc (length xs)) × (y ≡ z))
-    go (inl there) = inl there
-    go (inr last) = inr (ap suc last.0, last.1)
-
-get-within : {X : Type 0} (xs : List X) (i : ℕ) (z : X) → slice_get xs i ≡ Some z → i < length xs
-get-within [] i z e = cc
-get-within (x ∷ xs) zero z e = omega arith
-get-within (x ∷ xs) (suc i) z e = let less = get-within xs i z e in omega arith
 
 pub get-some : {X : Type 0} (xs : List X) (i : ℕ) → i < length xs → (x : X) × (slice_get xs i ≡ Some x)
 get-some [] i less = absurd (omega arith)
 get-some (x ∷ xs) zero less = (x, refl)
 get-some (x ∷ xs) (suc i) less = get-some xs i (omega arith)
 
--- another step
-one-more : (s : State) (setup : Setup) (k n : ℕ) → n ≡ k + 1 → pre (pre s setup [] k) setup [] 1 ≡ pre s setup [] n
-unfolding pre
-one-more s setup k zero e = absurd (omega arith)
-one-more s setup k (suc n) e =
-    let same : k ≡ n = omega arith in
-    ap (λ t. exec t setup) (after-none 0 (pre s setup [] k) ∙ ap (pre s setup []) same
-    ∙ sym (after-none n (pre s setup [] n)))
-
--- a machine is held before the next step
-pub held-more : (sc : Scenario) (old new : LoneSkips) (machine next : Machine)
-    → new.held.items ≡ old.held.items ++ machine ∷ [] → new.rows.items ≡ old.rows.items
-    → length old.rows.items ≡ 16 * length old.held.items
-    → ((s : State) → Shows machine s → Shows next s) → Follows sc old machine → Follows sc new next
-unfolding pre
-held-more sc old new machine next more rows long on follows i held there s shows =
-    let n : length new.rows.items ≡ length old.rows.items = ap length rows in
-    elim (get-push old.held.items machine held i (ap (λ ms. slice_get ms i) (sym more) ∙ there)) [
-      | inl before ↦
-          subst (λ k. Shows next (pre s sc.setup [] (k - 16 * i))) (sym n) (on _ (follows i held before s shows))
-      | inr last ↦
-          let none : length new.rows.items - 16 * i ≡ 0 = omega (arith, n, long, last.0) in
-          subst (λ k. Shows next (pre s sc.setup [] k)) (sym none)
-          (on s (subst (λ (m : Machine). Shows m s) (sym last.1) shows))
-    ]
-
-pub foreseen-held : (with_output : Bool) (sc : Scenario) (old new : LoneSkips) (machine : Machine)
-    → new.first ≡ old.first → new.held.items ≡ old.held.items ++ machine ∷ [] → new.rows.items ≡ old.rows.items
-    → length old.rows.items ≡ 16 * length old.held.items
-    → AreForeseen with_output sc old → AreForeseen with_output sc new
+-- a machine is held before the step that has no row yet
+pub foreseen-held : (with_output : Bool) (sc : Scenario) (skips : LoneSkips) (new : Landmarks)
+    → new.first ≡ skips.landmarks.first → HoldsAnother skips.landmarks new
+    → skips.landmarks.steps ≡ length skips.rows.items
+    → AreForeseen with_output sc skips → AreForeseen with_output sc (record skips { landmarks = new })
 unfolding AreForeseen
-foreseen-held with_output sc old new machine first more rows long foreseen i r held row there is later s shows =
-    let here = ap (λ xs. slice_get xs r) (sym rows) ∙ is in
-    elim (get-push old.held.items machine held i (ap (λ ms. slice_get ms i) (sym more) ∙ there)) [
+foreseen-held with_output sc skips new first another long foreseen i r held row there is later s shows =
+    elim (another i held there) [
       | inl before ↦
           subst (λ f. IsLone with_output sc (pre s sc.setup [] (r - 16 * i)) (sc.step + 1 - (f + r)) row) (sym first)
-          (foreseen i r held row before here later s shows)
+          (foreseen i r held row before is later s shows)
       | inr last ↦
-          let within = get-within old.rows.items r row here in
-          let place = last.0 in
-          absurd (omega (arith, within, place, long, later))
+          let within = get-within skips.rows.items r row is in
+          absurd (omega (arith, within, last, long, later))
     ]
+
+-- no other one is held
+pub foreseen-on : (with_output : Bool) (sc : Scenario) (skips : LoneSkips) (new : Landmarks)
+    → new.first ≡ skips.landmarks.first → new.machines ≡ skips.landmarks.machines
+    → AreForeseen with_output sc skips → AreForeseen with_output sc (record skips { landmarks = new })
+unfolding AreForeseen
+foreseen-on with_output sc skips new first same foreseen i r held row there is later s shows =
+    subst (λ f. IsLone with_output sc (pre s sc.setup [] (r - 16 * i)) (sc.step + 1 - (f + r)) row) (sym first)
+    (foreseen i r held row (same-held skips.landmarks new same i held there) is later s shows)
 
 -- a row is added
 pub foreseen-more : (with_output : Bool) (sc : Scenario) (old new : LoneSkips) (machine : Machine) (row : LoneSkip)
-    (steps : ℕ) → new.first ≡ old.first → new.held.items ≡ old.held.items → new.rows.items ≡ old.rows.items ++ row ∷ []
-    → steps ≡ sc.step + 1 - (old.first + length old.rows.items)
-    → ((s : State) → Shows machine s → IsLone with_output sc s steps row) → Follows sc old machine
+    (steps : ℕ) → new.landmarks ≡ old.landmarks → new.rows.items ≡ old.rows.items ++ row ∷ []
+    → steps ≡ sc.step + 1 - (old.landmarks.first + length old.rows.items)
+    → old.landmarks.steps ≡ length old.rows.items
+    → ((s : State) → Shows machine s → IsLone with_output sc s steps row) → Follows sc.setup old.landmarks machine
     → AreForeseen with_output sc old → AreForeseen with_output sc new
 unfolding AreForeseen
-foreseen-more with_output sc old new machine row steps first same more count lone follows foreseen i r held found there
+foreseen-more with_output sc old new machine row steps same more count long lone follows foreseen i r held found there
     is later s shows =
-    let before = ap (λ ms. slice_get ms i) (sym same) ∙ there in
-    let at = λ (f : ℕ). IsLone with_output sc (pre s sc.setup [] (r - 16 * i)) (sc.step + 1 - (f + r)) found in
-    subst at (sym first) (elim (get-push old.rows.items row found r (ap (λ xs. slice_get xs r) (sym more) ∙ is)) [
+    let before = subst (λ (l : Landmarks). IsHeld l i held) same there in
+    let at = λ (l : Landmarks). IsLone with_output sc (pre s sc.setup [] (r - 16 * i)) (sc.step + 1 - (l.first + r))
+    found in
+    subst at (sym same) (elim (get-push old.rows.items row found r (ap (λ xs. slice_get xs r) (sym more) ∙ is)) [
       | inl earlier ↦ foreseen i r held found before earlier later s shows
       | inr last ↦
           let size : length old.rows.items ≡ r = sym last.0 in
-          let there-now = subst (λ n. Shows machine (pre s sc.setup [] (n - 16 * i))) size
+          let there-now = subst (λ n. Shows machine (pre s sc.setup [] (n - 16 * i))) (long ∙ size)
           (follows i held before s shows) in
-          let number : steps ≡ sc.step + 1 - (old.first + r) = count ∙ ap (λ n. sc.step + 1 - (old.first + n)) size in
+          let number : steps ≡ sc.step + 1 - (old.landmarks.first + r) = count
+          ∙ ap (λ n. sc.step + 1 - (old.landmarks.first + n)) size in
           subst (λ n. IsLone with_output sc (pre s sc.setup [] (r - 16 * i)) n found) number
           (subst (IsLone with_output sc (pre s sc.setup [] (r - 16 * i)) steps) last.1 (lone _ there-now))
     ])
 
-pub spaced-held : (old new : LoneSkips) (machine : Machine) → new.held.items ≡ old.held.items ++ machine ∷ []
-    → new.rows.items ≡ old.rows.items → length old.rows.items ≡ 16 * length old.held.items
-    → AreSpaced old → AreSpaced new
-spaced-held old new machine more rows long spaced i held there =
-    let n : length new.rows.items ≡ length old.rows.items = ap length rows in
-    elim (get-push old.held.items machine held i (ap (λ ms. slice_get ms i) (sym more) ∙ there)) [
-      | inl before ↦ let low = spaced i held before in omega (arith, n, low)
-      | inr last ↦ let place = last.0 in omega (arith, n, long, place)
-    ]
-
-pub spaced-more : (old new : LoneSkips) → new.held.items ≡ old.held.items
-    → length new.rows.items ≡ length old.rows.items + 1 → AreSpaced old → AreSpaced new
-spaced-more old new same long spaced i held there =
-    let low = spaced i held (ap (λ ms. slice_get ms i) (sym same) ∙ there) in
-    omega (arith, long, low)
-
--- the machine goes on to the next step
-pub follows-on : (sc : Scenario) (old new : LoneSkips) (machine next : Machine) → new.held.items ≡ old.held.items
-    → length new.rows.items ≡ length old.rows.items + 1
-    → AreSpaced old → ((s : State) → Shows machine s → Shows next (pre s sc.setup [] 1))
-    → Follows sc old machine → Follows sc new next
-follows-on sc old new machine next same long within on follows i held there s shows =
-    let before = ap (λ ms. slice_get ms i) (sym same) ∙ there in
-    let low = within i held before in
-    let n : length new.rows.items - 16 * i ≡ length old.rows.items - 16 * i + 1 = omega (arith, long, low) in
-    subst (Shows next) (one-more s sc.setup (length old.rows.items - 16 * i) (length new.rows.items - 16 * i) n)
-    (on _ (follows i held before s shows))
-
 -- ---- the run of a first skip
-
--- without alterations from a step on, the run goes on from its state
-pub quiet-on : (start : State) (setup : Setup) (marks : List Alteration) (j t : ℕ) → NoneFrom j marks → j ≤ t
-    → pre (pre start setup marks j) setup [] (t - j) ≡ pre start setup marks t
-unfolding pre
-quiet-on start setup marks j t none from = elim (cases_lt j t) [
-  | inl less ↦
-      ap (λ s. pre s setup [] (t - j)) (sym (after-no_marks j marks (pre start setup marks j) (none j (omega arith))))
-      ∙ sym (made-until start setup marks j t (omega arith) (λ k low high. none k (omega arith)))
-  | inr same ↦
-      let e : t ≡ j = omega arith in
-      let zero-steps : t - j ≡ 0 = omega arith in
-      ap (pre (pre start setup marks j) setup []) zero-steps ∙ ap (pre start setup marks) (sym e)
-]
 
 -- what the rows say of it
 pub lone-there : (with_output : Bool) (now : Scenario) (skips : LoneSkips) (machine : Machine) (j end t : ℕ)
     (row : LoneSkip) → AreForeseen with_output now skips → Joins skips machine j end
     → Shows machine (state_before now j) → NoneFrom j now.marks → j ≤ t
-    → slice_get skips.rows.items (t + 1 - skips.first) ≡ Some row
+    → slice_get skips.rows.items (t + 1 - skips.landmarks.first) ≡ Some row
     → IsLone with_output now (state_before now t) (now.step - t) row
 unfolding AreForeseen
 lone-there with_output now skips machine j end t row foreseen joins shows none from is =
-    let later = joins.later in
-    let r = t + 1 - skips.first in
-    let place : 16 * joins.place ≤ r = omega (arith, later, from) in
-    let steps : r - 16 * joins.place ≡ t - j = omega (arith, later, from) in
-    let left : now.step + 1 - (skips.first + r) ≡ now.step - t = omega (arith, later, from) in
-    let found = foreseen joins.place r joins.held row joins.there is place (state_before now j)
-    (joins.shows (state_before now j) shows) in
+    let meets = joins.meets in
+    let later = meets.before in
+    let r = t + 1 - skips.landmarks.first in
+    let place : 16 * meets.place ≤ r = omega (arith, later, from) in
+    let steps : r - 16 * meets.place ≡ t - j = omega (arith, later, from) in
+    let left : now.step + 1 - (skips.landmarks.first + r) ≡ now.step - t = omega (arith, later, from) in
+    let found = foreseen meets.place r meets.held row meets.there is place (state_before now j)
+    (meets.shows (state_before now j) shows) in
     subst (λ s. IsLone with_output now s (now.step - t) row)
     (quiet-on (first_state now) now.setup now.marks j t none from)
     (subst (λ n. IsLone with_output now (pre (state_before now j) now.setup [] (t - j)) n row) left
     (subst (λ n. IsLone with_output now (pre (state_before now j) now.setup [] n)
-    (now.step + 1 - (skips.first + r)) row)
+    (now.step + 1 - (skips.landmarks.first + r)) row)
     steps found))
 
 -- ---- the end of a run with one more skip
-
-marks-more : (k : ℕ) (marks : List Alteration) (m : Alteration)
-    → marks_at k (marks ++ m ∷ []) ≡ marks_at k marks ++ cond (m.step == k) (m ∷ []) []
-marks-more k [] m = refl
-marks-more k (x ∷ xs) m = go (x.step == k) (marks-more k xs m)
-  where
-    go : (b : Bool) → marks_at k (xs ++ m ∷ []) ≡ marks_at k xs ++ cond (m.step == k) (m ∷ []) []
-        → cond b (x ∷ marks_at k (xs ++ m ∷ [])) (marks_at k (xs ++ m ∷ []))
-        ≡ cond b (x ∷ marks_at k xs) (marks_at k xs) ++ cond (m.step == k) (m ∷ []) []
-    go true rest = ap (λ ms. x ∷ ms) rest
-    go false rest = rest
 
 module _ (start : State) (setup : Setup) (marks : List Alteration) (t : ℕ) where
   abbrev skip-here : Alteration
@@ -285,15 +199,6 @@ lone-strikes now code t row below is =
     ∙ sym (ap (strikes code) is ∙ strikes-where (is_running core.status) (is_in_code code core.pc)
     (is_none (hook_at now.setup.hooks core.pc)) code core.pc refl)
 
--- the run of a first skip has no alteration after it
-pub quiet-after : (sc : Scenario) (step : ℕ) → sc.marks ≡ [] → NoneFrom (step + 1) (skipped sc step).marks
-quiet-after sc step unmarked k low =
-    let m : Alteration = record { step = step; act = Acts.Skip } in
-    let other : (step == k) ≡ false = grind (arith, nat_tests) in
-    marks-more k sc.marks m ∙ ap (λ b. marks_at k sc.marks ++ cond b (m ∷ []) []) other
-    ∙ append-nil (marks_at k sc.marks)
-    ∙ ap (marks_at k) unmarked
-
 -- nothing is foreseen without rows
 pub none-foreseen : (with_output : Bool) (sc : Scenario) (skips : LoneSkips) → skips.rows.items ≡ []
     → AreForeseen with_output sc skips
@@ -308,7 +213,7 @@ none-foreseen with_output sc skips none i r held row there is later s shows =
 pub lone-facts : (with_output : Bool) (sc now : Scenario) (step : ℕ) (skips : LoneSkips) (machine : Machine)
     (j end t : ℕ) (code : Option Range) (row : LoneSkip) → now ≡ skipped sc step → AreForeseen with_output sc skips
     → Joins skips machine j end → Shows machine (state_before now j) → NoneFrom j now.marks → j ≤ t → t < now.step
-    → slice_get skips.rows.items (t + 1 - skips.first) ≡ Some row
+    → slice_get skips.rows.items (t + 1 - skips.landmarks.first) ≡ Some row
     → (is_some (standing_step now code t) ≡ strikes code row.pc) × IsOutcome with_output now (Once t Skip) row.outcome
 unfolding AreForeseen
 lone-facts with_output sc now step skips machine j end t code row left foreseen joins shows none from below is =
@@ -317,17 +222,3 @@ lone-facts with_output sc now step skips machine j end t code row left foreseen 
       lone-strikes now code t row below lone.0,
       lone-outcome with_output now t row below (λ k low. none k (omega arith)) lone,
     )
-
--- and no machine is held
-pub none-spaced : (skips : LoneSkips) → skips.held.items ≡ [] → AreSpaced skips
-none-spaced skips none i held there = absurd (never i (ap (λ ms. slice_get ms i) (sym none) ∙ there))
-  where
-    never : (i : ℕ) → slice_get [] i ≡ Some held → ⊥
-    never i e = cc
-
-pub none-follow : (sc : Scenario) (skips : LoneSkips) (machine : Machine) → skips.held.items ≡ []
-    → Follows sc skips machine
-none-follow sc skips machine none i held there = absurd (never i (ap (λ ms. slice_get ms i) (sym none) ∙ there))
-  where
-    never : (i : ℕ) → slice_get [] i ≡ Some held → ⊥
-    never i e = cc

@@ -188,6 +188,7 @@ pub no-memory : (sc : Scenario) (plan : Plan) (standing : Standing)
 unfolding memory_at
 no-memory sc plan (At.Byte offset old) isnt = refl
 no-memory sc plan (At.Word addr old) isnt = refl
+no-memory sc plan (At.Half addr old) isnt = refl
 no-memory sc plan (At.Step step pc) isnt = absurd (isnt step pc refl)
 
 pub memory-off : (sc : Scenario) (plan : Plan) (standing : Standing) (step pc : ℕ) → standing ≡ At.Step step pc

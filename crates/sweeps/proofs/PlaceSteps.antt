@@ -10,7 +10,8 @@ use Rattle.scenario.specs.Scenario.{Scenario}
 use Rattle.sweep_plans.specs.Glitches.{flip_of, flips_at, glitches_at, register_flips, register_sets, skip_at, when}
 use Rattle.sweep_plans.specs.Glitches.{word_flips}
 use Rattle.sweep_plans.specs.Numbers.{below}
-use Rattle.sweep_plans.specs.Plans.{HasNext, byte_to, byte_values, changes_of, wanted_words, word_values}
+use Rattle.sweep_plans.specs.Plans.{HasNext, byte_to, byte_values, changes_of, half_to, wanted_halves, wanted_words}
+use Rattle.sweep_plans.specs.Plans.{word_values}
 use Rattle.sweep_plans.specs.declared.change.Change.{Change}
 use Rattle.sweep_plans.specs.declared.change.Change.TheVariants.{Word, Once}
 use Rattle.sweep_plans.specs.declared.change.Glitch.TheVariants.{Set, Skip}
@@ -111,6 +112,9 @@ all-at sc plan (At.Byte offset old) near none low =
     All-map (IsAt sc (At.Byte offset old)) (byte_to offset) (byte_values plan.byte_values old 256) (λ i d l. refl)
 all-at sc plan (At.Word addr old) near none low =
     All-map (IsAt sc (At.Word addr old)) (Word addr) (word_values old (wanted_words plan.word_values old))
+    (λ i d l. refl)
+all-at sc plan (At.Half addr old) near none low =
+    All-map (IsAt sc (At.Half addr old)) (half_to addr) (word_values old (wanted_halves plan.word_values old))
     (λ i d l. refl)
 all-at sc plan (At.Step step pc) near none low = all-glitches sc step pc near none low plan.models
 

@@ -1,6 +1,6 @@
 -- What is known of outcomes without a run.
-use Rattle.std.proofs.Common.{◌≡◌, ℕ, ◌+◌, ◌%◌, ◌^◌, ◌<◌, ◌≤◌, ◌==◌, ◌&&◌, not}
-use Rattle.std.proofs.Common.{Bool, true, false, cond, List, [], Option, Some}
+use Rattle.std.proofs.Common.{◌≡◌, ℕ, ◌+◌, ◌%◌, ◌^◌, ◌<◌, ◌==◌, ◌&&◌, not}
+use Rattle.std.proofs.Common.{Bool, true, false, cond, List, [], Option, Some, None}
 use Rattle.std.proofs.Common.{refl, ap, sym, subst, arith}
 use Rattle.std.specs.Prelude.{IfSome}
 use Rattle.guest_machine.specs.Exec.{is_running}
@@ -10,7 +10,6 @@ use Rattle.guest_machine.specs.declared.setup.Setup.{Setup}
 use Rattle.run_values.specs.declared.alteration.Alteration.{Alteration}
 use Rattle.step_uses.specs.Laws.{HasBytes, IsOf, RunsKeep, RunsKeepWords, RunsOverwrite, also}
 use Rattle.step_uses.specs.Words.{passing_word, touches_word}
-use Rattle.std.proofs.lemmas.Bool.Decides.{nat_tests}
 use Rattle.step_uses.specs.Passing.{passing}
 use Rattle.step_uses.specs.declared.passing.Passing.{Passing}
 use Rattle.step_uses.specs.declared.passing.Passing.TheVariants.{Keeps, Looks, Overwrites}
@@ -20,6 +19,7 @@ use Rattle.sweep_plans.specs.Changes.{act_of}
 use Rattle.sweep_plans.specs.declared.change.Change.TheVariants.{Once}
 use Rattle.sweep_plans.specs.declared.change.Glitch.{Glitch}
 use Rattle.sweep_plans.specs.declared.change.Glitch.TheVariants.{Skip, Flip, FlipPc, Set, Turn}
+use Rattle.sweeps.specs.Landmarks.{AreEnds}
 use Rattle.sweeps.specs.Outcomes.{IsOutcome}
 use Rattle.guest_machine.specs.Shows.{Shows}
 use Rattle.sweep_plans.specs.Changes.{IsRight}
@@ -28,6 +28,7 @@ use Rattle.sweep_plans.specs.declared.standing.Standing.TheVariants as At
 use Rattle.sweeps.specs.Recall.{AreKnown, IsGone, IsKept, Passes, Recalls, RegisterIs}
 use Rattle.sweeps.specs.Spots.{Continues, IsBefore}
 use Rattle.sweeps.specs.Standing.{IsAt, IsBelow, Stands, state_before}
+use Rattle.sweeps.specs.declared.endings.Ends.{Ends}
 use Rattle.sweeps.specs.declared.recall.Recall.{Recall}
 use Rattle.sweeps.proofs.LoneSteps.{none-foreseen}
 use Rattle.sweeps.proofs.MemorySteps.{fork-there}
@@ -156,14 +157,23 @@ before-there sc step pc spot is unmarked stands under goes =
           (fork-there step sc.step (run_of sc) spot.fork below fork) fork.shows;
     }
 
+-- its fork is there
+pub fork-at : (sc : Scenario) (step : ℕ) (spot : Spot) → IsBefore sc step spot → spot.fork.step ≡ step
+fork-at sc step spot before =
+    let standing = before.standing in
+    fork-there step sc.step (run_of sc) spot.fork before.below
+    (before.continues (Once step Skip) (subst (λ st. IsAt sc st (Once step Skip)) (sym standing.1) (refl, tt)))
+
 -- before the first place the outcome of the unedited run is recalled alone
 pub begun-recall : (with_output : Bool) (sc : Scenario) (recall : Recall) → IsOutlineOf with_output sc recall.unedited
-    → recall.here.items ≡ [] → recall.next.items ≡ [] → recall.lone.rows.items ≡ [] → Recalls with_output sc recall
-begun-recall with_output sc recall unedited here next lone = record {
+    → recall.here.items ≡ [] → recall.next.items ≡ [] → recall.lone.rows.items ≡ [] → recall.ends ≡ None
+    → Recalls with_output sc recall
+begun-recall with_output sc recall unedited here next lone ends = record {
   unedited = unedited;
   here = subst (AreKnown with_output sc recall.step) (sym here) (λ i d less. absurd (omega arith));
   next = λ runs. subst (AreKnown with_output sc (recall.step + 1)) (sym next) (λ i d less. absurd (omega arith));
   lone = none-foreseen with_output sc recall.lone lone;
+  ends = subst (λ (found : Option Ends). IfSome found (AreEnds with_output sc)) (sym ends) tt;
 }
 
 -- what is so of a value that was found

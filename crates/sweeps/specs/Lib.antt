@@ -3,6 +3,7 @@ pub mod Standing
 pub mod Spots
 pub mod Scouts
 pub mod Outcomes
+pub mod Landmarks
 pub mod LoneSkips
 pub mod Recall
 pub mod Tables

@@ -5,15 +5,14 @@ use Rattle.guest_elf.specs.Hooks.{hook_at}
 use Rattle.guest_elf.specs.declared.hook.Hook.{Hook}
 use Rattle.guest_machine.specs.Alterations.{altered}
 use Rattle.guest_machine.specs.Exec.{is_running}
-use Rattle.guest_machine.specs.Run.{marks_at, pre}
+use Rattle.guest_machine.specs.Run.{pre}
 use Rattle.guest_machine.specs.Shows.{Shows}
 use Rattle.guest_machine.specs.State.{Core, State}
 use Rattle.guest_machine.specs.declared.machine.Machine.{Machine}
 use Rattle.run_values.specs.declared.alteration.Act.TheVariants.{Skip}
-use Rattle.run_values.specs.declared.alteration.Alteration.{Alteration}
-use Rattle.replay_report.specs.Outlines.{IsOutline}
 use Rattle.scenario.specs.Scenario.{Scenario}
 use Rattle.sweep_plans.specs.declared.request.Range.{Range}
+use Rattle.sweeps.specs.Landmarks.{IsHeld, Meets, Outlines}
 use Rattle.sweeps.specs.Standing.{is_in_code}
 use Rattle.sweeps.specs.declared.lone_skips.LoneSkip.{LoneSkip}
 use Rattle.sweeps.specs.declared.lone_skips.LoneSkips.{LoneSkips}
@@ -31,10 +30,6 @@ abbrev pub strikes : Option Range → Option ℕ → Bool
 strikes code None = false
 strikes code (Some pc) = is_in_code code pc
 
--- a text is the outline of a state, as a scenario shows states
-abbrev pub Outlines : Bool → Scenario → State → List ℕ → Type 0
-Outlines with_output sc s text = IsOutline s sc.image sc.rules sc.options with_output text
-
 -- what a skip before a state leads to, after a number of steps
 abbrev pub IsLone : Bool → Scenario → State → ℕ → LoneSkip → Type 0
 IsLone with_output sc s steps row =
@@ -44,33 +39,14 @@ IsLone with_output sc s steps row =
 -- the rows are those of each state that a held machine shows and of those after it, at the step after the chosen one
 unfoldable pub AreForeseen : Bool → Scenario → LoneSkips → Type 0
 AreForeseen with_output sc skips =
-    (i r : ℕ) (held : Machine) (row : LoneSkip) → slice_get skips.held.items i ≡ Some held
+    (i r : ℕ) (held : Machine) (row : LoneSkip) → IsHeld skips.landmarks i held
     → slice_get skips.rows.items r ≡ Some row → 16 * i ≤ r → (s : State) → Shows held s
-    → IsLone with_output sc (pre s sc.setup [] (r - 16 * i)) (sc.step + 1 - (skips.first + r)) row
-
--- a machine shows what follows from each state of a held machine, after the steps that have rows
-abbrev pub Follows : Scenario → LoneSkips → Machine → Type 0
-Follows sc skips machine =
-    (i : ℕ) (held : Machine) → slice_get skips.held.items i ≡ Some held → (s : State) → Shows held s
-    → Shows machine (pre s sc.setup [] (length skips.rows.items - 16 * i))
-
--- no machine is held after the steps that have rows
-abbrev pub AreSpaced : LoneSkips → Type 0
-AreSpaced skips =
-    (i : ℕ) (held : Machine) → slice_get skips.held.items i ≡ Some held → 16 * i ≤ length skips.rows.items
+    → IsLone with_output sc (pre s sc.setup [] (r - 16 * i)) (sc.step + 1 - (skips.landmarks.first + r)) row
 
 -- a held machine shows each state of another, and is one step later; and there are rows up to a step
 pub record Joins (skips : LoneSkips) (machine : Machine) (step end : ℕ) : Type 0 where
-  pub place : ℕ
-  pub held : Machine
-  pub there : slice_get skips.held.items place ≡ Some held
-  pub later : skips.first + 16 * place ≡ step + 1
-  pub shows : (s : State) → Shows machine s → Shows held s
-  pub rows : end < skips.first + length skips.rows.items
-
--- nothing is altered from a step on
-abbrev pub NoneFrom : ℕ → List Alteration → Type 0
-NoneFrom from marks = (k : ℕ) → from ≤ k → marks_at k marks ≡ []
+  pub meets : Meets skips.landmarks machine (step + 1)
+  pub rows : end < skips.landmarks.first + length skips.rows.items
 
 -- what is found of a row: its outcome, if a fault strikes there in this code
 abbrev pub IsFound : Option Range → LoneSkip → Option (List ℕ) → Type 0

@@ -1,5 +1,5 @@
 -- Outcomes that are known without a run: those of glitches whose register or word the step before kept.
-use Rattle.std.specs.Prelude.{◌≡◌, ℕ, ◌+◌, ◌^◌, ◌<◌, ◌≤◌, Bool, true, List, []}
+use Rattle.std.specs.Prelude.{◌≡◌, ℕ, ◌+◌, ◌^◌, ◌<◌, ◌≤◌, Bool, true, IfSome, List, []}
 use Rattle.std.specs.List.{All}
 use Rattle.guest_machine.specs.Exec.{is_running, touched_of}
 use Rattle.guest_machine.specs.Shows.{Shows}
@@ -16,6 +16,7 @@ use Rattle.scenario.specs.Scenario.{Scenario, IsOutlineOf}
 use Rattle.sweep_plans.specs.declared.change.Change.TheVariants.{Once}
 use Rattle.sweep_plans.specs.declared.change.Glitch.{Glitch}
 use Rattle.sweep_plans.specs.declared.change.Glitch.TheVariants.{Flip, Set, Turn}
+use Rattle.sweeps.specs.Landmarks.{AreEnds}
 use Rattle.sweeps.specs.LoneSkips.{AreForeseen}
 use Rattle.sweeps.specs.Outcomes.{IsOutcome}
 use Rattle.sweeps.specs.Standing.{state_before}
@@ -53,14 +54,15 @@ Passes s setup glitch Looks = Unit {0}
 abbrev pub AreKnown : Bool → Scenario → ℕ → List Known → Type 0
 AreKnown with_output sc step = All (λ (known : Known). IsOutcome with_output sc (Once step known.glitch) known.outcome)
 
--- what is recalled is so: the outcome of the unedited run, those of glitches just before a step, and those of glitches
--- just before the next one, if the program still runs there
+-- what is recalled is so: the outcome of the unedited run, those of glitches just before a step, those of glitches just
+-- before the next one, if the program still runs there, those of skips, and those of runs that meet the unedited one
 pub record Recalls (with_output : Bool) (sc : Scenario) (recall : Recall) : Type 0 where
   pub unedited : IsOutlineOf with_output sc recall.unedited
   pub here : AreKnown with_output sc recall.step recall.here.items
   pub next : is_running (state_before sc (recall.step + 1)).core.status ≡ true
       → AreKnown with_output sc (recall.step + 1) recall.next.items
   pub lone : AreForeseen with_output sc recall.lone
+  pub ends : IfSome recall.ends (AreEnds with_output sc)
 
 -- with what is recalled, and what is known of a glitch's part in the step, this is the glitch's outcome just before the
 -- step

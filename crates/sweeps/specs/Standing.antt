@@ -4,7 +4,8 @@ use Rattle.std.specs.Prelude.{if◌then◌else◌, List, [], ◌++◌, length, s
 use Rattle.std.specs.Prelude.{unwrap_or}
 use Rattle.shadow_memory.specs.Ranges.{little_word, window}
 use Rattle.guest_elf.specs.Hooks.{hook_at}
-use Rattle.guest_elf.specs.Images.{is_word}
+use Rattle.guest_elf.specs.Images.{is_half_word, is_word, profile_of}
+use Rattle.guest_elf.specs.Profiles.{has_halves}
 use Rattle.guest_elf.specs.declared.hook.Hook.{Hook}
 use Rattle.guest_machine.specs.Exec.{is_running}
 use Rattle.guest_machine.specs.Run.{pre}
@@ -16,10 +17,11 @@ use Rattle.commands.specs.declared.edit.Edit.TheVariants.{Input}
 use Rattle.sweep_plans.specs.Changes.{IsRight, glitch_edit}
 use Rattle.sweep_plans.specs.Plans.{changes_of, place_at}
 use Rattle.sweep_plans.specs.declared.change.Change.{Change}
-use Rattle.sweep_plans.specs.declared.change.Change.TheVariants.{Byte, Word, Once, Twice}
+use Rattle.sweep_plans.specs.declared.change.Change.TheVariants.{Byte, Word, Half, Once, Twice}
 use Rattle.sweep_plans.specs.declared.change.Glitch.TheVariants.{Skip}
 use Rattle.sweep_plans.specs.declared.plan.Place.{Place}
-use Rattle.sweep_plans.specs.declared.plan.Place.TheVariants.{Byte as ByteAt, Word as WordAt, Step as StepAt, Nowhere}
+use Rattle.sweep_plans.specs.declared.plan.Place.TheVariants.{Byte as ByteAt, Word as WordAt, Half as HalfAt}
+use Rattle.sweep_plans.specs.declared.plan.Place.TheVariants.{Step as StepAt, Nowhere}
 use Rattle.sweep_plans.specs.declared.plan.Plan.{Plan}
 use Rattle.sweep_plans.specs.declared.request.Range.{Range}
 use Rattle.sweep_plans.specs.declared.standing.Standing.{Standing}
@@ -28,8 +30,8 @@ use Rattle.sweeps.specs.Memory.{memory_at}
 
 -- ---- what is at a place
 
--- the value at a byte of the input, and at a word of the program; nothing if there is no such byte, or no word that is
--- loaded whole
+-- the value at a byte of the input, at a word of the program, and at a half where instructions may have 16 bits; nothing
+-- if there is no such byte, or no word or half that is loaded whole
 unfoldable pub standing_byte : Scenario → ℕ → Option Standing
 standing_byte sc offset =
     if nat_lt offset (length sc.setup.input) then Some (At.Byte offset (slice_index_or sc.setup.input offset 0))
@@ -38,6 +40,12 @@ standing_byte sc offset =
 unfoldable pub standing_word : Scenario → ℕ → Option Standing
 standing_word sc addr =
     if is_word sc.image addr then Some (At.Word addr (little_word (window (first_state sc).bytes addr 4))) else None
+
+unfoldable pub standing_half : Scenario → ℕ → Option Standing
+standing_half sc addr =
+    if has_halves (profile_of sc.image).isa && is_half_word sc.image addr
+    then Some (At.Half addr (little_word (window (first_state sc).bytes addr 2)))
+    else None
 
 -- the state before a step of the run
 abbrev pub state_before : Scenario → ℕ → State
@@ -64,6 +72,7 @@ standing_step sc code step =
 abbrev pub standing_in : Scenario → Plan → Place → Option Standing
 standing_in sc plan (ByteAt offset) = standing_byte sc offset
 standing_in sc plan (WordAt addr) = standing_word sc addr
+standing_in sc plan (HalfAt addr) = standing_half sc addr
 standing_in sc plan (StepAt step) = standing_step sc plan.code step
 standing_in sc plan Nowhere = None
 
@@ -115,6 +124,7 @@ changes_from sc plan from (suc n) = changes_from sc plan from n ++ changes_at sc
 abbrev pub Stands : Scenario → Standing → Type 0
 Stands sc (At.Byte offset old) = standing_byte sc offset ≡ Some (At.Byte offset old)
 Stands sc (At.Word addr old) = standing_word sc addr ≡ Some (At.Word addr old)
+Stands sc (At.Half addr old) = standing_half sc addr ≡ Some (At.Half addr old)
 Stands sc (At.Step step pc) = (step ≤ most_steps) × (length sc.marks < most_marks)
 
 -- a second glitch may follow one at a step: at a step up to the chosen one, with room for its mark
@@ -128,6 +138,7 @@ pub record MayFollow (sc : Scenario) (step later : ℕ) : Type 0 where
 abbrev pub IsAt : Scenario → Standing → Change → Type 0
 IsAt sc (At.Byte offset old) (Byte at value) = at ≡ offset
 IsAt sc (At.Word addr old) (Word at value) = at ≡ addr
+IsAt sc (At.Half addr old) (Half at value) = at ≡ addr
 IsAt sc (At.Step step pc) (Once at glitch) = (at ≡ step) × IsRight glitch
 IsAt sc (At.Step step pc) (Twice at glitch later other) =
     (at ≡ step) × IsRight glitch × IsRight other × MayFollow sc step later
@@ -142,4 +153,5 @@ IsBelow last _ = Unit {0}
 abbrev pub GoesBack : Scenario → Standing → Type 0
 GoesBack sc (At.Byte offset old) = IsTaken sc (Input offset old)
 GoesBack sc (At.Word addr old) = Unit {0}
+GoesBack sc (At.Half addr old) = Unit {0}
 GoesBack sc (At.Step step pc) = (1 ≤ length sc.marks) × (length sc.marks ≤ most_marks)

@@ -1,13 +1,13 @@
 -- The table of a sweep: for each edit a row with the number of its outcome, and before the first row with a number the
 -- outcome itself.
-use Rattle.std.specs.Prelude.{ℕ, ◌+◌, Bool, if◌then◌else◌, List, [], ◌∷◌, ◌++◌, codes, length}
+use Rattle.std.specs.Prelude.{ℕ, ◌+◌, Bool, if◌then◌else◌, List, [], ◌∷◌, ◌++◌, codes, length, map}
 use Rattle.std.specs.Fmt.{decimal}
-use Rattle.report_lines.specs.Text.{address_text, newline}
+use Rattle.report_lines.specs.Text.{address_text, hex_digit, newline}
 use Rattle.tallies.specs.Tallied.{counts_of, is_met, number_of, with_text}
 use Rattle.tallies.specs.declared.Found.{Found}
 use Rattle.sweeps.specs.Outcomes.{Met, standing, steps_of, tallied}
 use Rattle.sweep_plans.specs.declared.change.Change.{Change}
-use Rattle.sweep_plans.specs.declared.change.Change.TheVariants.{Byte, Word, Once, Twice}
+use Rattle.sweep_plans.specs.declared.change.Change.TheVariants.{Byte, Word, Half, Once, Twice}
 use Rattle.sweep_plans.specs.declared.change.Glitch.{Glitch}
 use Rattle.sweep_plans.specs.declared.change.Glitch.TheVariants.{Skip, Flip, FlipPc, Set, Turn}
 
@@ -23,11 +23,16 @@ glitch_text step (Set r value) =
 glitch_text step (Turn addr mask) =
     codes "flip " ++ decimal step ++ codes " " ++ address_text addr ++ codes " " ++ address_text mask
 
--- a change, as the line of a session that applies it, `input OFFSET BYTE` or `patch ADDR WORD`; or as one or two lines
--- of a session whose run can be looked at
+-- an instruction of 16 bits: `0x` and four hexadecimal digits
+unfoldable pub half_text : ℕ → List ℕ
+half_text half = codes "0x" ++ map (hex_digit half) (3 ∷ 2 ∷ 1 ∷ 0 ∷ [])
+
+-- a change, as the line of a session that applies it, `input OFFSET BYTE`, `patch ADDR WORD` or `patch16 ADDR HALF`; or
+-- as one or two lines of a session whose run can be looked at
 unfoldable pub change_text : Change → List ℕ
 change_text (Byte offset byte) = codes "input " ++ decimal offset ++ codes " " ++ decimal byte
 change_text (Word addr word) = codes "patch " ++ address_text addr ++ codes " " ++ address_text word
+change_text (Half addr half) = codes "patch16 " ++ address_text addr ++ codes " " ++ half_text half
 change_text (Once step glitch) = glitch_text step glitch
 change_text (Twice step glitch later other) = glitch_text step glitch ++ codes "; " ++ glitch_text later other
 

@@ -26,10 +26,15 @@
 //! sweep recalls up to 2^20 outcomes of up to 4,096 bytes (`Recalls`), and makes a run only for what the step before looked at or
 //! overwrote.
 //!
+//! Not each run needs its end. That of a skip, or of a register that is altered, is compared with machines of the unedited run that are held
+//! before each sixteenth step. If they are the same, the outcome is that of the unedited run at the chosen step; of a skip, that of one step
+//! after it (`AreEnds`).
+//!
 //! # Where the definitions are
 //!
 //! In `specs/`: `Standing` (what is at a place, and the changes there), `Memory` (those of bytes that are read later), `Outcomes` (the
 //! outcome of a change), `Tables` (the text), `Spots` (where the runs of a place continue), `Recall` (which outcomes are known without a run),
+//! `Landmarks` (the unedited run's machines that are held, and the runs that meet it), `LoneSkips` (what each skip leads to by itself),
 //! `Sweeps` (what a sweep has met), `Accesses` (the table of what steps do first with each byte), `Laws` (what the numbers of a table mean).
 //! The places of a plan and the changes at each are defined in the crate `sweep_plans`.
 #![tactic(auto)]
@@ -37,6 +42,8 @@
 mod accesses;
 mod beginning;
 mod counting;
+mod endings;
+mod landmarks;
 pub mod laws;
 mod lone_skips;
 mod meeting;

@@ -1,14 +1,15 @@
 //! What each skip of a run leads to by itself. Most runs in which an instruction is left out soon show a state of the run in which none is,
 //! one step ahead of it, as a skip needs no step. From there a second skip leads to what the skip of the step after it leads to by itself.
-ghost use Rattle.std.specs.Prelude.{◌≡◌, ℕ, ◌+◌, ◌-◌, ◌*◌, ◌<◌, ◌≤◌, ◌∷◌, ◌++◌, [], Bool, IfOk, IfSome, IsTrue, OnOk, Some, length, slice_get};
+ghost use Rattle.std.specs.Prelude.{◌≡◌, ◌+◌, ◌-◌, ◌<◌, ◌≤◌, [], IfOk, IsTrue, OnOk, Some, length, slice_get};
 ghost use Rattle.guest_machine.specs.Run.{pre};
 ghost use Rattle.guest_machine.specs.Shows.{Shows};
 ghost use Rattle.guest_machine.specs.State.{State};
 ghost use Rattle.scenario.specs.Limits.{most_steps};
-ghost use Rattle.scenario.specs.Scenario.{Scenario as ScenarioOf};
-ghost use Rattle.sweeps.specs.LoneSkips.{IsFound, IsLone, Outlines, left_out, struck_pc, strikes};
+ghost use Rattle.sweeps.specs.Landmarks.{Outlines};
+ghost use Rattle.sweeps.specs.LoneSkips.{IsFound, IsLone, left_out, struck_pc, strikes};
 ghost use Rattle.sweeps.specs.declared.lone_skips.LoneSkip.{LoneSkip as LoneSkipOf};
 
+use crate::landmarks::Landmarks;
 use crate::recall::Outcome;
 use crate::spots::is_in_code;
 use checkpoints::Fork;
@@ -16,9 +17,6 @@ use guest_machine::{Act, Alteration, Machine, Meter, Setup, Status};
 use scenario::Scenario;
 use std::alloc::{AllocError, Global};
 use sweep_plans::Range;
-
-/// The number of steps from one held machine to the next.
-const SPACING: usize = 16;
 
 /// What leaving an instruction out leads to.
 #[derive(Drop)]
@@ -29,12 +27,11 @@ pub(crate) struct LoneSkip {
     pub(crate) outcome: Outcome,
 }
 
-/// Rows for steps of a run in a row, and machines of the run before each sixteenth of these steps.
+/// Machines of a run from a step on, and a row for each step from there.
 #[derive(Drop)]
 pub(crate) struct LoneSkips {
-    pub(crate) first: u32,
+    pub(crate) landmarks: Landmarks,
     pub(crate) rows: Vec<LoneSkip>,
-    pub(crate) held: Vec<Machine>,
 }
 
 /// Returns pc, if a fault may strike the next step of a machine in some code.
@@ -97,37 +94,20 @@ fn lone_skip(
 }
 
 impl LoneSkips {
-    ghost use Rattle.sweeps.specs.LoneSkips.{AreForeseen, AreSpaced, Follows, Joins};
+    ghost use Rattle.sweeps.specs.LoneSkips.{AreForeseen, Joins};
+    ghost use Rattle.sweeps.specs.Landmarks.{Follows};
 
     /// Returns a table without rows, from a step on.
     pub(crate) fn begin(alloc: Global, first: u32) -> LoneSkips
-        ensures first { result.first ≡ first }
+        ensures first { result.landmarks.first ≡ first }
+        ensures steps { result.landmarks.steps ≡ 0 }
         ensures rows { result.rows.items ≡ [] }
-        ensures held { result.held.items ≡ [] }
+        ensures machines { result.landmarks.machines.items ≡ [] }
     {
         LoneSkips {
-            first,
+            landmarks: Landmarks::begin(alloc, first),
             rows: Vec::new(alloc),
-            held: Vec::new(alloc),
         }
-    }
-
-    /// Holds the machine before the next step, if that is a sixteenth one. Returns the machine that continues its run.
-    fn hold(&mut self, machine: Machine) -> Result<Machine, AllocError>
-        ensures first { OnOk result (self.new.first ≡ self.old.first) }
-        ensures rows { OnOk result (self.new.rows.items ≡ self.old.rows.items) }
-        ensures foreseen { OnOk result ((with_output : Bool) (sc : ScenarioOf) → AreForeseen with_output sc self.old → AreForeseen with_output sc self.new) }
-        ensures follows { IfOk result (λ next. (sc : ScenarioOf) → Follows sc self.old machine → Follows sc self.new next) }
-        ensures spaced { OnOk result (AreSpaced self.old → AreSpaced self.new) }
-    {
-        let rows = self.rows.len();
-        if rows / SPACING != self.held.len() || rows % SPACING != 0 {
-            return Ok(machine);
-        }
-        let mut machine = machine;
-        let next = machine.hand_on()?;
-        self.held.push(machine)?;
-        Ok(next)
     }
 
     /// Adds the row of the machine before the next step.
@@ -139,11 +119,11 @@ impl LoneSkips {
         steps: u32,
         with_output: bool,
     ) -> Result<(), AllocError>
-        requires { steps ≡ scenario.now.step + 1 - (self.old.first + length self.old.rows.items) }
-        ensures first { OnOk result (self.new.first ≡ self.old.first) }
+        requires steps { steps ≡ scenario.now.step + 1 - (self.old.landmarks.first + length self.old.rows.items) }
+        requires rows { self.old.landmarks.steps ≡ length self.old.rows.items }
+        ensures landmarks { OnOk result (self.new.landmarks ≡ self.old.landmarks) }
         ensures rows { OnOk result (length self.new.rows.items ≡ length self.old.rows.items + 1) }
-        ensures held { OnOk result (self.new.held.items ≡ self.old.held.items) }
-        ensures foreseen { OnOk result (Follows scenario.now self.old machine.now → AreForeseen with_output scenario.now self.old
+        ensures foreseen { OnOk result (Follows scenario.now.setup self.old.landmarks machine.now → AreForeseen with_output scenario.now self.old
             → AreForeseen with_output scenario.now self.new) }
     {
         let row = lone_skip(alloc, scenario, machine, steps, with_output)?;
@@ -168,18 +148,18 @@ impl LoneSkips {
         let mut machine = before.share_ready()?;
         for step in first..end + 1 {
             let steps = scenario.step() - step + 1;
-            let held = skips.hold(machine)?;
+            let held = skips.landmarks.hold(machine)?;
             skips.add(alloc, scenario, &held, steps, with_output)?;
-            machine = held.run(scenario.setup(), 1, &mut Meter::new())?;
+            machine = skips.landmarks.run(held, scenario.setup(), 1)?;
         }
         Ok(skips)
     }
 
     /// Returns whether there are rows up to a step, with that step.
     fn has_row(&self, step: u32) -> bool
-        ensures { IsTrue result → step < self.now.first + length self.now.rows.items }
+        ensures { IsTrue result → step < self.now.landmarks.first + length self.now.rows.items }
     {
-        match step.checked_sub(self.first) {
+        match step.checked_sub(self.landmarks.first) {
             Some(row) => (row as usize) < self.rows.len(),
             None => false,
         }
@@ -187,21 +167,7 @@ impl LoneSkips {
 
     /// Returns whether there are rows for the steps from one on up to another, with that step.
     pub(crate) fn reaches(&self, step: u32, end: u32) -> bool {
-        self.first <= step && self.has_row(end)
-    }
-
-    /// Returns the place of the machine that is held before the step after this one, if there is one.
-    fn place_after(&self, step: u32) -> Option<usize>
-        ensures place { IfSome result (λ place. self.now.first + 16 * place ≡ step + 1) }
-        ensures within { IfSome result (λ place. place < length self.now.held.items) }
-    {
-        let row = step.checked_add(1)?.checked_sub(self.first)? as usize;
-        let place = row / SPACING;
-        if row % SPACING == 0 && place < self.held.len() {
-            Some(place)
-        } else {
-            None
-        }
+        self.landmarks.first <= step && self.has_row(end)
     }
 
     /// Returns whether each state that a fork before a step shows is one that a held machine shows before the next step, and there are rows
@@ -210,16 +176,13 @@ impl LoneSkips {
         ensures joins { IsTrue result → Joins self.now fork.now.machine step end }
         ensures step { IsTrue result → fork.now.step ≡ step }
     {
-        let Some(place) = self.place_after(step) else {
-            return false;
-        };
         if fork.step != step {
             return false;
         }
         if !self.has_row(end) {
             return false;
         }
-        fork.machine.is_same(&self.held[place])
+        self.landmarks.meets(&fork.machine, step, 1)
     }
 
     /// Returns the outcome of the skip of a step, if a fault may strike there in this code.
@@ -228,11 +191,11 @@ impl LoneSkips {
         step: u32,
         code: Option<Range>,
     ) -> Result<Option<Outcome>, AllocError>
-        requires first { self.now.first ≤ step }
-        requires rows { step < self.now.first + length self.now.rows.items }
-        ensures { IfOk result (λ found. (row : LoneSkipOf) → slice_get self.now.rows.items (step - self.now.first) ≡ Some row → IsFound code row found) }
+        requires first { self.now.landmarks.first ≤ step }
+        requires rows { step < self.now.landmarks.first + length self.now.rows.items }
+        ensures { IfOk result (λ found. (row : LoneSkipOf) → slice_get self.now.rows.items (step - self.now.landmarks.first) ≡ Some row → IsFound code row found) }
     {
-        let row = &self.rows[(step - self.first) as usize];
+        let row = &self.rows[(step - self.landmarks.first) as usize];
         if strikes(code, row.pc) {
             Ok(Some(row.outcome.clone()?))
         } else {

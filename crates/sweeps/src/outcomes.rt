@@ -63,6 +63,7 @@ fn take_back(scenario: &mut Scenario, standing: Standing)
             let _cannot_fail = scenario.edit(Edit::Input { offset, byte });
         }
         Standing::Word { .. } => scenario.drop_word(),
+        Standing::Half { .. } => scenario.drop_word(),
         Standing::Step { .. } => unmark(scenario),
     }
 }

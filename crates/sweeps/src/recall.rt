@@ -1,6 +1,6 @@
 //! Outcomes that are known without a run. A glitch of a register or a word of memory that a step keeps has the same outcome before the step
 //! and after it. One of a register that the step overwrites has the outcome of the unedited run.
-ghost use Rattle.std.specs.Prelude.{◌≡◌, ◌+◌, [], Bool, IfOk, IfSome, IsTrue, OnOk, length, true, ◌≤◌};
+ghost use Rattle.std.specs.Prelude.{◌≡◌, ◌+◌, [], Bool, IfOk, IfSome, IsTrue, None, OnOk, length, true, ◌≤◌};
 ghost use Rattle.guest_machine.specs.Exec.{is_running};
 ghost use Rattle.scenario.specs.Limits.{most_steps};
 ghost use Rattle.scenario.specs.Scenario.{Scenario as ScenarioOf};
@@ -8,6 +8,7 @@ ghost use Rattle.sweep_plans.specs.declared.change.Change.TheVariants.{Once};
 ghost use Rattle.sweeps.specs.Outcomes.{IsOutcome};
 ghost use Rattle.sweeps.specs.Standing.{state_before};
 
+use crate::endings::{Ends, is_long};
 use crate::lone_skips::LoneSkips;
 use checkpoints::Fork;
 use scenario::Scenario;
@@ -23,6 +24,9 @@ const LONGEST: usize = 4096;
 
 /// The greatest number of steps whose skips are recalled, so that their table takes little memory.
 const MOST_FORESEEN: u32 = 16384;
+
+/// The least number of changes at a step for which machines of the unedited run are held.
+const MANY: usize = 16;
 
 /// The most outcomes that are recalled at a step.
 const MOST: usize = 1 << 20;
@@ -95,6 +99,8 @@ pub(crate) struct Recall {
     pub(crate) next: Vec<Known>,
     /// Outcomes of skips one step after the chosen one.
     pub(crate) lone: LoneSkips,
+    /// Outcomes of runs that show a state of the unedited run again.
+    pub(crate) ends: Option<Ends>,
 }
 
 /// Returns whether two glitches are the same.
@@ -113,6 +119,7 @@ impl Recall {
         ensures here { result.here.items ≡ [] }
         ensures next { result.next.items ≡ [] }
         ensures lone { result.lone.rows.items ≡ [] }
+        ensures ends { result.ends ≡ None }
     {
         Recall {
             unedited,
@@ -121,6 +128,7 @@ impl Recall {
             passed: 0,
             next: Vec::new(alloc),
             lone: LoneSkips::begin(alloc, 0),
+            ends: None,
         }
     }
 
@@ -146,6 +154,38 @@ impl Recall {
             return Ok(());
         }
         self.lone = LoneSkips::along(alloc, scenario, &before.machine, step, end, with_output)?;
+        Ok(())
+    }
+
+    /// Returns whether machines of the unedited run are to be held from a step on, at which a number of changes are tried: not if they are,
+    /// if little of the run is left, or if the step seems to be the only one and has few changes.
+    fn wants_ends(&self, scenario: &Scenario, step: u32, count: usize) -> bool {
+        let is_held = match &self.ends {
+            Some(ends) => ends.reaches(step),
+            None => false,
+        };
+        let is_next = self.step.checked_add(1) == Some(step);
+        !is_held && is_long(scenario, step) && (is_next || count >= MANY)
+    }
+
+    /// Holds machines of the unedited run from a fork on, before which a number of changes are tried, if that pays.
+    pub(crate) fn hold_ends(
+        &mut self,
+        alloc: Global,
+        scenario: &Scenario,
+        before: &Fork,
+        count: usize,
+        with_output: bool,
+    ) -> Result<(), AllocError>
+        requires { before.now.step ≤ scenario.now.step }
+        ensures step { OnOk result (self.new.step ≡ self.old.step) }
+        ensures so { OnOk result (Recalls with_output scenario.now self.old → Recalls with_output scenario.now self.new) }
+    {
+        if !self.wants_ends(scenario, before.step, count) {
+            return Ok(());
+        }
+        let ends = Ends::along(alloc, scenario, before, with_output)?;
+        self.ends = Some(ends);
         Ok(())
     }
 

@@ -2,9 +2,9 @@
 ghost use Rattle.std.specs.Prelude.{◌≡◌, ◌++◌, [], OnOk, codes, if◌then◌else◌, length};
 ghost use Rattle.std.specs.Fmt.{decimal};
 ghost use Rattle.report_lines.specs.Text.{address_text};
-ghost use Rattle.sweeps.specs.Tables.{change_text, change_row, glitch_text, outcome_lines, first_lines, tally_line, tally_lines, end_line};
+ghost use Rattle.sweeps.specs.Tables.{change_text, change_row, glitch_text, half_text, outcome_lines, first_lines, tally_line, tally_lines, end_line};
 
-use replay_report::{push_address, push_number, push_text};
+use replay_report::{push_address, push_byte, push_number, push_text};
 use std::alloc::AllocError;
 use sweep_plans::{Change, Glitch};
 
@@ -57,6 +57,16 @@ fn push_glitch(out: &mut Vec<u8>, step: u32, glitch: Glitch) -> Result<(), Alloc
     }
 }
 
+/// Appends an instruction of 16 bits: `0x` and four hexadecimal digits.
+#[tactic(auto, unfolding(crate::specs::Tables::half_text))]
+fn push_half(out: &mut Vec<u8>, half: u16) -> Result<(), AllocError>
+    ensures { OnOk result (out.new.items ≡ out.old.items ++ half_text half) }
+{
+    push_text(out, b"0x")?;
+    push_byte(out, (half / 256) as u8)?;
+    push_byte(out, (half % 256) as u8)
+}
+
 /// Appends a change, as the line or the lines of a session that apply it.
 #[tactic(auto, unfolding(crate::specs::Tables::change_text), using(std::proofs::Common::append_assoc))]
 fn push_change(out: &mut Vec<u8>, change: Change) -> Result<(), AllocError>
@@ -74,6 +84,12 @@ fn push_change(out: &mut Vec<u8>, change: Change) -> Result<(), AllocError>
             push_address(out, addr)?;
             push_text(out, b" ")?;
             push_address(out, word)
+        }
+        Change::Half { addr, half } => {
+            push_text(out, b"patch16 ")?;
+            push_address(out, addr)?;
+            push_text(out, b" ")?;
+            push_half(out, half)
         }
         Change::Once { step, glitch } => push_glitch(out, step, glitch),
         Change::Twice {

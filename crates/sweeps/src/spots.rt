@@ -2,15 +2,17 @@
 ghost use Rattle.std.specs.Prelude.{◌≡◌, ◌≤◌, ◌<◌, ◌+◌, ◌^◌, ℕ, IfOk, MatchOption, None, Some, length, true};
 ghost use Rattle.checkpoints.specs.Edits.{IsRightForRun};
 ghost use Rattle.checkpoints.specs.Forks.{IsForkFor};
-ghost use Rattle.checkpoints.specs.Effects.{word_effect};
-ghost use Rattle.checkpoints.specs.Trails.{LoadsAs};
+ghost use Rattle.checkpoints.specs.Effects.{code_effect};
+ghost use Rattle.checkpoints.specs.Trails.{LoadsAs, loaded_of};
+ghost use Rattle.checkpoints.specs.Words.{IsCodeIn};
 ghost use Rattle.checkpoints.specs.declared.effect.Effect.TheVariants.{After, Input};
-ghost use Rattle.guest_elf.specs.Images.{is_word};
 ghost use Rattle.guest_machine.specs.Shows.{Shows};
+ghost use Rattle.instructions.specs.Codes.{len_of};
+ghost use Rattle.instructions.specs.declared.code.Code.{Code};
 ghost use Rattle.scenario.specs.Limits.{most_steps};
 ghost use Rattle.scenario.specs.Scenario.{first_state, run_of};
 ghost use Rattle.sweeps.specs.Spots.{Continues, IsFoundAt, IsScout};
-ghost use Rattle.sweeps.specs.Standing.{is_in_code, standing_byte, standing_in, standing_step, standing_word, state_before};
+ghost use Rattle.sweeps.specs.Standing.{is_in_code, standing_byte, standing_half, standing_in, standing_step, standing_word, state_before};
 
 use checkpoints::{Fork, Trail};
 use guest_machine::{Machine, Status};
@@ -56,6 +58,20 @@ fn standing_word(scenario: &Scenario, start: &Machine, addr: u32) -> Option<Stan
     Some(Standing::Word { addr, word })
 }
 
+/// Returns the value at an instruction of 16 bits, if there are some and it is loaded whole.
+#[tactic(auto, unfolding(crate::specs::Standing::standing_half))]
+fn standing_half(scenario: &Scenario, start: &Machine, addr: u32) -> Option<Standing>
+    requires { Shows start.now (first_state scenario.now) }
+    ensures { result ≡ standing_half scenario.now addr }
+{
+    let nothing = Edit::PatchHalf { addr, half: 0 };
+    if scenario.refusal(&nothing).is_some() {
+        return None;
+    }
+    let half = start.memory().load(addr, 2).value as u16;
+    Some(Standing::Half { addr, half })
+}
+
 /// Returns whether an address is in the code that was named.
 pub(crate) fn is_in_code(code: Option<Range>, pc: u32) -> bool
     ensures { result ≡ is_in_code code pc }
@@ -99,17 +115,28 @@ fn byte_fork(trail: &mut Trail, scenario: &Scenario, offset: u32) -> Result<Fork
     trail.fork_at_byte(offset, scenario.step(), scenario.setup(), scenario.marks())
 }
 
-/// Returns the machine from which each run continues that has another word at an address.
-fn word_fork(trail: &mut Trail, scenario: &Scenario, addr: u32) -> Result<Fork, AllocError>
+/// Returns the machine from which each run continues that has another code at an address, of a number of bytes, 2 or 4.
+fn code_fork(
+    trail: &mut Trail,
+    scenario: &Scenario,
+    addr: u32,
+    len: u32,
+) -> Result<Fork, AllocError>
     requires near { scenario.now.step ≤ most_steps }
     requires loads { LoadsAs trail.old scenario.now.image }
     requires right { IsRightForRun trail.old (run_of scenario.now) }
-    requires word { is_word scenario.now.image addr ≡ true }
-    ensures fork { IfOk result (λ fork. (word : ℕ) → IsForkFor (word_effect scenario.now.marks addr word) (run_of scenario.now) scenario.now.step fork) }
+    requires code { IsCodeIn (loaded_of trail.old) addr len }
+    ensures fork { IfOk result (λ fork. (code : Code) → len_of code ≡ len → IsForkFor (code_effect scenario.now.marks addr code) (run_of scenario.now) scenario.now.step fork) }
     ensures loads { LoadsAs trail.new scenario.now.image }
     ensures right { IsRightForRun trail.new (run_of scenario.now) }
 {
-    trail.fork_at_word(addr, scenario.step(), scenario.setup(), scenario.marks())
+    trail.fork_at_code(
+        addr,
+        len,
+        scenario.step(),
+        scenario.setup(),
+        scenario.marks(),
+    )
 }
 
 /// Returns the fork before a step, given one before that step or the step before it.
@@ -204,7 +231,29 @@ fn find_word(
     let Some(standing) = standing_word(scenario, start, addr) else {
         return Ok(None);
     };
-    let fork = word_fork(trail, scenario, addr)?;
+    let fork = code_fork(trail, scenario, addr, 4)?;
+    Ok(Some(Spot { standing, fork }))
+}
+
+/// Finds an instruction of 16 bits.
+fn find_half(
+    trail: &mut Trail,
+    scenario: &Scenario,
+    start: &Machine,
+    addr: u32,
+) -> Result<Option<Spot>, AllocError>
+    requires near { scenario.now.step ≤ most_steps }
+    requires starts { Shows start.now (first_state scenario.now) }
+    requires loads { LoadsAs trail.old scenario.now.image }
+    requires right { IsRightForRun trail.old (run_of scenario.now) }
+    ensures found { IfOk result (IsFoundAt scenario.now (standing_half scenario.now addr)) }
+    ensures loads { LoadsAs trail.new scenario.now.image }
+    ensures right { IsRightForRun trail.new (run_of scenario.now) }
+{
+    let Some(standing) = standing_half(scenario, start, addr) else {
+        return Ok(None);
+    };
+    let fork = code_fork(trail, scenario, addr, 2)?;
     Ok(Some(Spot { standing, fork }))
 }
 
@@ -272,6 +321,7 @@ pub(crate) fn find(
     match place {
         Place::Byte(offset) => find_byte(trail, scenario, origin.input, offset),
         Place::Word(addr) => find_word(trail, scenario, origin.start, addr),
+        Place::Half(addr) => find_half(trail, scenario, origin.start, addr),
         Place::Step(step) => find_step(trail, scenario, scout, plan.code, step),
         Place::Nowhere => Ok(None),
     }

@@ -16,6 +16,7 @@ ghost use Rattle.sweeps.specs.Standing.{IsAt, state_before};
 ghost use Rattle.sweeps.specs.Sweeps.{CountsMore};
 
 use crate::counting::Counts;
+use crate::endings::{is_long, often_meets, outcome_of_glitch};
 use crate::meeting::meet;
 use crate::outcomes::outcome_of;
 use crate::recall::{Outcome, Recall};
@@ -127,13 +128,27 @@ fn outcome_at(
     ensures outcome { IfOk result (λ outcome. Recalls with_output scenario.old recall.now
         → IsOutcome with_output scenario.old (Once struck.step struck.glitch) outcome) }
 {
-    if let Some(outcome) = recalled(recall, struck.glitch, passing)? {
+    let Struck { step, glitch, .. } = struck;
+    if let Some(outcome) = recalled(recall, glitch, passing)? {
         return Ok(outcome);
     }
-    let change = Change::Once {
-        step: struck.step,
-        glitch: struck.glitch,
-    };
+    if let Some(ends) = &recall.ends
+        && often_meets(glitch)
+        && is_long(scenario, step)
+    {
+        let fork = &spot.fork;
+        return outcome_of_glitch(
+            alloc,
+            scenario,
+            recall,
+            ends,
+            fork,
+            step,
+            glitch,
+            with_output,
+        );
+    }
+    let change = Change::Once { step, glitch };
     let text = outcome_of(scenario, &spot.fork, spot.standing, change, with_output)?;
     recall.outcome(alloc, text)
 }
@@ -262,6 +277,9 @@ pub(crate) fn meet_step(
     ensures same { scenario.new ≡ scenario.old }
     ensures met { OnOk result (CountsMore counts.old counts.new with_output scenario.old changes.now out.old.items out.new.items) }
 {
+    counts
+        .recall
+        .hold_ends(alloc, scenario, &spot.fork, changes.len(), with_output)?;
     counts.recall.arrive(step);
     meet_changes(
         alloc,

@@ -20,7 +20,7 @@ returns-clause-counted c =
             (subst (IsOutlineOf c.args.with_output c.args.scenario.now) (sym (c.begin-2.ensures.unedited
             ∙ c.in_ok-unedited.ensures ∙ c.in_ok-copy.ensures.items ∙ c.deref-2.ensures.value))
             c.in_ok-first.ensures.outcome) c.begin-2.ensures.here c.begin-2.ensures.next
-            c.begin-2.ensures.lone;
+            c.begin-2.ensures.lone c.begin-2.ensures.ends;
       },
       c.in_ok-push_first.ensures ∙ ap (λ text. c.args.out.now.items ++ text) (ap first_lines c.deref.ensures.value
           ∙ sym (append-nil (first_lines first))),

@@ -1,4 +1,4 @@
-use Rattle.sweeps.proofs.ChangeSteps.{put-back-byte, put-back-step, put-back-word}
+use Rattle.sweeps.proofs.ChangeSteps.{put-back-byte, put-back-half, put-back-step, put-back-word}
 use Rattle.sweeps.proofs.outcomes.take_back.Goals as goal
 
 pub returns-in-Byte : goal.returns-in-Byte
@@ -13,6 +13,11 @@ pub returns-in-Word : goal.returns-in-Word
 returns-in-Word c sc change stands at left =
     put-back-word sc c.args.scenario.now c.drop_word.new.self c.in-Word.addr c.in-Word.word c.args.standing change
     c.in-Word.is at left c.drop_word.ensures
+
+pub returns-in-Half : goal.returns-in-Half
+returns-in-Half c sc change stands at left =
+    put-back-half sc c.args.scenario.now c.drop_word-in-Half.new.self c.in-Half.addr c.in-Half.half c.args.standing
+    change c.in-Half.is at left c.drop_word-in-Half.ensures
 
 pub returns-in-Step : goal.returns-in-Step
 returns-in-Step c sc change stands at left =

@@ -8,10 +8,10 @@ use Rattle.scenario.specs.Limits.{most_marks, most_steps}
 use Rattle.scenario.specs.Scenario.{Scenario, run_of}
 use Rattle.sweep_plans.specs.Changes.{glitch_edit}
 use Rattle.sweep_plans.specs.declared.change.Glitch.TheVariants.{Skip}
-use Rattle.sweeps.specs.LoneSkips.{NoneFrom}
+use Rattle.sweeps.specs.Landmarks.{NoneFrom}
 use Rattle.sweeps.proofs.ChangeSteps.{glitch-taken}
 use Rattle.sweeps.proofs.ForkSteps.{fork-before}
-use Rattle.sweeps.proofs.LoneSteps.{quiet-after}
+use Rattle.sweeps.proofs.LandmarkSteps.{quiet-after}
 use Rattle.sweeps.proofs.pairs.meet_after.Goals as goal
 
 pub edit-requires-2 : goal.edit-requires-2
@@ -48,7 +48,7 @@ meet_until-met-requires-clause-quiet c =
     let after : c.edit-2.new.self ≡ (row sc (glitch_edit c.args.first.step Skip)).after = c.in_ok-edit.ensures.ok
     ∙ ap (λ e. (row sc e).after) c.edit.ensures in
     subst (λ (s : Scenario). NoneFrom (c.args.first.step + 1) s.marks) (sym after)
-    (quiet-after sc c.args.first.step c.requires.unmarked)
+    (quiet-after sc c.args.first.step Skip c.requires.unmarked)
 
 pub returns-clause-same : goal.returns-clause-same
 returns-clause-same c =

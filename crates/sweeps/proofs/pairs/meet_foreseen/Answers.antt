@@ -1,13 +1,12 @@
-use Rattle.std.proofs.Common.{◌≡◌, ℕ, ◌+◌, ◌-◌, ◌<◌, ◌≤◌, List, Some, length, is_some, ap, sym, ◌∙◌, subst, arith}
-use Rattle.std.specs.List.{slice_get}
+use Rattle.std.proofs.Common.{ℕ, ◌+◌, ◌-◌, ◌<◌, ◌≤◌, List, length, sym, ◌∙◌, subst, arith}
 use Rattle.std.proofs.lemmas.Result.{on_ok_weaker}
 use Rattle.scenario.specs.Scenario.{Scenario}
 use Rattle.sweep_plans.specs.declared.change.Change.{Change}
 use Rattle.sweep_plans.specs.declared.change.Change.TheVariants.{Once}
 use Rattle.sweep_plans.specs.declared.change.Glitch.TheVariants.{Skip}
-use Rattle.sweeps.specs.LoneSkips.{IsFound, NoneFrom}
+use Rattle.sweeps.specs.Landmarks.{NoneFrom}
+use Rattle.sweeps.specs.LoneSkips.{IsFound}
 use Rattle.sweeps.specs.Outcomes.{IsOutcome}
-use Rattle.sweeps.specs.Standing.{skipped}
 use Rattle.sweeps.specs.Sweeps.{CountsMore}
 use Rattle.sweeps.proofs.LoneSteps.{get-some, lone-facts}
 use Rattle.sweeps.proofs.PairSteps.{pair-absent, pair-there}
@@ -16,7 +15,7 @@ use Rattle.sweeps.proofs.pairs.meet_foreseen.Goals as goal
 
 pub outcome_at-requires-clause-first : goal.outcome_at-requires-clause-first
 outcome_at-requires-clause-first c =
-    let later = c.requires.joins.later in
+    let later = c.requires.joins.meets.before in
     let from = c.requires.from in
     omega (arith, later, from)
 
@@ -38,11 +37,11 @@ returns-in-Some-clause-met c =
     let lone = c.args.counts.now.recall.lone in
     let join = c.requires.joins in
     let later = c.args.later in
-    let at = join.later in
+    let at = join.meets.before in
     let from = c.requires.from in
-    let low : lone.first ≤ later + 1 = omega (arith, at, from) in
-    let got = get-some lone.rows.items (later + 1 - lone.first)
-    (inside later lone.first (length lone.rows.items) c.args.end c.requires.below join.rows low) in
+    let low : lone.landmarks.first ≤ later + 1 = omega (arith, at, from) in
+    let got = get-some lone.rows.items (later + 1 - lone.landmarks.first)
+    (inside later lone.landmarks.first (length lone.rows.items) c.args.end c.requires.below join.rows low) in
     let found = subst (IsFound first.code got.0) c.in-Some.is (c.in_ok-found.ensures got.0 got.1) in
     let past = c.requires.past in
     let none : NoneFrom fork.step now.marks = λ k high. c.requires.quiet k (omega (arith, high, past)) in
@@ -67,11 +66,11 @@ returns-in-None-clause-met c sc left takes start met h =
     let lone = c.args.counts.now.recall.lone in
     let join = c.requires.joins in
     let later = c.args.later in
-    let at = join.later in
+    let at = join.meets.before in
     let from = c.requires.from in
-    let low : lone.first ≤ later + 1 = omega (arith, at, from) in
-    let got = get-some lone.rows.items (later + 1 - lone.first)
-    (inside later lone.first (length lone.rows.items) c.args.end c.requires.below join.rows low) in
+    let low : lone.landmarks.first ≤ later + 1 = omega (arith, at, from) in
+    let got = get-some lone.rows.items (later + 1 - lone.landmarks.first)
+    (inside later lone.landmarks.first (length lone.rows.items) c.args.end c.requires.below join.rows low) in
     let found = subst (IsFound first.code got.0) c.in-None.is (c.in_ok-found.ensures got.0 got.1) in
     let past = c.requires.past in
     let none : NoneFrom fork.step now.marks = λ k high. c.requires.quiet k (omega (arith, high, past)) in

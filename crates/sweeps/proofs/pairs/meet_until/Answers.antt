@@ -1,4 +1,4 @@
-use Rattle.std.proofs.Common.{◌+◌, ◌-◌, ◌≤◌, ◌≡◌, List, sym, ◌∙◌, subst, arith, refl}
+use Rattle.std.proofs.Common.{◌+◌, ◌-◌, ◌≤◌, List, sym, ◌∙◌, subst, arith, refl}
 use Rattle.checkpoints.specs.Forks.{IsForkFor}
 use Rattle.checkpoints.specs.declared.effect.Effect.TheVariants.{After}
 use Rattle.scenario.specs.Scenario.{Scenario, run_of}
@@ -7,7 +7,8 @@ use Rattle.sweeps.specs.Standing.{pair_by, pairs_from, standing_step, state_befo
 use Rattle.sweeps.specs.Sweeps.{CountsMore}
 use Rattle.guest_machine.specs.Shows.{Shows}
 use Rattle.std.proofs.lemmas.Result.{on_ok_weaker}
-use Rattle.sweeps.specs.LoneSkips.{Joins, NoneFrom}
+use Rattle.sweeps.specs.Landmarks.{NoneFrom}
+use Rattle.sweeps.specs.LoneSkips.{Joins}
 use Rattle.sweeps.proofs.ForkSteps.{for-scout, fork-later}
 use Rattle.sweeps.proofs.PairSteps.{pairs-next, pairs-none}
 use Rattle.sweeps.proofs.Steps.{counts-join, counts-none}

@@ -1,7 +1,7 @@
 use Rattle.std.proofs.lemmas.Result.{IfOk-weaker}
 use Rattle.checkpoints.specs.declared.effect.Effect.TheVariants.{After}
 use Rattle.scenario.proofs.TrailFacts.{moved}
-use Rattle.sweeps.proofs.ForkSteps.{fork-for}
+use Rattle.sweeps.proofs.ForkSteps.{fork-for, still-loads}
 use Rattle.sweeps.proofs.spots.trail_fork.Goals as goal
 
 pub returns-clause-fork : goal.returns-clause-fork
@@ -15,3 +15,7 @@ pub returns-clause-right : goal.returns-clause-right
 returns-clause-right c =
     moved c.args.scenario.now c.setup.result.now c.marks.result.now c.args.trail.now c.fork_at_step.new.self
     c.setup.ensures c.marks.ensures c.fork_at_step.ensures.right c.requires.right
+
+pub returns-clause-loads : goal.returns-clause-loads
+returns-clause-loads c =
+    still-loads c.args.trail.now c.fork_at_step.new.self c.args.scenario.now.image c.fork_at_step.ensures.loaded c.requires.loads

@@ -1,6 +1,7 @@
 use Rattle.std.proofs.Common.{◌<◌, sym, subst}
 use Rattle.std.proofs.lemmas.Result.{IfOk-weaker}
 use Rattle.sweep_plans.specs.declared.change.Change.TheVariants.{Once}
+use Rattle.sweeps.specs.Landmarks.{AreEnds}
 use Rattle.sweeps.specs.Outcomes.{IsOutcome}
 use Rattle.sweeps.specs.Recall.{IsRecalled, Passes}
 use Rattle.sweeps.specs.Standing.{state_before}
@@ -22,9 +23,7 @@ returns-in-Some-clause-outcome c h =
 
 pub returns-clause-outcome : goal.returns-clause-outcome
 returns-clause-outcome c =
-    let sc = c.args.scenario.now in
-    let wo = c.args.with_output in
-    let change = Once c.args.struck.step c.args.struck.glitch in
-    IfOk-weaker c.outcome.result _ _
-    (λ outcome is h. subst (IsOutcome wo sc change) (sym is) c.in_ok-text.ensures.outcome)
-    c.outcome.ensures
+    let known = AreEnds c.args.with_output c.args.scenario.now in
+    IfOk-weaker c.outcome_of_glitch.result _ _
+    (λ outcome told h. told (of-found known c.args.recall.now.ends c.in-Some-ends.ends c.in-Some-ends.is h.ends))
+    c.outcome_of_glitch.ensures.outcome

@@ -7,4 +7,5 @@ returns-clause-so c with_output sc runs h = record {
   here = search rules;
   next = search rules;
   lone = search rules;
+  ends = search rules;
 }

@@ -7,4 +7,5 @@ returns-then-is_next-clause-so c with_output sc h = record {
   here = search rules;
   next = search rules;
   lone = search rules;
+  ends = search rules;
 }

@@ -1,5 +1,11 @@
-use Rattle.std.proofs.Common.{ap, sym, ◌∙◌, subst, List, refl}
+use Rattle.std.proofs.Common.{◌≡◌, ◌≤◌, ap, sym, ◌∙◌, subst, List, [], refl}
+use Rattle.checkpoints.specs.Edits.{IsRightForRun}
+use Rattle.checkpoints.specs.Trails.{LoadsAs}
+use Rattle.guest_machine.specs.Shows.{Shows}
+use Rattle.scenario.specs.Limits.{most_steps}
+use Rattle.scenario.specs.Scenario.{Scenario, first_state, run_of}
 use Rattle.sweep_plans.specs.declared.change.Change.{Change}
+use Rattle.sweeps.specs.Spots.{IsScout}
 use Rattle.sweeps.specs.Standing.{all_changes, standing_in}
 use Rattle.sweeps.specs.Sweeps.{CountsMore, HasMet, scenario_of, tells_output}
 use Rattle.sweeps.proofs.ChangeSteps.{found-none, found-some, stands-there}
@@ -54,3 +60,31 @@ returns-clause-met c =
     c.args.out.now.items c.meet_place.new.out.items c.meet_place.ensures.same
     (subst (λ (xs : List Change). CountsMore self.counts c.meet_place.new.counts self.with_output self.scenario xs
     c.args.out.now.items c.meet_place.new.out.items) (sym all) c.in_ok-meet_place.ensures.met)
+
+pub invariant_of-self-in-Break-branch-2 : goal.invariant_of-self-in-Break-branch-2
+invariant_of-self-in-Break-branch-2 c =
+    let self = c.args.self.now in
+    let same = sym c.meet_place.ensures.same in
+    record {
+      loads = subst (λ (s : Scenario). LoadsAs c.find.new.trail s.image) same c.find.ensures.loads;
+      right = subst (λ (s : Scenario). IsRightForRun c.find.new.trail (run_of s)) same c.find.ensures.right;
+      near = subst (λ (s : Scenario). s.step ≤ most_steps) same self.near;
+      unmarked = subst (λ (s : Scenario). s.marks ≡ []) same self.unmarked;
+      scouted = subst (λ (s : Scenario). IsScout s c.find.new.scout) same c.find.ensures.scout;
+      starts = subst (λ (s : Scenario). Shows self.start (first_state s)) same self.starts;
+      copied = subst (λ (s : Scenario). self.input.items ≡ s.setup.input) same self.copied;
+    }
+
+pub invariant_of-self-2 : goal.invariant_of-self-2
+invariant_of-self-2 c =
+    let self = c.args.self.now in
+    let same = sym c.meet_place.ensures.same in
+    record {
+      loads = subst (λ (s : Scenario). LoadsAs c.find.new.trail s.image) same c.find.ensures.loads;
+      right = subst (λ (s : Scenario). IsRightForRun c.find.new.trail (run_of s)) same c.find.ensures.right;
+      near = subst (λ (s : Scenario). s.step ≤ most_steps) same self.near;
+      unmarked = subst (λ (s : Scenario). s.marks ≡ []) same self.unmarked;
+      scouted = c.keep_scout.ensures;
+      starts = subst (λ (s : Scenario). Shows self.start (first_state s)) same self.starts;
+      copied = subst (λ (s : Scenario). self.input.items ≡ s.setup.input) same self.copied;
+    }
