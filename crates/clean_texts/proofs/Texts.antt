@@ -138,7 +138,8 @@ unfolding start_state
 begins image = record { core = refl; events = refl }
 
 -- words that are written change only bytes
-words-begin : (image : Image) (s : State) (words : List Written) → IsStartOf image s → IsStartOf image (with_words s words)
+words-begin : (image : Image) (s : State) (words : List Written) → IsStartOf image s
+    → IsStartOf image (with_words s words)
 unfolding poked
 words-begin image s [] h = h
 words-begin image s (w ∷ words) h =

@@ -82,6 +82,7 @@ Lines, with one space between fields; a number is decimal, or hexadecimal after 
   input append BYTE        appends a byte to the input
   input cut                removes the last byte of the input
   patch ADDR WORD          replaces a loaded word, the lowest byte first
+  patch16 ADDR HALF        with --isa rv32imc: replaces two loaded bytes in the same way
   mark STEP ADDR LEN KIND  makes a range defined, undefined or noaccess just before a step
   unmark I                 removes mark I, counted from 0; later ones move down
   supp on I, supp off I    switches suppression I, counted from 0
@@ -98,7 +99,7 @@ the count of lines:
   1   out of memory
   2   no command, or a field that is missing, too many, empty or of the wrong form
   3   no such byte of the input
-  4   no word of the loaded program
+  4   no word, or no half, of the loaded program
   5   a step above 4194304
   6   a mark of 0 or of more than 1048576 bytes, or one that ends above 2^32
   7   no such mark
@@ -165,13 +166,13 @@ pub(crate) const AFTER_SWEEP: &str = with_refusals!(
     "\
 With none of --bytes, --words and --at, all bytes of the input are edited; `--input -` is standard
 input. Numbers are decimal, or hexadecimal after 0x. The places are the bytes, then the words, each
-at a multiple of 4, then the steps; a table has one part of them. Bytes and words get these values,
-except their own:
+at a multiple of 4, or with --isa rv32imc the instructions of 16 and 32 bits, then the steps; a table
+has one part of them. Bytes and words get these values, except their own:
   all      each other byte
   flips    each value that differs in one bit
   edges    0, 1, 0x7f, 0x80, 0xff, its own plus 1 and minus 1
-  skip     the instruction that does nothing, 0x00000013
-  N,N,..   these numbers, each at most once
+  skip     the instruction that does nothing: 0x00000013, or of 16 bits 0x0001
+  N,N,..   these numbers, each at most once; an instruction of 16 bits gets none of them
 
 At each step that the unedited run executes, one fault is tried at a time, of each model in the list:
   skip       the instruction is left out
@@ -191,7 +192,7 @@ The table, which `replaycheck explore` reads:
                             state, each error and each shown leak with its trace
   unedited 0                the run with no edit
   input OFFSET BYTE K       an edit, as a line of a session makes it, and its outcome
-  patch ADDR WORD K
+  patch ADDR WORD K, patch16 ADDR HALF K
   skip STEP K               a fault, as `replaycheck look` makes it: also flip STEP xR MASK, flip STEP
                             pc MASK, flip STEP ADDR MASK, set STEP xR VALUE; two lines with `; `
   tally K COUNT             how many edits have an outcome
@@ -199,7 +200,7 @@ The table, which `replaycheck explore` reads:
 
 Three more refusals:
   `replaycheck: bytes refused 3`: a range that isn't inside the input, or an input of no bytes
-  `replaycheck: words refused 4`: no word of the range is loaded
+  `replaycheck: words refused 4`: no word, or no instruction, of the range is loaded
   `replaycheck: steps refused 5`: a range that isn't below --step
 
 Example, each other value of the first four bytes:

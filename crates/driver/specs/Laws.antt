@@ -13,7 +13,7 @@ use Rattle.sweep_plans.specs.declared.change.Change.TheVariants.{Byte, Word, Hal
 use Rattle.sweep_plans.specs.declared.change.Glitch.{Glitch}
 use Rattle.sweep_plans.specs.declared.change.Glitch.TheVariants.{Skip, Flip, FlipPc, Set, Turn as TurnBits}
 
--- a change of a byte, a word or a half, whose numbers fit their types; what faults do at a step are no lines of a session
+-- a change of a byte, a word or a half, whose numbers fit their types; faults at a step are no lines of a session
 abbrev pub IsSmall : Change → Type 0
 IsSmall (Byte offset byte) = (offset < 2 ^ 32) × (byte < 256)
 IsSmall (Word addr word) = (addr < 2 ^ 32) × (word < 2 ^ 32)
@@ -33,7 +33,8 @@ abbrev pub Makes : Turn → List ℕ → Change → Type 0
 Makes turn line change =
     IsAcceptedAs turn line change × ((applied turn line).scenario ≡ (row turn.scenario (edit_of change)).after)
 
--- while lines are answered, the line of a row on a byte, a word or a half applies the row's change, if its edit isn't rejected
+-- while lines are answered, the line of a row on a byte, a word or a half applies the row's change, if its edit
+-- isn't rejected
 abbrev pub RowsAreLines : Type 0
 RowsAreLines =
     (turn : Turn) (change : Change) → turn.lines < most_lines → IsSmall change → IsTaken turn.scenario (edit_of change)

@@ -1,6 +1,7 @@
 -- A trail of a scenario's run: the codes that an edit writes are among its ranges, and asking it for a machine leaves
 -- it right.
-use Rattle.std.proofs.Common.{◌≡◌, ℕ, ◌+◌, ◌≤◌, ◌<◌, Bool, true, List, ap, sym, ◌∙◌, arith, inl, inr, nat_le, refl, zero, suc}
+use Rattle.std.proofs.Common.{◌≡◌, ℕ, ◌+◌, ◌≤◌, ◌<◌, Bool, true, List, ap, sym, ◌∙◌, arith, inl, inr, nat_le}
+use Rattle.std.proofs.Common.{refl, zero, suc}
 use Rattle.std.proofs.Math.Path.{transport}
 use Rattle.std.specs.Prelude.{◌^◌, ◌%◌, ◌&&◌, is_some}
 use Rattle.std.proofs.lemmas.Bool.Decides.{nat_tests}

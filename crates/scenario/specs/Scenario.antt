@@ -13,8 +13,8 @@ use Rattle.checkpoints.specs.Effects.{Run}
 use Rattle.scenario.specs.Setups.{setup_with}
 use Rattle.scenario.specs.declared.written.Written.{Written}
 
--- a program with the words and halves that were written into it, its input and heap settings, the marks, the suppressions with
--- their switches, the options of the report and the chosen step
+-- a program with the words and halves that were written into it, its input and heap settings, the marks, the
+-- suppressions with their switches, the options of the report and the chosen step
 pub record Scenario : Type 0 where
   pub image : Image
   pub words : List Written

@@ -149,7 +149,8 @@ word-stays law setup addr s aligned near fits none =
 
     stepped : exec s setup ≡ poked (exec s setup) addr (Word word)
     stepped =
-        ap (λ t. exec t setup) (sym (same-poked s addr aligned near fits)) ∙ (law setup addr (Word word) s (none word)).1
+        ap (λ t. exec t setup) (sym (same-poked s addr aligned near fits))
+        ∙ (law setup addr (Word word) s (none word)).1
 
     each : (i : ℕ) → i < 4 → window s.bytes addr 4 i ≡ window (exec s setup).bytes addr 4 i
     each i less =

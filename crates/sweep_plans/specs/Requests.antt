@@ -12,7 +12,8 @@ use Rattle.sweep_plans.specs.declared.plan.ByteValues.{ByteValues}
 use Rattle.sweep_plans.specs.declared.plan.ByteValues.TheVariants.{All, Flips as FlippedBytes, Edges}
 use Rattle.sweep_plans.specs.declared.plan.ByteValues.TheVariants.{Listed as ListedBytes}
 use Rattle.sweep_plans.specs.declared.plan.WordValues.{WordValues}
-use Rattle.sweep_plans.specs.declared.plan.WordValues.TheVariants.{Flips as FlippedWords, Skip as NoOps, Listed as ListedWords}
+use Rattle.sweep_plans.specs.declared.plan.WordValues.TheVariants.{Flips as FlippedWords, Skip as NoOps}
+use Rattle.sweep_plans.specs.declared.plan.WordValues.TheVariants.{Listed as ListedWords}
 use Rattle.sweep_plans.specs.declared.request.Range.{Range}
 use Rattle.sweep_plans.specs.declared.request.Part.{Part}
 

@@ -1,8 +1,8 @@
 -- A change at a place is no rejected edit, and what takes it back leaves the scenario as it was.
 use Rattle.std.proofs.Common.{◌≡◌, ℕ, zero, suc, ◌+◌, ◌-◌, ◌<◌, ◌≤◌, ◌&&◌, nat_lt, nat_le, Bool, true, false, not}
 use Rattle.std.proofs.Common.{if◌then◌else◌, length, take, remove, List, [], ◌∷◌, ◌++◌, Option}
-use Rattle.std.proofs.Common.{Some, None, is_some, unwrap_or, Result, Ok, Err, OnOk, OnErr, refl, ap, sym, ◌∙◌, subst, arith}
-use Rattle.std.proofs.Common.{slice_set, slice_index_or}
+use Rattle.std.proofs.Common.{Some, None, is_some, unwrap_or, Result, Ok, Err, OnOk, OnErr, refl, ap}
+use Rattle.std.proofs.Common.{sym, ◌∙◌, subst, arith, slice_set, slice_index_or}
 use Rattle.std.proofs.lemmas.Bool.{false≢true}
 use Rattle.std.proofs.lemmas.Bool.Decides.{nat_tests}
 use Rattle.std.proofs.lemmas.List.{length-append, length-set}

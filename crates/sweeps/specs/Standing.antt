@@ -30,8 +30,8 @@ use Rattle.sweeps.specs.Memory.{memory_at}
 
 -- ---- what is at a place
 
--- the value at a byte of the input, at a word of the program, and at a half where instructions may have 16 bits; nothing
--- if there is no such byte, or no word or half that is loaded whole
+-- the value at a byte of the input, at a word of the program, and at a half where instructions may have 16 bits;
+-- nothing if there is no such byte, or no word or half that is loaded whole
 unfoldable pub standing_byte : Scenario → ℕ → Option Standing
 standing_byte sc offset =
     if nat_lt offset (length sc.setup.input) then Some (At.Byte offset (slice_index_or sc.setup.input offset 0))

@@ -18,4 +18,5 @@ returns-clause-right c =
 
 pub returns-clause-loads : goal.returns-clause-loads
 returns-clause-loads c =
-    still-loads c.args.trail.now c.fork_at_byte.new.self c.args.scenario.now.image c.fork_at_byte.ensures.loaded c.requires.loads
+    still-loads c.args.trail.now c.fork_at_byte.new.self c.args.scenario.now.image c.fork_at_byte.ensures.loaded
+    c.requires.loads

@@ -12,9 +12,8 @@ loop-i-preserved c =
     record {
       bytes =
           c.in_ok-poke.ensures.bytes
-          ∙ byte-more (bytes_in c.args.self.now) (bytes_in c.loop-i.self) c.args.addr c.loop-i.i (byte_of c.args.number) _
-          small few c.loop-i.invariant.bytes
-          c.byte_at.ensures;
+          ∙ byte-more (bytes_in c.args.self.now) (bytes_in c.loop-i.self) c.args.addr c.loop-i.i
+          (byte_of c.args.number) _ small few c.loop-i.invariant.bytes c.byte_at.ensures;
       shadows = c.in_ok-poke.ensures.shadows ∙ c.loop-i.invariant.shadows;
     }
 
