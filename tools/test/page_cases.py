@@ -4,8 +4,8 @@ import random
 import subprocess
 import tempfile
 
-import page_modules
 from page_bench import EXAMPLES, SWEPT, expect, same, words_of
+import page_modules
 from replaycheck.guest_files import DATA, TOP, Worked
 
 STATION = words_of("station")

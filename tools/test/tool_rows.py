@@ -162,7 +162,7 @@ def compare_rows():
     yield Row("compare: a refused line", [*compare, "option color 1"], 2, "",
               "replaycheck compare: option color 1: refused 9: no such option, or its value is out of range\n")
     yield Row("compare: a half for rv32im", [*compare, "patch16 0x10000 1"], 2, "",
-              "replaycheck compare: patch16 0x10000 1: refused 2: no such line, or *")
+              "*compare: patch16 0x10000 1: refused 2: no such line, or a field that is missing*")
     yield Row("compare: two lines in one word", [*compare, "input 0 8\ninput 0 3"], 2, "", "*two lines in one argument*")
     yield Row("compare: no edit", [*compare, "report"], 2, "", "*not an edit: 'report'*")
     yield Row("compare: a script with another line", [*compare, "--after", "not edits"], 2, "",
