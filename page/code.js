@@ -118,7 +118,8 @@ export class Code {
     if (this.writing === address) return [this.field(address, length)];
     const skip = () => this.edit(this.scenario.withPatch(address, NOTHING[length], length));
     const what = length === HALF ? 'half' : 'word';
-    const first = isPatched ? button('first', 'put back', `put back the ${what} at`, () => this.edit(this.scenario.withoutPatches(address, length)))
+    const putBack = () => this.edit(this.scenario.withoutPatches(address, length));
+    const first = isPatched ? button('first', 'put back', `put back the ${what} at`, putBack)
       : button('first', 'skip', 'skip the instruction at', skip);
     const all = [first, ' ', button('word', `${what}…`, `another ${what} at`, () => this.write(address))];
     if (address !== this.pc) return all;
@@ -152,7 +153,7 @@ export class Code {
     return made;
   }
 
-  // Sets the instruction at an address, which has so many bytes, to that of a text, of either length.
+  // Sets the instruction of this length at an address to that of a text, of either length.
   set(address, length, text) {
     const value = numberOf(text);
     if (value === null) {

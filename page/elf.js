@@ -102,7 +102,7 @@ export class Elf {
     });
   }
 
-  // Where so many loaded bytes stand in the file, -1 where they aren't in it as a whole.
+  // Where loaded bytes from an address on stand in the file, -1 if they aren't in it as a whole.
   offsetOf(address, length = 4) {
     const it = this.segmentAt(address);
     return it && address + length - it.address <= it.inFile ? it.offset + address - it.address : -1;

@@ -36,8 +36,8 @@ export class Legend {
       this.hidden[box.checked ? 'delete' : 'add'](number);
       this.changed();
     });
-    const button = number && first
-      ? element('button', { onclick: () => this.make(asked.kind, ...first) }, editLine(asked.kind, ...first, lengthAt(asked, first[0]))) : '';
+    const line = () => editLine(asked.kind, ...first, lengthAt(asked, first[0]));
+    const button = number && first ? element('button', { onclick: () => this.make(asked.kind, ...first) }, line()) : '';
     if (button) button.dataset.held = `first ${number}`;
     const cell = (className, ...children) => element('td', { role: 'cell', className }, ...children);
     return element('tr', { role: 'row' }, cell('shows', element('label', {}, box, swatch)), cell('number', grouped(tallies[number])),

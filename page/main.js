@@ -51,7 +51,8 @@ class App {
     this.steps = new Steps({ go: (step) => this.go(step), most: LAST_STEP });
     this.edits = new Edits({ edit, clear: () => this.edit(this.opened.plain), use: (text) => this.use(text), refuse,
       tell: (text) => this.notice(text, 'good'),
-      link: async () => new URL(await this.opening.link(this.lines), location.href).href, text: () => [...isaLines(this.opened.isa), ...this.lines, ''].join('\n') });
+      link: async () => new URL(await this.opening.link(this.lines), location.href).href,
+      text: () => [...isaLines(this.opened.isa), ...this.lines, ''].join('\n') });
     const state = () => ({ program: this.opened.program, lineOf: this.opened.lineOf, scenario: this.scenario, step: this.step,
       range: this.code.range, instructionsIn: (...ends) => this.code.instructionsIn(...ends), isEnd: this.step === this.opened.follow });
     this.sweeps = new SweepPart({ state, make, refuse, fail: (fault) => this.notice(sentence(fault, LIMIT)),
@@ -268,7 +269,7 @@ class App {
     this.refresh();
   }
 
-  // Makes an edit of the picture; an instruction has so many bytes.
+  // Makes an edit of the picture, of an instruction by its length in bytes.
   make(kind, at, value, length) {
     this.edit(kind === 'bytes' ? this.scenario.withByte(at, value) : this.scenario.withPatch(at, value, length));
     if (kind === 'bytes') this.bytes.pick(at);

@@ -53,7 +53,7 @@ export class Scenario {
     return this.with({ cut: this.cut + 1, changes: changed(this.changes, this.kept - 1, null) });
   }
 
-  // A patch of so many bytes, over those that are there: of one that it covers in part, the other half stays.
+  // A patch of this length in bytes, over those that are there: of one that it covers in part, the other half stays.
   withPatch(at, value, length = WORD) {
     if (this.patches.get(at)?.length === length) return this.with({ patches: changed(this.patches, at, { value, length }) });
     const patches = new Map(this.patches);

@@ -117,7 +117,10 @@ export class SweepPart {
   get askedNow() {
     if (!this.of) return this.asked?.kind === 'bytes' ? this.asked : null;
     const { scenario, step } = this.state(), { asked } = this.of;
-    if (asked.kind === 'words') return { ...asked, step, ...(asked.code && placesIn(this.state().instructionsIn(asked.first, asked.last))) };
+    if (asked.kind === 'words') {
+      const places = asked.code && placesIn(this.state().instructionsIn(asked.first, asked.last));
+      return { ...asked, step, ...places };
+    }
     return scenario.length ? { ...asked, step, last: scenario.length - 1 } : null;
   }
 

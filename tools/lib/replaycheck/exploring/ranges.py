@@ -59,7 +59,7 @@ class Places:
         return kind == self.kind and self.start <= at <= last and (at - self.start) % self.stride == 0 and not isinstance(value, Half)
 
     def ordinals_of(self, length: int) -> int:
-        """How many ordinals belong to a place, of so many bytes if it is an instruction."""
+        """How many ordinals belong to a place. An instruction has this length in bytes."""
         return 1
 
     def first_missing(self, begin: int, end: int) -> Optional[int]:

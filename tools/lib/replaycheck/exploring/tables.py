@@ -101,8 +101,8 @@ def byte_before(values, edited):
 
 
 def word_before(values, edited, length):
-    """The instruction of so many bytes, or the word, that stood where these values are all the edits of it; None where they aren't, or
-    where that can't be told."""
+    """The instruction of this length in bytes, or the word, that stood where these values are all the edits of it; None if they aren't,
+    or if that can't be told."""
     if values == "flips" and len(edited) == 8 * length:
         was = edited[0] ^ 1
         return was if [was ^ 1 << bit for bit in range(8 * length)] == edited else None
