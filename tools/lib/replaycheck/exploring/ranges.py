@@ -39,7 +39,7 @@ class Places:
 
     @property
     def most_edits(self) -> int:
-        """So many edits all places have at most."""
+        """How many edits all places have at most."""
         return self.count * self.most
 
     def place(self, ordinal: int) -> int:
@@ -82,7 +82,7 @@ class Range(Places):
 
     @property
     def most(self) -> int:
-        """So many edits a place has at most."""
+        """How many edits a place has at most."""
         if self.values == "flips":
             return BITS if self.kind == "bytes" else BITS * WORD
         return MOST_EDITS[self.values] if isinstance(self.values, str) else len(self.values)
