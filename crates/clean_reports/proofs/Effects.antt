@@ -53,7 +53,7 @@ pub record EffectsAgree (f g : ℕ → ℕ) (u v : Option Span) (e h : Effect) :
 abbrev pub NoneBad : Core → ℕ → ℕ → Type 0
 NoneBad c start n = first_inaccessible c.shadow start n ≡ None
 
-none-about : (c : Core) (n start len : ℕ) → NoUse (access_errors c (Read n) start len) → NoneBad c start len
+pub none-about : (c : Core) (n start len : ℕ) → NoUse (access_errors c (Read n) start len) → NoneBad c start len
 unfolding event_about
 none-about c n start len none = go (first_inaccessible c.shadow start len) none
   where
@@ -141,7 +141,7 @@ module _ (c : Core) (qs : List Bits) (a : RegistersAgree c.registers qs) (f g : 
   pub jumps : (rd imm : ℕ) → EffectsAgree f g None None (jump c next rd imm) (jump (swap c qs) next rd imm)
   jumps rd imm = links (jal_hint rd) rd ((c.pc + imm) % 2 ^ 32) []
 
-  same-target : (rs1 imm : ℕ) → IsKnown c rs1 → target c rs1 imm ≡ target (swap c qs) rs1 imm
+  pub same-target : (rs1 imm : ℕ) → IsKnown c rs1 → target c rs1 imm ≡ target (swap c qs) rs1 imm
   unfolding target
   same-target rs1 imm known = ap (λ n. (n + imm) % 2 ^ 32) (same-argument c qs a rs1 known)
 

@@ -23,14 +23,19 @@ use Rattle.instructions.specs.declared.instruction.Instruction.{Instruction}
 use Rattle.instructions.specs.declared.instruction.Instruction.TheVariants.{LoadUpper, AddUpper, Jump, JumpRegister}
 use Rattle.instructions.specs.declared.instruction.Instruction.TheVariants.{Branch, Load, Store, Immediate, Registers}
 use Rattle.instructions.specs.declared.instruction.Instruction.TheVariants.{Fence, CallEnvironment as CallRow}
-use Rattle.instructions.specs.declared.instruction.Instruction.TheVariants.{Breakpoint}
-use Rattle.run_values.specs.declared.status.Stop.TheVariants.{Misaligned}
-use Rattle.guest_elf.specs.Profiles.{is_aligned}
+use Rattle.instructions.specs.declared.instruction.Instruction.TheVariants.{Breakpoint, Atomic as AtomicRow}
+use Rattle.instructions.specs.declared.atomic.Atomic.{Atomic}
+use Rattle.instructions.specs.declared.atomic.Atomic.TheVariants.{LoadReserved, StoreConditional}
+use Rattle.instructions.specs.declared.atomic.Atomic.TheVariants.{Update as Updating}
+use Rattle.run_values.specs.declared.status.Stop.TheVariants.{Illegal, Misaligned}
+use Rattle.guest_elf.specs.Profiles.{has_atomics, is_aligned}
 use Rattle.guest_machine.specs.State.{Core, State}
 use Rattle.guest_machine.specs.Registers.{known, register, set_register, tested, defined}
-use Rattle.guest_machine.specs.Errors.{here}
+use Rattle.guest_machine.specs.Errors.{here, value_errors}
 use Rattle.guest_machine.specs.Effects.{next_of, moved_to, stopped, exited, stored_core, target}
-use Rattle.guest_machine.specs.Effects.{jumped, branch_tested}
+use Rattle.guest_machine.specs.Effects.{jumped, branch_tested, raising, store}
+use Rattle.guest_machine.specs.Atomics.{admits, admitted, atomic_effect, atomic_start, is_reserved, not_stored}
+use Rattle.guest_machine.specs.Atomics.{resulting}
 use Rattle.guest_machine.specs.Effects.{is_undefined, branched, followed, linked_jump, quiet, stops}
 use Rattle.guest_machine.specs.StackPointer.{stack_ruled, stack_moved, framed, ranged, is_stack_pointer, is_in_stack}
 use Rattle.guest_machine.specs.StackPointer.{largest_frame}
@@ -42,6 +47,7 @@ use Rattle.guest_machine.specs.Calls.{bytes_taken}
 use Rattle.guest_machine.specs.Errors.{buffer_errors}
 use Rattle.guest_machine.specs.Effects.{no_bytes}
 use Rattle.instructions.specs.Widths.{width_len}
+use Rattle.instructions.specs.declared.width.Width.TheVariants.{Word}
 use Rattle.error_events.specs.declared.parameter.Parameter.TheVariants.{ReadBuffer, WriteBuffer, ExitStatus}
 use Rattle.error_events.specs.declared.parameter.Parameter.TheVariants.{ExitGroupStatus}
 use Rattle.guest_machine.specs.HeapCalls.{placed, carved, block_at, freed, released_here, Resizing, Allocates}
@@ -454,6 +460,32 @@ module _ (b : Bool) (c : Core) (h : Stands b c) (next : ℕ) (terms : Terms) (gi
     ]
   ]
 
+  -- an atomic instruction
+  admitted-left : (atomic : Atomic) (rd rs1 rs2 : ℕ) → LeavesHeap c (admitted c next atomic rd rs1 rs2 taken).core
+  unfolding set_register
+  admitted-left LoadReserved rd rs1 rs2 = let l = tests c rs1 in record { blocks = l.blocks; same = l.same }
+  admitted-left StoreConditional rd rs1 rs2 = go (is_reserved c rs1)
+    where
+      go : (p : Bool) → LeavesHeap c (cond p (resulting rd 0 (store c next Word rs1 rs2 0))
+          (resulting rd 1 (not_stored c next rs1))).core
+      go true =
+          let l = then c (tested c rs1) _ (tests c rs1) (stores (tested c rs1) (target c rs1 0) 4
+          (register (tested c rs1) rs2).undef) in record { blocks = l.blocks; same = l.same }
+      go false = let l = tests c rs1 in record { blocks = l.blocks; same = l.same }
+  admitted-left (Updating update) rd rs1 rs2 =
+      let l = then c (tested c rs1) _ (tests c rs1) (stores (tested c rs1) (atomic_start c rs1) 4 _) in
+      record { blocks = l.blocks; same = l.same }
+
+  atomics-left : (atomic : Atomic) (rd rs1 rs2 : ℕ) → LeavesHeap c (atomic_effect c next atomic rd rs1 rs2 taken).core
+  unfolding atomic_effect
+  atomics-left atomic rd rs1 rs2 = go (admits c rs1) (has_atomics c.isa)
+    where
+      go : (p q : Bool) → LeavesHeap c (cond p (admitted c next atomic rd rs1 rs2 taken)
+          (cond q (raising (stopped (tested c rs1) Misaligned) (value_errors c rs1)) (stops c Illegal))).core
+      go true q = admitted-left atomic rd rs1 rs2
+      go false true = let l = tests c rs1 in record { blocks = l.blocks; same = l.same }
+      go false false = record { blocks = refl; same = λ a low high. refl }
+
   -- each row
   pub rows : (row : Option Instruction) → Stands b (row_effect c next row terms given taken).core
   unfolding row_effect set_register call_at branch_tested
@@ -477,6 +509,7 @@ module _ (b : Bool) (c : Core) (h : Stands b c) (next : ℕ) (terms : Terms) (gi
   rows (Some Fence) = on b c _ (record { blocks = refl; same = λ a low high. refl }) h
   rows (Some CallRow) = calls (argument c 17)
   rows (Some Breakpoint) = on b c _ (record { blocks = refl; same = λ a low high. refl }) h
+  rows (Some (AtomicRow atomic rd rs1 rs2)) = on b c _ (atomics-left atomic rd rs1 rs2) h
 
 none-taken : (c : Core) → LeavesHeap c (unfetched c).core
 unfolding unfetched

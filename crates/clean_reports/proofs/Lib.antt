@@ -6,6 +6,7 @@ pub mod Memory
 pub mod Altering
 pub mod Registers
 pub mod Effects
+pub mod Atomics
 pub mod Calls
 pub mod HeapCalls
 pub mod Stack

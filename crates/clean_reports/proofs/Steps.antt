@@ -207,6 +207,7 @@ module _ (setup : Setup) (s : State) (qs : List Bits) (g : ℕ → ℕ) (bytes :
         frames = ap (λ (k : Core). k.frames) (sym x.core);
         blocks = ap (λ (k : Core). k.blocks) (sym x.core);
         isa = ap (λ (k : Core). k.isa) (sym x.core);
+        reserved = ap (λ (k : Core). k.reserved) (sym x.core);
         position = ap (λ (t : Terms). s.position + t.intake.count) d.terms;
         end_seen = ap (λ (t : Terms). seen_also s.end_seen t.intake.ends) d.terms;
         output = ap (λ o. s.output ++ o) x.output;
@@ -242,6 +243,7 @@ step-agrees setup bytes s t opened d none =
         frames = d.frames i;
         blocks = d.blocks i;
         isa = d.isa i;
+        reserved = d.reserved i;
       };
       position = d.position i;
       end_seen = d.end_seen i;

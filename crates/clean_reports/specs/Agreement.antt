@@ -48,6 +48,7 @@ pub record StatesAgree (s t : State) : Type 0 where
   pub frames : s.core.frames ≡ t.core.frames
   pub blocks : s.core.blocks ≡ t.core.blocks
   pub isa : s.core.isa ≡ t.core.isa
+  pub reserved : s.core.reserved ≡ t.core.reserved
   pub position : s.position ≡ t.position
   pub end_seen : s.end_seen ≡ t.end_seen
   pub output : s.output ≡ t.output

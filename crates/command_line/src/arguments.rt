@@ -57,7 +57,8 @@ fn isa_option<'a>(alloc: Global) -> Arg<'a>
     ensures rule { rule_of result ≡ isa_option }
     ensures local { result.global ≡ false }
 {
-    let help = "The instruction set: rv32im, or rv32imc, which has 16-bit instructions too";
+    let help =
+        "The instruction set: rv32im, rv32imc with 16-bit instructions, or rv32imac with atomic ones";
     default_option(alloc, "isa", "NAME", "rv32im", help)
 }
 

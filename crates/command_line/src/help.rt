@@ -82,7 +82,7 @@ Lines, with one space between fields; a number is decimal, or hexadecimal after 
   input append BYTE        appends a byte to the input
   input cut                removes the last byte of the input
   patch ADDR WORD          replaces a loaded word, the lowest byte first
-  patch16 ADDR HALF        with --isa rv32imc: replaces two loaded bytes in the same way
+  patch16 ADDR HALF        with --isa rv32imc or rv32imac: replaces two loaded bytes likewise
   mark STEP ADDR LEN KIND  makes a range defined, undefined or noaccess just before a step
   unmark I                 removes mark I, counted from 0; later ones move down
   supp on I, supp off I    switches suppression I, counted from 0
@@ -166,8 +166,8 @@ pub(crate) const AFTER_SWEEP: &str = with_refusals!(
     "\
 With none of --bytes, --words and --at, all bytes of the input are edited; `--input -` is standard
 input. Numbers are decimal, or hexadecimal after 0x. The places are the bytes, then the words, each
-at a multiple of 4, or with --isa rv32imc the instructions of 16 and 32 bits, then the steps; a table
-has one part of them. Bytes and words get these values, except their own:
+at a multiple of 4, or with --isa rv32imc or rv32imac the instructions of 16 and 32 bits, then the
+steps; a table has one part of them. Bytes and words get these values, except their own:
   all      each other byte
   flips    each value that differs in one bit
   edges    0, 1, 0x7f, 0x80, 0xff, its own plus 1 and minus 1

@@ -12,6 +12,8 @@ pub fn isa_named(name: &str) -> Option<Isa>
         Some(Isa::Rv32im)
     } else if name == "rv32imc" {
         Some(Isa::Rv32imc)
+    } else if name == "rv32imac" {
+        Some(Isa::Rv32imac)
     } else {
         None
     }
@@ -25,5 +27,6 @@ pub fn isa_name(isa: Isa) -> &'static str
     match isa {
         Isa::Rv32im => "rv32im",
         Isa::Rv32imc => "rv32imc",
+        Isa::Rv32imac => "rv32imac",
     }
 }

@@ -46,7 +46,7 @@ const ENDS: [Told; 8] = [
     (
         End::BadIsa("rv64"),
         2,
-        b"replaycheck: not one of rv32im, rv32imc: --isa rv64\n",
+        b"replaycheck: not one of rv32im, rv32imc, rv32imac: --isa rv64\n",
     ),
     (
         End::NotText,

@@ -214,7 +214,7 @@ fn assert_carried(rt: &impl Abort, alloc: Global, cases: &[Case]) {
 type Named = (&'static str, Case);
 
 /// Orders for an instruction set. One that there isn't ends them before the file is read, and after the arguments of a sweep.
-const NAMED: [Named; 4] = [
+const NAMED: [Named; 5] = [
     (
         "rv32imc",
         (
@@ -227,6 +227,16 @@ const NAMED: [Named; 4] = [
     ),
     (
         "rv32imac",
+        (
+            "a report for rv32imac",
+            ("program", false, Asked::Task(Task::Report(3))),
+            b"",
+            0,
+            Written::Around(b"", b""),
+        ),
+    ),
+    (
+        "rv32gc",
         (
             "a session for another set",
             ("prog", false, Asked::Task(Task::Session)),

@@ -168,7 +168,7 @@ const RUNS: [Case; 9] = [
     },
     Case {
         label: "an unknown instruction set",
-        isa: "rv32imac",
+        isa: "rv32gc",
         status: 125,
         ..QUIET
     },

@@ -213,7 +213,7 @@ fn pieces_of<'a>(end: End<'a>, digits: &'a mut Buffer) -> Option<(&'a str, &'a [
         End::StepsRefused => ("replaycheck: steps refused 5", NOTHING),
         End::Lone(option) => (option.line(), NOTHING),
         End::BadIsa(name) => (
-            "replaycheck: not one of rv32im, rv32imc: --isa ",
+            "replaycheck: not one of rv32im, rv32imc, rv32imac: --isa ",
             name.as_bytes(),
         ),
         End::BadText { option, text } => (option.complaint(), text.as_bytes()),

@@ -2,7 +2,7 @@
 -- 27, "ISA Extension Naming Conventions").
 use Rattle.std.specs.Prelude.{ℕ, ◌%◌, ◌==◌, Bool, true, false, not}
 use Rattle.guest_elf.specs.declared.profile.Isa.{Isa}
-use Rattle.guest_elf.specs.declared.profile.Isa.TheVariants.{Rv32im, Rv32imc}
+use Rattle.guest_elf.specs.declared.profile.Isa.TheVariants.{Rv32im, Rv32imc, Rv32imac}
 use Rattle.guest_elf.specs.declared.profile.Profile.{Profile}
 
 -- where nothing is said of it
@@ -13,16 +13,25 @@ usual = record { isa = Rv32im }
 unfoldable pub unit : Isa → ℕ
 unit Rv32im = 4
 unit Rv32imc = 2
+unit Rv32imac = 2
 
 -- are there instructions of 16 bits? (chapter 16)
 unfoldable pub has_halves : Isa → Bool
 has_halves Rv32im = false
 has_halves Rv32imc = true
+has_halves Rv32imac = true
+
+-- are there atomic instructions? (chapter 8)
+unfoldable pub has_atomics : Isa → Bool
+has_atomics Rv32im = false
+has_atomics Rv32imc = false
+has_atomics Rv32imac = true
 
 -- has an instruction 16 bits? With C it has if its two lowest bits aren't both set (section 1.5, figure 1.1)
 unfoldable pub is_half : Isa → ℕ → Bool
 is_half Rv32im first = false
 is_half Rv32imc first = not (first % 4 == 3)
+is_half Rv32imac first = not (first % 4 == 3)
 
 -- may an instruction begin at an address?
 abbrev pub is_aligned : Isa → ℕ → Bool

@@ -1,6 +1,6 @@
 //! What a file is read for.
 ghost use Rattle.std.specs.Prelude.{◌≡◌};
-ghost use Rattle.guest_elf.specs.Profiles.{has_halves, is_aligned, is_half, unit};
+ghost use Rattle.guest_elf.specs.Profiles.{has_atomics, has_halves, is_aligned, is_half, unit};
 
 /// An instruction set, named as the RISC-V ISA manual names it (volume I, 20191213, chapter 27).
 #[derive(Clone, Copy, PartialEq, Eq)]
@@ -9,6 +9,8 @@ pub enum Isa {
     Rv32im,
     /// The same with C: instructions of 16 bits too, at each multiple of 2.
     Rv32imc,
+    /// The same with A too: atomic instructions.
+    Rv32imac,
 }
 
 impl Isa {
@@ -20,7 +22,7 @@ impl Isa {
     {
         match self {
             Isa::Rv32im => 4,
-            Isa::Rv32imc => 2,
+            Isa::Rv32imc | Isa::Rv32imac => 2,
         }
     }
 
@@ -32,7 +34,18 @@ impl Isa {
     {
         match self {
             Isa::Rv32im => false,
-            Isa::Rv32imc => true,
+            Isa::Rv32imc | Isa::Rv32imac => true,
+        }
+    }
+
+    /// Returns whether there are atomic instructions.
+    #[tactic(auto, unfolding(crate::specs::Profiles::has_atomics))]
+    pub fn has_atomics(self) -> bool
+        ensures { result ≡ has_atomics self }
+    {
+        match self {
+            Isa::Rv32im | Isa::Rv32imc => false,
+            Isa::Rv32imac => true,
         }
     }
 
@@ -44,7 +57,7 @@ impl Isa {
     {
         match self {
             Isa::Rv32im => false,
-            Isa::Rv32imc => first % 4 != 3,
+            Isa::Rv32imc | Isa::Rv32imac => first % 4 != 3,
         }
     }
 
@@ -59,7 +72,7 @@ impl Isa {
         }
         match self {
             Isa::Rv32im => false,
-            Isa::Rv32imc => addr % 2 == 0,
+            Isa::Rv32imc | Isa::Rv32imac => addr % 2 == 0,
         }
     }
 }

@@ -5,7 +5,7 @@ use Rattle.std.proofs.lemmas.Bool.Decides.{nat_tests}
 use Rattle.guest_elf.specs.Profiles.{is_aligned, is_half, unit}
 use Rattle.guest_elf.specs.declared.hook.Hook.{Hook}
 use Rattle.guest_elf.specs.declared.profile.Isa.{Isa}
-use Rattle.guest_elf.specs.declared.profile.Isa.TheVariants.{Rv32im, Rv32imc}
+use Rattle.guest_elf.specs.declared.profile.Isa.TheVariants.{Rv32im, Rv32imc, Rv32imac}
 use Rattle.shadow_memory.specs.Shadows.{Shadow, first_inaccessible}
 use Rattle.guest_machine.specs.State.{Core}
 use Rattle.guest_machine.specs.Exec.{called_here, deed_by, fetch_by, fetch_span, fetched, fetches, half_at, touched_at}
@@ -17,23 +17,27 @@ few-bytes : (isa : Isa) → unit isa ≤ 4
 unfolding unit
 few-bytes Rv32im = omega arith
 few-bytes Rv32imc = omega arith
+few-bytes Rv32imac = omega arith
 
 multiple : (isa : Isa) (a : ℕ) → is_aligned isa a ≡ true → a % unit isa ≡ 0
 unfolding unit
 multiple Rv32im a h = grind (arith, nat_tests)
 multiple Rv32imc a h = grind (arith, nat_tests)
+multiple Rv32imac a h = grind (arith, nat_tests)
 
 -- where there are halves, and where a word can be cut, the shortest instructions have two bytes
 by-half : (isa : Isa) (first : ℕ) → is_half isa first ≡ true → unit isa ≤ 2
 unfolding is_half unit
 by-half Rv32im first h = cc
 by-half Rv32imc first h = omega arith
+by-half Rv32imac first h = omega arith
 
 by-cut : (isa : Isa) (shadows : ℕ → Shadow) (a : ℕ) → first_inaccessible shadows a (unit isa) ≡ None
     → is_none (first_inaccessible shadows a 4) ≡ false → unit isa ≤ 2
 unfolding unit
 by-cut Rv32im shadows a none some = cc
 by-cut Rv32imc shadows a none some = omega arith
+by-cut Rv32imac shadows a none some = omega arith
 
 of-code : (core : Core) (bytes : ℕ → ℕ) (function : Option Hook)
     → IfSome (fetch_span core (deed_by function (fetched core bytes))) (IsCodeOf core.isa)

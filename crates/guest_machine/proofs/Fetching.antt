@@ -3,9 +3,9 @@ use Rattle.std.proofs.Common.{◌≡◌, ◌%◌, ◌&&◌, ◌==◌, ℕ, Bool,
 use Rattle.std.proofs.Common.{not, IfSome, inl, inr}
 use Rattle.std.specs.Prelude.{is_none}
 use Rattle.std.proofs.lemmas.Bool.Decides.{nat_tests}
-use Rattle.guest_elf.specs.Profiles.{is_aligned, is_half, unit}
+use Rattle.guest_elf.specs.Profiles.{has_halves, is_aligned, is_half, unit}
 use Rattle.guest_elf.specs.declared.profile.Isa.{Isa}
-use Rattle.guest_elf.specs.declared.profile.Isa.TheVariants.{Rv32im, Rv32imc}
+use Rattle.guest_elf.specs.declared.profile.Isa.TheVariants.{Rv32im, Rv32imc, Rv32imac}
 use Rattle.instructions.specs.Codes.{code_of, row_of_code}
 use Rattle.instructions.specs.declared.code.Code.{Code}
 use Rattle.instructions.specs.declared.code.Code.TheVariants.{Word, Half}
@@ -35,6 +35,7 @@ is-even : (isa : Isa) (a : ℕ) → is_aligned isa a ≡ true → a % 2 ≡ 0
 unfolding unit
 is-even Rv32im a h = let four : a % 4 ≡ 0 = grind (arith, nat_tests) in omega arith
 is-even Rv32imc a h = grind (arith, nat_tests)
+is-even Rv32imac a h = grind (arith, nat_tests)
 
 -- where a machine is ready, and where a code is fetched
 pub at_ready : (core : Core) → (is_running core.status && is_aligned core.isa core.pc) ≡ true → core.pc % 2 ≡ 0
@@ -78,6 +79,8 @@ unfolding is_half
 half-by-word Rv32im f g a same = refl
 half-by-word Rv32imc f g a same =
     ap (λ n. not (n == 3)) (sym (low-bits g a) ∙ ap (λ n. n % 4) (sym same) ∙ low-bits f a)
+half-by-word Rv32imac f g a same =
+    ap (λ n. not (n == 3)) (sym (low-bits g a) ∙ ap (λ n. n % 4) (sym same) ∙ low-bits f a)
 
 -- of four accessible bytes the first two are
 two-of-four : (shadows : ℕ → Shadow) (a : ℕ) → first_inaccessible shadows a 4 ≡ None
@@ -91,6 +94,7 @@ front : (isa : Isa) (shadows : ℕ → Shadow) (a : ℕ) → first_inaccessible 
 unfolding unit
 front Rv32im shadows a h = h
 front Rv32imc shadows a h = two-of-four shadows a h
+front Rv32imac shadows a h = two-of-four shadows a h
 
 -- a word whose lowest bits are those of one is none of the profile's halves
 no-half : (isa : Isa) (f : ℕ → ℕ) (a : ℕ) → is_half Rv32imc (little_word (window f a 4)) ≡ false
@@ -98,6 +102,7 @@ no-half : (isa : Isa) (f : ℕ → ℕ) (a : ℕ) → is_half Rv32imc (little_wo
 unfolding is_half
 no-half Rv32im f a h = refl
 no-half Rv32imc f a h = ap (λ n. not (n == 3)) (sym (low-bits f a)) ∙ h
+no-half Rv32imac f a h = ap (λ n. not (n == 3)) (sym (low-bits f a)) ∙ h
 
 both-true : (p q r : Bool) → p && q ≡ true → r ≡ true → p && (q && r) ≡ true
 both-true true true r h k = k
@@ -129,14 +134,22 @@ decoded_word core bytes row ready has = record {
   undef = has.undef;
 }
 
-pub decoded_half : (core : Core) (bytes : ℕ → ℕ) (row : Instruction) → core.isa ≡ Rv32imc
+-- instructions of 16 bits are told from others in one way, wherever there are any
+by-halves : (isa : Isa) → has_halves isa ≡ true
+    → (unit isa ≡ 2) × ((first : ℕ) → is_half isa first ≡ is_half Rv32imc first)
+unfolding has_halves unit is_half
+by-halves Rv32im h = cc
+by-halves Rv32imc h = (refl, λ first. refl)
+by-halves Rv32imac h = (refl, λ first. refl)
+
+pub decoded_half : (core : Core) (bytes : ℕ → ℕ) (row : Instruction) → has_halves core.isa ≡ true
     → (is_running core.status && is_aligned core.isa core.pc) ≡ true
     → HasRow bytes core.shadow 2 core.pc row → IsDecoded core bytes 2 row
-unfolding code_of unit
+unfolding code_of
 decoded_half core bytes row is ready has = record {
   taken = fetched-by core bytes true (is_none (word_fault core))
-      (ready-fetches core ready (ap (λ isa. first_inaccessible core.shadow core.pc (unit isa)) is ∙ has.bad))
-      (ap (λ isa. is_half isa (half_at core bytes)) is ∙ has.length) refl;
+      (ready-fetches core ready (ap (first_inaccessible core.shadow core.pc) (by-halves core.isa is).0 ∙ has.bad))
+      ((by-halves core.isa is).1 (half_at core bytes) ∙ has.length) refl;
   row = has.row;
   undef = has.undef;
 }
@@ -181,6 +194,7 @@ unit-there : (isa : Isa) (shadows : ℕ → Shadow) (a : ℕ) → first_inaccess
 unfolding unit
 unit-there Rv32im shadows a h = two-of-four shadows a h
 unit-there Rv32imc shadows a h = h
+unit-there Rv32imac shadows a h = h
 
 pub two_there : (core : Core) → fetches core ≡ true → first_inaccessible core.shadow core.pc 2 ≡ None
 two_there core h = unit-there core.isa core.shadow core.pc (no-fault core h)
@@ -229,7 +243,7 @@ pub found_word : (core : Core) (bytes : ℕ → ℕ) (found : Option Instruction
 found_word core bytes None ready has = tt
 found_word core bytes (Some row) ready has = decoded_word core bytes row ready has
 
-pub found_half : (core : Core) (bytes : ℕ → ℕ) (found : Option Instruction) → core.isa ≡ Rv32imc
+pub found_half : (core : Core) (bytes : ℕ → ℕ) (found : Option Instruction) → has_halves core.isa ≡ true
     → (is_running core.status && is_aligned core.isa core.pc) ≡ true
     → IfSome found (λ row. HasRow bytes core.shadow 2 core.pc row)
     → IfSome found (λ row. IsDecoded core bytes 2 row)
@@ -241,3 +255,4 @@ pub unit_width : (isa : Isa) → IsWidth (unit isa)
 unfolding unit
 unit_width Rv32im = inr (inr refl)
 unit_width Rv32imc = inr (inl refl)
+unit_width Rv32imac = inr (inl refl)

@@ -4,7 +4,7 @@ use Rattle.std.proofs.Common.{refl, ap, sym, ◌∙◌, List, [], ◌∷◌, Opt
 use Rattle.error_events.specs.declared.parameter.Parameter.{Parameter}
 use Rattle.std.specs.Prelude.{is_none}
 use Rattle.guest_elf.specs.Hooks.{hook_at}
-use Rattle.guest_elf.specs.Profiles.{is_aligned, is_half, unit}
+use Rattle.guest_elf.specs.Profiles.{has_atomics, is_aligned, is_half, unit}
 use Rattle.shadow_memory.specs.Shadows.{first_inaccessible}
 use Rattle.guest_elf.specs.declared.hook.Hook.{Hook}
 use Rattle.guest_elf.specs.declared.hook.Hook.TheVariants.{Malloc, Free, Calloc, Realloc}
@@ -23,15 +23,23 @@ use Rattle.instructions.specs.declared.instruction.Instruction.{Instruction}
 use Rattle.instructions.specs.declared.instruction.Instruction.TheVariants.{LoadUpper, AddUpper, Jump, JumpRegister}
 use Rattle.instructions.specs.declared.instruction.Instruction.TheVariants.{Branch, Load, Store, Immediate, Registers}
 use Rattle.instructions.specs.declared.instruction.Instruction.TheVariants.{Fence, CallEnvironment, Breakpoint}
+use Rattle.instructions.specs.declared.instruction.Instruction.TheVariants.{Atomic as AtomicRow}
+use Rattle.instructions.specs.declared.atomic.Atomic.{Atomic}
+use Rattle.instructions.specs.declared.atomic.Atomic.TheVariants.{LoadReserved, StoreConditional}
+use Rattle.instructions.specs.declared.atomic.Atomic.TheVariants.{Update as Updating}
 use Rattle.definedness.specs.declared.Bits.{Bits}
-use Rattle.run_values.specs.declared.status.Stop.TheVariants.{Misaligned}
+use Rattle.run_values.specs.declared.status.Stop.TheVariants.{Illegal, Misaligned}
 use Rattle.shadow_memory.specs.declared.cells.RangeKind.{RangeKind}
 use Rattle.shadow_memory.specs.declared.cells.RangeKind.TheVariants.{NoAccess, Undefined, Defined}
 use Rattle.guest_machine.specs.State.{Core}
 use Rattle.guest_machine.specs.Registers.{defined, known, register, set_register, tested}
 use Rattle.guest_machine.specs.StackPointer.{framed, is_stack_pointer, largest_frame, ranged, stack_moved, stack_ruled}
+use Rattle.guest_machine.specs.Atomics.{admits, admitted, atomic_effect, is_reserved, not_admitted, not_stored}
+use Rattle.guest_machine.specs.Atomics.{resulting}
+use Rattle.guest_machine.specs.Errors.{value_errors}
 use Rattle.guest_machine.specs.Effects.{Effect, branch_tested, branched, followed, is_undefined, jumped, linked_jump}
-use Rattle.guest_machine.specs.Effects.{moved_to, next_of, quiet, stopped, stops, target}
+use Rattle.guest_machine.specs.Effects.{moved_to, next_of, quiet, raising, stopped, stops, store, target}
+use Rattle.instructions.specs.declared.width.Width.TheVariants.{Word as Word4}
 use Rattle.guest_machine.specs.Calls.{answers, argument, call_at, call_tested, ebadf, enospc, failure, heap_parameters}
 use Rattle.guest_machine.specs.Calls.{is_output, moved_len, output_room, parameters_of, read_call, tested_from}
 use Rattle.guest_machine.specs.Calls.{write_call}
@@ -170,6 +178,26 @@ calls c next (Heap function) terms given taken =
     ∙ call-tests c (Heap function)
 calls c next Unknown terms given taken = call-tests c Unknown
 
+-- ---- atomic instructions
+
+admitted-keeps : (c : Core) (next : ℕ) (atomic : Atomic) (rd rs1 rs2 : ℕ) (taken : ℕ → ℕ)
+    → (admitted c next atomic rd rs1 rs2 taken).core.isa ≡ c.isa
+unfolding set_register
+admitted-keeps c next LoadReserved rd rs1 rs2 taken = tests c rs1
+admitted-keeps c next StoreConditional rd rs1 rs2 taken =
+    either-effect (is_reserved c rs1) c.isa (resulting rd 0 (store c next Word4 rs1 rs2 0))
+    (resulting rd 1 (not_stored c next rs1)) (tests c rs1) (tests c rs1)
+admitted-keeps c next (Updating update) rd rs1 rs2 taken = tests c rs1
+
+atomic-keeps : (c : Core) (next : ℕ) (atomic : Atomic) (rd rs1 rs2 : ℕ) (taken : ℕ → ℕ)
+    → (atomic_effect c next atomic rd rs1 rs2 taken).core.isa ≡ c.isa
+unfolding atomic_effect
+atomic-keeps c next atomic rd rs1 rs2 taken =
+    either-effect (admits c rs1) c.isa (admitted c next atomic rd rs1 rs2 taken) (not_admitted c rs1)
+    (admitted-keeps c next atomic rd rs1 rs2 taken)
+    (either-effect (has_atomics c.isa) c.isa (raising (stopped (tested c rs1) Misaligned) (value_errors c rs1))
+    (stops c Illegal) (tests c rs1) refl)
+
 -- ---- a step
 
 branch-tests : (c : Core) (test : Comparison) (rs1 rs2 : ℕ) → (branch_tested c test rs1 rs2).isa ≡ c.isa
@@ -196,6 +224,7 @@ row-keeps c next (Some (Registers operation rd rs1 rs2)) terms given taken = ref
 row-keeps c next (Some Fence) terms given taken = refl
 row-keeps c next (Some CallEnvironment) terms given taken = calls c next (call_at c) terms given taken
 row-keeps c next (Some Breakpoint) terms given taken = refl
+row-keeps c next (Some (AtomicRow atomic rd rs1 rs2)) terms given taken = atomic-keeps c next atomic rd rs1 rs2 taken
 
 fault-keeps : (c : Core) (fault : Option ℕ) → (jump_fault c fault).core.isa ≡ c.isa
 fault-keeps c None = refl

@@ -18,6 +18,7 @@ pub mod SameCodes
 pub mod Fetching
 pub mod StreamLaw
 pub mod IsaLaw
+pub mod BaseLaw
 pub mod Deeds
 pub mod IdleLaw
 pub mod StreamSteps

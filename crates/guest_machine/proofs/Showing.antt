@@ -177,6 +177,7 @@ holds-poked m memory addr code b c zero s h =
             frames = m.frames;
             blocks = blocks_of m.heap;
             isa = m.isa;
+            reserved = m.reserved;
           }) ∙ h.core;
       position = h.position;
       end_seen = h.end_seen;

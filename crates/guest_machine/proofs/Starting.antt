@@ -1,5 +1,5 @@
 -- The machine at the start shows the start.
-use Rattle.std.proofs.Common.{false, ◌≡◌, ℕ, refl, ap, ap₂, ◌∙◌, List, [], slice_index, slice_index_or, replicate}
+use Rattle.std.proofs.Common.{false, ◌≡◌, ℕ, refl, ap, ap₂, ◌∙◌, List, [], None, slice_index, slice_index_or, replicate}
 use Rattle.std.specs.Prelude.{slice_set}
 use Rattle.std.proofs.Math.Path.{fun_ext}
 use Rattle.definedness.specs.declared.Bits.{Bits}
@@ -48,6 +48,7 @@ pub holds-start : (alloc : Global) (image : Image) (fresh loaded memory : Memory
       progress = record { position = 0; end_seen = false; output_len = 0; heap_calls = 0 };
       noted = record { groups = groups; raised = false };
       isa = isa;
+      reserved = None;
       zero = zero;
     })
     (start_state image)
@@ -64,6 +65,7 @@ holds-start alloc image fresh loaded memory groups frames heap segments pc isa z
         frames = calls i;
         blocks = none i;
         isa = set i;
+        reserved = None;
       };
       position = refl;
       end_seen = refl;

@@ -2,7 +2,7 @@
 use Rattle.std.proofs.Common.{◌≡◌, ◌⊎◌, inl, inr, ℕ, zero, suc, ◌+◌, ◌&&◌, ◌==◌, nat_le, Bool, true, false}
 use Rattle.std.proofs.Common.{cond, List, [], ◌++◌, length, append-nil, append_assoc, Option, Some, None}
 use Rattle.std.proofs.Common.{refl, ap, sym, ◌∙◌, arith, add-zero}
-use Rattle.guest_elf.specs.Profiles.{is_aligned}
+use Rattle.guest_elf.specs.Profiles.{has_atomics, is_aligned}
 use Rattle.guest_elf.specs.declared.hook.Hook.{Hook}
 use Rattle.guest_elf.specs.declared.hook.Hook.TheVariants.{Malloc, Free, Calloc, Realloc}
 use Rattle.shadow_memory.specs.Ranges.{window}
@@ -12,12 +12,21 @@ use Rattle.instructions.specs.declared.instruction.Instruction.{Instruction}
 use Rattle.instructions.specs.declared.instruction.Instruction.TheVariants.{LoadUpper, AddUpper, Jump, JumpRegister}
 use Rattle.instructions.specs.declared.instruction.Instruction.TheVariants.{Branch, Load, Store, Immediate, Registers}
 use Rattle.instructions.specs.declared.instruction.Instruction.TheVariants.{Fence, CallEnvironment, Breakpoint}
+use Rattle.instructions.specs.declared.instruction.Instruction.TheVariants.{Atomic as AtomicRow}
+use Rattle.instructions.specs.declared.atomic.Atomic.{Atomic}
+use Rattle.instructions.specs.declared.atomic.Atomic.TheVariants.{LoadReserved, StoreConditional}
+use Rattle.instructions.specs.declared.atomic.Atomic.TheVariants.{Update as Updating}
+use Rattle.instructions.specs.declared.width.Width.TheVariants.{Word}
 use Rattle.guest_machine.specs.State.{Core, State}
 use Rattle.std.specs.Prelude.{slice_index}
 use Rattle.error_events.specs.declared.parameter.Parameter.TheVariants.{ReadBuffer, WriteBuffer}
-use Rattle.run_values.specs.declared.status.Stop.TheVariants.{Misaligned}
-use Rattle.guest_machine.specs.Errors.{buffer_errors}
-use Rattle.guest_machine.specs.Effects.{Effect, moved_to, next_of, no_bytes, quiet, stops, stored_core}
+use Rattle.run_values.specs.declared.status.Stop.TheVariants.{Illegal, Misaligned}
+use Rattle.guest_machine.specs.Atomics.{admits, admitted, atomic_effect, is_reserved, not_admitted, not_stored}
+use Rattle.guest_machine.specs.Atomics.{resulting}
+use Rattle.guest_machine.specs.Errors.{buffer_errors, value_errors}
+use Rattle.guest_machine.specs.Registers.{tested}
+use Rattle.guest_machine.specs.Effects.{Effect, moved_to, next_of, no_bytes, quiet, raising, stopped, stops, store}
+use Rattle.guest_machine.specs.Effects.{stored_core}
 use Rattle.guest_machine.specs.Calls.{answered, argument, answers, appends, bytes_taken, call_at, is_output}
 use Rattle.guest_machine.specs.Calls.{moved_len, failure}
 use Rattle.guest_machine.specs.Calls.{call_errors, call_tested, ebadf, enospc}
@@ -38,6 +47,30 @@ use Rattle.guest_machine.specs.declared.environment_call.EnvironmentCall.TheVari
 use Rattle.guest_machine.specs.declared.environment_call.EnvironmentCall.TheVariants.{Heap, Unknown}
 use Rattle.guest_machine.specs.declared.setup.Setup.{Setup}
 use Rattle.guest_machine.proofs.Running.{one-more}
+
+-- ---- atomic instructions
+
+-- of two effects that write nothing out either does so
+of-two : (b : Bool) (one other : Effect) → one.output ≡ [] → other.output ≡ [] → (cond b one other).output ≡ []
+of-two true one other h k = h
+of-two false one other h k = k
+
+admitted-silent : (core : Core) (next : ℕ) (atomic : Atomic) (rd rs1 rs2 : ℕ) (taken : ℕ → ℕ)
+    → (admitted core next atomic rd rs1 rs2 taken).output ≡ []
+admitted-silent core next LoadReserved rd rs1 rs2 taken = refl
+admitted-silent core next StoreConditional rd rs1 rs2 taken =
+    of-two (is_reserved core rs1) (resulting rd 0 (store core next Word rs1 rs2 0))
+    (resulting rd 1 (not_stored core next rs1)) refl refl
+admitted-silent core next (Updating update) rd rs1 rs2 taken = refl
+
+atomic-silent : (core : Core) (next : ℕ) (atomic : Atomic) (rd rs1 rs2 : ℕ) (taken : ℕ → ℕ)
+    → (atomic_effect core next atomic rd rs1 rs2 taken).output ≡ []
+unfolding atomic_effect
+atomic-silent core next atomic rd rs1 rs2 taken =
+    of-two (admits core rs1) (admitted core next atomic rd rs1 rs2 taken) (not_admitted core rs1)
+    (admitted-silent core next atomic rd rs1 rs2 taken)
+    (of-two (has_atomics core.isa) (raising (stopped (tested core rs1) Misaligned) (value_errors core rs1))
+    (stops core Illegal) refl refl)
 
 -- ---- instructions that are no ECALL
 
@@ -70,6 +103,8 @@ silent core next (Some (Registers operation rd rs1 rs2)) terms given taken h =
 silent core next (Some Fence) terms given taken h = record { asks = refl; output = refl; fits = λ n. refl }
 silent core next (Some CallEnvironment) terms given taken h = cc
 silent core next (Some Breakpoint) terms given taken h = record { asks = refl; output = refl; fits = λ n. refl }
+silent core next (Some (AtomicRow atomic rd rs1 rs2)) terms given taken h =
+    record { asks = refl; output = atomic-silent core next atomic rd rs1 rs2 taken; fits = λ n. refl }
 
 -- ---- calls of the heap, and steps that carry nothing out
 
@@ -90,11 +125,6 @@ named-silent false function core redzone volume taken = refl
 fault-silent : (core : Core) (fault : Option ℕ) → (jump_fault core fault).output ≡ []
 fault-silent core None = refl
 fault-silent core (Some a) = refl
-
--- of two effects that write nothing out either does so
-of-two : (b : Bool) (one other : Effect) → one.output ≡ [] → other.output ≡ [] → (cond b one other).output ≡ []
-of-two true one other h k = h
-of-two false one other h k = k
 
 halt-silent : (core : Core) → (unfetched core).output ≡ []
 unfolding unfetched
@@ -178,6 +208,8 @@ row-spoken core next (Some (Immediate operation rd rs1 imm)) terms given bytes =
 row-spoken core next (Some (Registers operation rd rs1 rs2)) terms given bytes = inl refl
 row-spoken core next (Some Fence) terms given bytes = inl refl
 row-spoken core next (Some Breakpoint) terms given bytes = inl refl
+row-spoken core next (Some (AtomicRow atomic rd rs1 rs2)) terms given bytes =
+    inl (atomic-silent core next atomic rd rs1 rs2 _)
 
 deed-spoken : (core : Core) (deed : Deed) (terms : Terms) (given : List ℕ) (bytes : ℕ → ℕ)
     → Spoken bytes (plan core terms deed)

@@ -12,6 +12,7 @@ use Rattle.instructions.specs.Codes.{len_of, row_of_code}
 use Rattle.guest_machine.specs.Effects.{Effect, no_bytes, quiet, raising, moved_to, stopped, target, load_upper}
 use Rattle.guest_machine.specs.Effects.{add_upper, compute_immediate, compute, load, store, branch, jump, jump_register}
 use Rattle.guest_machine.specs.Effects.{next_of, stops}
+use Rattle.guest_machine.specs.Atomics.{atomic_effect, atomic_reads, atomic_writes}
 use Rattle.guest_machine.specs.Calls.{argument, call_at, is_heap, moved_len, appends, read_call, write_call, exit_call}
 use Rattle.guest_machine.specs.Calls.{unknown_call}
 use Rattle.guest_elf.specs.Hooks.{hook_at}
@@ -43,7 +44,8 @@ use Rattle.instructions.specs.declared.instruction.Instruction.{Instruction}
 use Rattle.instructions.specs.declared.instruction.Instruction.TheVariants.{LoadUpper, AddUpper, Jump, JumpRegister}
 use Rattle.instructions.specs.declared.instruction.Instruction.TheVariants.{Branch, Load, Store, Immediate, Registers}
 use Rattle.instructions.specs.declared.instruction.Instruction.TheVariants.{Fence, CallEnvironment as CallRow}
-use Rattle.instructions.specs.declared.instruction.Instruction.TheVariants.{Breakpoint}
+use Rattle.instructions.specs.declared.instruction.Instruction.TheVariants.{Breakpoint, Atomic as AtomicRow}
+use Rattle.instructions.specs.declared.atomic.Atomic.{Atomic}
 use Rattle.run_values.specs.declared.status.Status.{Status}
 use Rattle.run_values.specs.declared.status.Status.TheVariants.{Running, Exited, Stopped}
 use Rattle.run_values.specs.declared.status.Stop.TheVariants.{Jump as JumpStop, Break, Illegal, Misaligned}
@@ -159,6 +161,10 @@ writing span = record { reads = None; writes = Some span }
 abbrev pub accessed : Core → ℕ → ℕ → Width → Span
 accessed core rs1 imm width = span_at (target core rs1 imm) (width_len width)
 
+-- an atomic instruction
+abbrev pub atomic_uses : Core → Atomic → ℕ → Uses
+atomic_uses core atomic rs1 = record { reads = atomic_reads core atomic rs1; writes = atomic_writes core atomic rs1 }
+
 -- read stores what it is given of the input
 abbrev pub read_uses : Core → ℕ → Uses
 read_uses core count =
@@ -239,6 +245,7 @@ unfoldable pub row_uses : Core → Option Instruction → Terms → Uses
 row_uses core (Some (Load width signed rd rs1 imm)) terms = reading (accessed core rs1 imm width)
 row_uses core (Some (Store width rs1 rs2 imm)) terms = writing (accessed core rs1 imm width)
 row_uses core (Some CallRow) terms = call_uses core (call_at core) terms
+row_uses core (Some (AtomicRow atomic rd rs1 rs2)) terms = atomic_uses core atomic rs1
 row_uses core _ terms = nothing
 
 -- what a step leaves --
@@ -269,6 +276,8 @@ row_effect core next (Some (Registers operation rd rs1 rs2)) terms given taken =
 row_effect core next (Some Fence) terms given taken = quiet (moved_to core next)
 row_effect core next (Some CallRow) terms given taken = call_effect core next (call_at core) terms given taken
 row_effect core next (Some Breakpoint) terms given taken = stops core Break
+row_effect core next (Some (AtomicRow atomic rd rs1 rs2)) terms given taken =
+    atomic_effect core next atomic rd rs1 rs2 taken
 
 -- a fetch that meets an inaccessible byte
 abbrev pub jump_fault : Core → Option ℕ → Effect

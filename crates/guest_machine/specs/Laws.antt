@@ -19,7 +19,10 @@ use Rattle.run_values.specs.Alterations.{alteration_of}
 use Rattle.run_values.specs.declared.mark.Mark.{Mark}
 use Rattle.guest_machine.specs.Exec.{exec, touches, counted, is_heap_deed, is_running, deed_at}
 use Rattle.guest_machine.specs.Exec.{Takes, Halts, called_here, fetched, fetches, jump_fault, unfetched, word_at}
-use Rattle.guest_machine.specs.Exec.{word_fault}
+use Rattle.guest_machine.specs.Exec.{word_fault, Terms, calls_heap, row_asks, row_effect, row_uses}
+use Rattle.guest_elf.specs.Profiles.{has_atomics}
+use Rattle.instructions.specs.Instructions.{if_row, row_of}
+use Rattle.rv_decode.specs.Table.{insn}
 use Rattle.instructions.specs.Codes.{len_of}
 use Rattle.instructions.specs.declared.code.Code.{Code}
 use Rattle.instructions.specs.declared.code.Code.TheVariants.{Word}
@@ -141,6 +144,19 @@ pub record IsByFours (core : Core) : Type 0 where
 -- a core whose instruction set is RV32IM is one
 abbrev pub GoesByFours : Type 0
 GoesByFours = (core : Core) → core.isa ≡ Rv32im → IsByFours core
+
+-- a core at which each word is what it is in RV32IM
+pub record HasBaseWords (core : Core) : Type 0 where
+  pub effects : (next word : ℕ) (terms : Terms) (given : List ℕ) (taken : ℕ → ℕ)
+      → row_effect core next (row_of word) terms given taken
+      ≡ row_effect core next (if_row (insn word)) terms given taken
+  pub uses : (word : ℕ) (terms : Terms) → row_uses core (row_of word) terms ≡ row_uses core (if_row (insn word)) terms
+  pub asks : (word : ℕ) → row_asks core (row_of word) ≡ row_asks core (if_row (insn word))
+  pub heap : (word : ℕ) → calls_heap core (row_of word) ≡ calls_heap core (if_row (insn word))
+
+-- a core whose instruction set has no atomic instructions is one
+abbrev pub LacksAtomics : Type 0
+LacksAtomics = (core : Core) → has_atomics core.isa ≡ false → HasBaseWords core
 
 -- ---- marks as alterations
 

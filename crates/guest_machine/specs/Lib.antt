@@ -4,6 +4,7 @@ pub mod Registers
 pub mod Errors
 pub mod StackPointer
 pub mod Effects
+pub mod Atomics
 pub mod Sieve
 pub mod Calls
 pub mod HeapCalls

@@ -18,6 +18,7 @@ core_of g = record {
   frames = g.frames;
   blocks = blocks_of g.heap;
   isa = g.isa;
+  reserved = g.reserved;
 }
 
 -- the byte values

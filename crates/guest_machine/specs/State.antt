@@ -1,5 +1,5 @@
 -- A run at one moment: the byte values, what else decides a step, and what only increases.
-use Rattle.std.specs.Prelude.{ℕ, Bool, List}
+use Rattle.std.specs.Prelude.{ℕ, Bool, List, Option}
 use Rattle.definedness.specs.declared.Bits.{Bits}
 use Rattle.shadow_memory.specs.Shadows.{Shadow}
 use Rattle.run_values.specs.declared.status.Status.{Status}
@@ -10,7 +10,8 @@ use Rattle.error_events.specs.declared.event.Event.{Event}
 
 -- what decides a step, besides the byte values: for each address whether it may be accessed and its undefined bits, the
 -- 32 registers with their undefined bits, pc, whether the machine runs, the calls that it is in, newest first,
--- the blocks of the heap, and the instruction set, which no step changes
+-- the blocks of the heap, the instruction set, which no step changes, and the address that is reserved, if one is
+-- (RISC-V Unprivileged ISA 20191213, section 8.2)
 pub record Core : Type 0 where
   pub shadow : ℕ → Shadow
   pub registers : List Bits
@@ -19,6 +20,7 @@ pub record Core : Type 0 where
   pub frames : List Frame
   pub blocks : Blocks
   pub isa : Isa
+  pub reserved : Option ℕ
 
 -- a state: besides the core, the byte at each address, the number of bytes of input read, whether some read asked for
 -- more than was left of it, the bytes that were written, the number of heap calls, and all errors so far

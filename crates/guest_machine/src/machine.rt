@@ -3,6 +3,7 @@ ghost use Rattle.std.specs.Prelude.{◌≡◌, slice_index_or};
 ghost use Rattle.guest_machine.specs.Registers.{known};
 
 mod altering;
+mod atomics;
 mod between;
 mod calls;
 mod checks;
@@ -104,7 +105,8 @@ pub struct Machine {
     guest: Box<Guest>,
 }
 
-/// What a machine holds: memory, registers, pc, status, calls, heap, progress, its errors and its instruction set.
+/// What a machine holds: memory, registers, pc, status, calls, heap, progress, its errors, its instruction set and the address that is
+/// reserved, if one is.
 #[derive(Drop)]
 pub(crate) struct Guest {
     alloc: Global,
@@ -117,6 +119,7 @@ pub(crate) struct Guest {
     progress: Progress,
     noted: Noted,
     isa: Isa,
+    reserved: Option<u32>,
     // x0 is 0, so that a read tests nothing.
     ghost zero: { slice_index_or registers 0 (known 0) ≡ known 0 },
 }

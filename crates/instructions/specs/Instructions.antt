@@ -1,14 +1,19 @@
 -- The instructions in classes: each of the 48 names of the instruction table, with what distinguishes it from the
--- others of its class.
+-- others of its class; and the atomic ones, which are a class.
 use Rattle.std.specs.Prelude.{ℕ, true, false, Option, Some, None}
+use Rattle.std.specs.Option.{option_map}
 use Rattle.rv_compressed.specs.Table.{expansion}
 use Rattle.rv_decode.specs.Table.{insn}
 use Rattle.rv_decode.specs.declared.Insn.{Insn}
 use Rattle.rv_decode.specs.declared.Op.{Op}
+use Rattle.rv_extensions.specs.Table.{extension}
+use Rattle.rv_extensions.specs.declared.Extension.{Extension}
+use Rattle.instructions.specs.Atomics.{atomic_of}
 use Rattle.instructions.specs.declared.instruction.Instruction.{Instruction}
 use Rattle.instructions.specs.declared.instruction.Instruction.TheVariants.{LoadUpper, AddUpper, Jump, JumpRegister}
 use Rattle.instructions.specs.declared.instruction.Instruction.TheVariants.{Branch, Load, Store, Immediate, Registers}
 use Rattle.instructions.specs.declared.instruction.Instruction.TheVariants.{Fence, CallEnvironment, Breakpoint}
+use Rattle.instructions.specs.declared.instruction.Instruction.TheVariants.{Atomic}
 use Rattle.instructions.specs.declared.instruction.Comparison.TheVariants as Comparison
 use Rattle.instructions.specs.declared.instruction.Operation.TheVariants as Operation
 use Rattle.instructions.specs.declared.width.Width.TheVariants.{Byte, Half, Word}
@@ -71,9 +76,19 @@ abbrev pub if_row : Option Insn → Option Instruction
 if_row None = None
 if_row (Some i) = Some (instruction_of i)
 
+-- the instruction of a row of the table of extensions, if it is an atomic one
+abbrev pub if_atomic : Option Extension → Option Instruction
+if_atomic None = None
+if_atomic (Some e) = option_map (λ atomic. Atomic atomic e.rd e.rs1 e.rs2) (atomic_of e.op)
+
+-- the instruction of the first table, or else of the second; no word is in both (rv_extensions, ApartFromBase)
+abbrev pub row_or : Option Instruction → Option Instruction → Option Instruction
+row_or (Some row) other = Some row
+row_or None other = other
+
 -- the instruction of a word, if it is one
 unfoldable pub row_of : ℕ → Option Instruction
-row_of word = if_row (insn word)
+row_of word = row_or (if_row (insn word)) (if_atomic (extension word))
 
 -- the instruction of a half, if it is one: that of the row that it stands for
 unfoldable pub row_of_half : ℕ → Option Instruction

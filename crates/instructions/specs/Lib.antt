@@ -3,3 +3,4 @@ pub mod Codes
 pub mod Instructions
 pub mod CallStack
 pub mod Alu
+pub mod Atomics

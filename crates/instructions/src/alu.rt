@@ -49,7 +49,7 @@ fn number_of(holds: bool) -> u32
 
 #[inline(always)]
 #[tactic(auto, unfolding(definedness::specs::Operations::less_signed))]
-fn less_signed(x: u32, y: u32) -> bool
+pub(crate) fn less_signed(x: u32, y: u32) -> bool
     ensures { result ≡ less_signed x y }
 {
     x.cast_signed() < y.cast_signed()

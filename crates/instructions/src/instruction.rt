@@ -1,7 +1,9 @@
 //! The instructions in classes, and the class of each row of the instruction table.
 ghost use Rattle.std.specs.Prelude.{◌≡◌, ◌<◌};
-ghost use Rattle.instructions.specs.Instructions.{instruction_of, row_of, row_of_half};
+ghost use Rattle.instructions.specs.Instructions.{if_atomic, instruction_of, row_of, row_of_half};
+ghost use Rattle.rv_extensions.specs.Table.{extension};
 
+use crate::atomic::{Atomic, atomic_of};
 use crate::register::Register;
 use crate::width::Width;
 use rv_compressed::expand;
@@ -95,6 +97,12 @@ pub enum Instruction {
     Fence,
     CallEnvironment,
     Breakpoint,
+    Atomic {
+        atomic: Atomic,
+        rd: Register,
+        rs1: Register,
+        rs2: Register,
+    },
 }
 
 /// The operands of a row of the table, from which instructions are made.
@@ -242,13 +250,29 @@ fn instruction_of(insn: Insn) -> Instruction
     }
 }
 
+/// Returns the atomic instruction of a word, if it is one.
+fn atomic_row_of(word: u32) -> Option<Instruction>
+    ensures { result ≡ if_atomic (extension word) }
+{
+    let found = rv_extensions::decode(word)?;
+    let atomic = atomic_of(found.op)?;
+    Some(Instruction::Atomic {
+        atomic,
+        rd: Register::new(found.rd),
+        rs1: Register::new(found.rs1),
+        rs2: Register::new(found.rs2),
+    })
+}
+
 /// Returns the instruction of a word, if it is one.
-#[inline(always)]
 #[tactic(auto, unfolding(crate::specs::Instructions::row_of))]
 pub fn row_of(word: u32) -> Option<Instruction>
     ensures { result ≡ row_of word }
 {
-    Some(instruction_of(decode(word)?))
+    match decode(word) {
+        Some(insn) => Some(instruction_of(insn)),
+        None => atomic_row_of(word),
+    }
 }
 
 /// Returns the instruction of a half, if it is one.

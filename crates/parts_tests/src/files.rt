@@ -104,12 +104,12 @@ fn begin_at_fours() -> bool {
         && isa.aligns(0xFFFF_FFFC)
         && isa.unit() == 4
         && !isa.has_halves()
+        && !isa.has_atomics()
         && !isa.is_half(0x4502)
 }
 
-/// Returns whether those of RV32IMC may at multiples of 2, and have two bytes unless the two lowest bits are set.
-fn begin_at_twos() -> bool {
-    let isa = Isa::Rv32imc;
+/// Returns whether those of a set with C may at multiples of 2, and have two bytes unless the two lowest bits are set.
+fn begin_at_twos(isa: Isa) -> bool {
     isa.aligns(0x10004)
         && isa.aligns(0x10006)
         && !isa.aligns(0x10005)
@@ -166,7 +166,9 @@ fn is_coded_for(alloc: Global, file: &[u8], isa: Isa, row: &Coded) -> bool {
     match read_for(alloc, file, Profile { isa }) {
         Ok(image) => match isa {
             Isa::Rv32im => image.is_word(*addr) == *word,
-            Isa::Rv32imc => image.is_word(*addr) == *long && image.is_half_word(*addr) == *half,
+            Isa::Rv32imc | Isa::Rv32imac => {
+                image.is_word(*addr) == *long && image.is_half_word(*addr) == *half
+            }
         },
         Err(_) => false,
     }
@@ -176,7 +178,9 @@ fn is_coded_for(alloc: Global, file: &[u8], isa: Isa, row: &Coded) -> bool {
 fn is_coded(alloc: Global, row: &Coded) -> bool {
     let mut file = PROGRAM;
     change(&mut file, row.0);
-    is_coded_for(alloc, &file, Isa::Rv32im, row) && is_coded_for(alloc, &file, Isa::Rv32imc, row)
+    is_coded_for(alloc, &file, Isa::Rv32im, row)
+        && is_coded_for(alloc, &file, Isa::Rv32imc, row)
+        && is_coded_for(alloc, &file, Isa::Rv32imac, row)
 }
 
 /// Returns whether there is one segment, with bytes or without.
@@ -328,7 +332,13 @@ fn files_by_hand(rt: HostRuntime) {
         is_read_for(rt.alloc(), usual),
     );
     holds(&rt, "instructions of 32 bits", begin_at_fours());
-    holds(&rt, "those of 16 bits too", begin_at_twos());
+    holds(&rt, "those of 16 bits too", begin_at_twos(Isa::Rv32imc));
+    holds(&rt, "and atomic ones", begin_at_twos(Isa::Rv32imac));
+    holds(
+        &rt,
+        "atomic instructions in one set",
+        Isa::Rv32imac.has_atomics() && !Isa::Rv32imc.has_atomics(),
+    );
     comes(
         &rt,
         "at the limit",

@@ -7,7 +7,7 @@ use Rattle.instructions.specs.Codes.{row_of_code}
 use Rattle.instructions.specs.declared.instruction.Instruction.{Instruction}
 use Rattle.instructions.specs.declared.instruction.Instruction.TheVariants.{LoadUpper, AddUpper, Jump, JumpRegister}
 use Rattle.instructions.specs.declared.instruction.Instruction.TheVariants.{Branch, Load, Store, Immediate, Registers}
-use Rattle.instructions.specs.declared.instruction.Instruction.TheVariants.{CallEnvironment}
+use Rattle.instructions.specs.declared.instruction.Instruction.TheVariants.{CallEnvironment, Atomic}
 use Rattle.guest_elf.specs.Profiles.{is_aligned}
 use Rattle.guest_machine.specs.State.{Core, State}
 use Rattle.guest_machine.specs.Registers.{set_register}
@@ -18,7 +18,7 @@ use Rattle.step_uses.specs.declared.passing.Passing.{Passing}
 use Rattle.step_uses.specs.declared.passing.Passing.TheVariants.{Looks, Keeps, Overwrites}
 
 -- is a register an operand of an instruction? Each register counts as one of an environment call, as the values of some
--- decide which others the call looks at
+-- decide which others the call looks at, and of an atomic instruction, which is a load, a store or both
 unfoldable pub reads : Option Instruction → ℕ → Bool
 reads (Some (JumpRegister rd rs1 imm)) r = r == rs1
 reads (Some (Branch test rs1 rs2 imm)) r = (r == rs1) || (r == rs2)
@@ -27,6 +27,7 @@ reads (Some (Store width rs1 rs2 imm)) r = (r == rs1) || (r == rs2)
 reads (Some (Immediate operation rd rs1 imm)) r = r == rs1
 reads (Some (Registers operation rd rs1 rs2)) r = (r == rs1) || (r == rs2)
 reads (Some CallEnvironment) r = true
+reads (Some (Atomic atomic rd rs1 rs2)) r = true
 reads _ r = false
 
 -- is it the destination of an instruction?

@@ -36,7 +36,7 @@ fn reads(row: &Instruction, register: Register) -> bool
         Instruction::Store { rs1, rs2, .. } => r == rs1.number() || r == rs2.number(),
         Instruction::Immediate { rs1, .. } => r == rs1.number(),
         Instruction::Registers { rs1, rs2, .. } => r == rs1.number() || r == rs2.number(),
-        Instruction::CallEnvironment => true,
+        Instruction::CallEnvironment | Instruction::Atomic { .. } => true,
         _ => false,
     }
 }

@@ -54,6 +54,7 @@ impl Guest {
                 raised: false,
             },
             isa: image.profile().isa,
+            reserved: None,
         })
     }
 
@@ -130,6 +131,7 @@ impl Guest {
                 raised: self.noted.raised,
             },
             isa: self.isa,
+            reserved: self.reserved,
         })
     }
 }

@@ -26,17 +26,19 @@ impl Progress {
 }
 
 impl Guest {
-    /// Returns whether another guest has the same registers, pc, status and instruction set, and is as far.
+    /// Returns whether another guest has the same registers, pc, status, instruction set and reservation, and is as far.
     fn has_core_of(&self, other: &Guest) -> bool
         ensures pc { IsTrue result → self.now.pc ≡ other.now.pc }
         ensures status { IsTrue result → self.now.status ≡ other.now.status }
         ensures isa { IsTrue result → self.now.isa ≡ other.now.isa }
+        ensures reserved { IsTrue result → self.now.reserved ≡ other.now.reserved }
         ensures registers { IsTrue result → self.now.registers ≡ other.now.registers }
         ensures progress { IsTrue result → self.now.progress ≡ other.now.progress }
     {
         self.pc == other.pc
             && self.status == other.status
             && self.isa == other.isa
+            && self.reserved == other.reserved
             && self.progress.is_same(&other.progress)
             && are_same(&self.registers, &other.registers)
     }

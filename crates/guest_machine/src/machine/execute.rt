@@ -24,7 +24,7 @@ use std::alloc::AllocError;
 
 /// Stores the low bytes of a number, and returns the first inaccessible address. Each width is separate, so that a word is stored as one.
 #[inline(always)]
-fn put(
+pub(super) fn put(
     memory: &mut CachedMemory,
     start: u32,
     width: Width,
@@ -71,7 +71,7 @@ impl Guest {
 
     /// The low bytes at an address and their undefined bits; the first inaccessible one is noted.
     #[inline(always)]
-    fn take(&mut self, start: u32, width: Width) -> Result<Bits, AllocError>
+    pub(super) fn take(&mut self, start: u32, width: Width) -> Result<Bits, AllocError>
         ensures notes { OnOk result (Notes self.old self.new (core_of self.old) (access_errors (core_of self.old) (ReadError (width_len width)) start (width_len width))) }
         ensures value { IfOk result (λ bits. bits.value ≡ little_word (window (bytes_of self.old) start (width_len width))) }
         ensures undef { IfOk result (λ bits. bits.undef ≡ taken_undef (core_of self.old) start (width_len width)) }
@@ -89,7 +89,7 @@ impl Guest {
     /// A load, with each test that it needs.
     #[inline(never)]
     #[tactic(auto, unfolding(crate::specs::Doing::note_events), using(crate::proofs::Showing::note_events_append))]
-    fn load_testing(
+    pub(super) fn load_testing(
         &mut self,
         next: u32,
         width: Width,
@@ -182,7 +182,7 @@ impl Guest {
     /// A store, with each test that it needs.
     #[inline(never)]
     #[tactic(auto, unfolding(crate::specs::Doing::note_events), using(crate::proofs::Showing::note_events_append))]
-    fn store_testing(
+    pub(super) fn store_testing(
         &mut self,
         next: u32,
         width: Width,

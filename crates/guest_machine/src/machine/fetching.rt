@@ -141,15 +141,13 @@ impl Guest {
     pub(super) fn decoded_half(&self) -> Option<Instruction>
         ensures { IfSome result (λ row. IsDecoded (core_of self.now) (bytes_of self.now) 2 row) }
     {
-        match self.isa {
-            Isa::Rv32im => None,
-            Isa::Rv32imc => {
-                if !self.is_ready() {
-                    return None;
-                }
-                self.memory.decoded_half(self.pc)
-            }
+        if !self.isa.has_halves() {
+            return None;
         }
+        if !self.is_ready() {
+            return None;
+        }
+        self.memory.decoded_half(self.pc)
     }
 
     /// Keeps the instruction at pc, if no bit of its code is undefined.

@@ -18,7 +18,7 @@ use crate::meter::Meter;
 use crate::setup::{Setup, Touched};
 use error_events::laws::groups_grow;
 use guest_elf::Hook;
-use instructions::{Code, Instruction, Register, computed};
+use instructions::{Atomic, Code, Instruction, Register, computed};
 use run_values::{Span, Stop};
 use std::alloc::AllocError;
 
@@ -36,7 +36,7 @@ pub(super) const NOTHING: Used = Used {
 
 impl Used {
     #[inline(always)]
-    fn reading(range: Span) -> Used
+    pub(super) fn reading(range: Span) -> Used
         ensures { result ≡ used_of (reading range) }
     {
         Used {
@@ -46,11 +46,22 @@ impl Used {
     }
 
     #[inline(always)]
-    fn writing(range: Span) -> Used
+    pub(super) fn writing(range: Span) -> Used
         ensures { result ≡ used_of (writing range) }
     {
         Used {
             reads: None,
+            writes: Some(range),
+        }
+    }
+
+    /// A range that is read, and then written.
+    pub(super) fn updating(range: Span) -> Used
+        ensures reads { result.reads ≡ Some range }
+        ensures writes { result.writes ≡ Some range }
+    {
+        Used {
+            reads: Some(range),
             writes: Some(range),
         }
     }
@@ -90,6 +101,25 @@ impl Guest {
         ensures uses { IfOk result (λ used. used ≡ used_of (uses_by self.old (Some Instruction.CallEnvironment) setup.now)) }
     {
         let used = self.call_environment(next, setup)?;
+        Ok(used)
+    }
+
+    /// An atomic instruction.
+    #[inline(always)]
+    #[tactic(auto, unfolding(crate::specs::Exec::row_effect, crate::specs::Exec::row_uses, crate::specs::Exec::calls_heap, crate::specs::Exec::row_asks))]
+    fn access_atomically(
+        &mut self,
+        setup: &Setup,
+        next: u32,
+        atomic: Atomic,
+        rd: Register,
+        rs1: Register,
+        rs2: Register,
+    ) -> Result<Used, AllocError>
+        ensures does { OnOk result (DoesRow self.old self.new next (Some (Instruction.Atomic atomic rd rs1 rs2)) setup.now) }
+        ensures uses { IfOk result (λ used. used ≡ used_of (uses_by self.old (Some (Instruction.Atomic atomic rd rs1 rs2)) setup.now)) }
+    {
+        let used = self.atomic(next, atomic, rd, rs1, rs2)?;
         Ok(used)
     }
 
@@ -182,6 +212,12 @@ impl Guest {
                 self.stop(Stop::Break);
                 Ok(NOTHING)
             }
+            Instruction::Atomic {
+                atomic,
+                rd,
+                rs1,
+                rs2,
+            } => self.access_atomically(setup, self.pc.wrapping_add(len), atomic, rd, rs1, rs2),
         }
     }
 
