@@ -151,7 +151,7 @@ not-seen false h = refl
 
 -- each step before one at which the edit hasn't shown
 pub goes-alike : Laws → (effect : Effect) (start : State) (setup other : Setup) (marks edited : List Alteration) (n : ℕ)
-    → DifferBy effect setup marks other edited
+    → DifferBy start.core.isa effect setup marks other edited
     → IsBelowFirst (EffectShows effect start setup marks) n → (k : ℕ) → k < n
     → SameStep start setup marks other edited k
 goes-alike laws Nowhere start setup other marks edited n d hidden k l =
@@ -185,7 +185,8 @@ pub right-cut : Laws → (effect : Effect) (old new : Trail) (kept : ℕ) → ma
     → table_of new ≡ table_of old → 0 < kept
     → (start : State) (setup other : Setup) (marks edited : List Alteration)
     → IsBelowFirst (EffectShows effect start setup marks) (1024 * (kept - 1))
-    → DifferBy effect setup marks other edited → IsRightFor old start setup marks → IsRightFor new start other edited
+    → DifferBy start.core.isa effect setup marks other edited → IsRightFor old start setup marks
+    → IsRightFor new start other edited
 right-cut laws effect old new kept e t some start setup other marks edited hidden d h =
     right-for-fewer old new kept (1024 * (kept - 1)) start setup marks other edited e t some (omega arith)
     (goes-alike laws effect start setup other marks edited (1024 * (kept - 1)) d hidden) h

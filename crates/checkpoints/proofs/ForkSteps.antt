@@ -8,7 +8,6 @@ use Rattle.guest_machine.specs.State.{State}
 use Rattle.instructions.specs.Codes.{len_of}
 use Rattle.instructions.specs.declared.code.Code.{Code}
 use Rattle.guest_machine.specs.Run.{pre, poked}
-use Rattle.guest_machine.specs.Laws.{KeepsPokes}
 use Rattle.run_values.specs.declared.alteration.Alteration.{Alteration}
 use Rattle.guest_machine.specs.declared.setup.Setup.{Setup}
 use Rattle.checkpoints.specs.Entries.{below, entry_of}
@@ -19,7 +18,7 @@ use Rattle.checkpoints.specs.Effects.{EffectShows, Run, LeadsTo, effect_by, writ
 use Rattle.checkpoints.specs.Forks.{IsLastUnshown, WritesWhole}
 use Rattle.checkpoints.specs.declared.effect.Effect.{Effect}
 use Rattle.checkpoints.specs.declared.effect.Effect.TheVariants.{After, Patch, Anew}
-use Rattle.checkpoints.proofs.RunSteps.{same-pre, pre-poked}
+use Rattle.checkpoints.proofs.RunSteps.{PokeLaws, same-pre, pre-poked}
 use Rattle.checkpoints.proofs.FirstSteps.{is-low}
 use Rattle.checkpoints.proofs.TrailSteps.{touches-none}
 use Rattle.checkpoints.proofs.EffectSteps.{Laws, goes-alike, told-use}
@@ -96,7 +95,7 @@ unfolding pre
 pre-first start setup marks = refl
 
 -- the state of the edited run before a step at which the edit doesn't show
-pub pre-led : Laws → KeepsPokes → (effect : Effect) (one other : Run) (k : ℕ) → WritesWhole effect
+pub pre-led : Laws → PokeLaws → (effect : Effect) (one other : Run) (k : ℕ) → WritesWhole effect
     → LeadsTo effect one other
     → IsBelowFirst (EffectShows effect one.start one.setup one.marks) k
     → pre other.start other.setup other.marks k ≡ written_by effect (pre one.start one.setup one.marks k)

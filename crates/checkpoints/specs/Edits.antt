@@ -16,7 +16,7 @@ use Rattle.checkpoints.specs.Trails.{machines_of, is_short, last_held, KeepsJust
 use Rattle.checkpoints.specs.declared.trail.Trail.{Trail}
 use Rattle.checkpoints.specs.declared.effect.Effect.{Effect}
 use Rattle.checkpoints.specs.declared.effect.Effect.TheVariants.{Patch}
-use Rattle.checkpoints.specs.Writes.{write_code}
+use Rattle.checkpoints.specs.Writes.{touch_code}
 
 -- ---- for which run it is right
 
@@ -31,13 +31,15 @@ IsRightForLed effect old new =
 -- for that run, except for a code that is still to be written
 abbrev pub IsRightForEdited : Effect → Trail → Trail → Type 0
 IsRightForEdited effect old new =
-    (start : State) (setup other : Setup) (marks edited : List Alteration) → DifferBy effect setup marks other edited
+    (start : State) (setup other : Setup) (marks edited : List Alteration)
+    → DifferBy start.core.isa effect setup marks other edited
     → IsRightFor old start setup marks → IsRightFor new start other edited
 
--- for a start with a code written, if no mark writes a byte of it
+-- for a start with a code written, if no mark writes a byte of it or may go by one
 abbrev pub IsRightForPoked : ℕ → Code → Trail → Trail → Type 0
 IsRightForPoked addr code old new =
-    (start : State) (setup : Setup) (marks : List Alteration) → write_code marks addr (len_of code) ≡ false
+    (start : State) (setup : Setup) (marks : List Alteration)
+    → touch_code start.core.isa marks addr (len_of code) ≡ false
     → IsRightFor old start setup marks → IsRightFor new (poked start addr code) setup marks
 
 -- machine i of the new trail is that of the old one, with the code written if the edit writes one

@@ -1,5 +1,6 @@
 -- The effect of an edit: at which steps of a run the edit may show, and from which run to which it leads.
 use Rattle.std.specs.Prelude.{◌≡◌, ℕ, ◌<◌, Bool, true, false, List}
+use Rattle.guest_elf.specs.declared.profile.Isa.{Isa}
 use Rattle.guest_machine.specs.State.{State}
 use Rattle.instructions.specs.Codes.{len_of}
 use Rattle.instructions.specs.declared.code.Code.{Code}
@@ -13,7 +14,7 @@ use Rattle.checkpoints.specs.FirstEffects.{IsBelowFirst, MarkShows, InputShows, 
 use Rattle.checkpoints.specs.declared.effect.Effect.{Effect}
 use Rattle.checkpoints.specs.declared.effect.Effect.TheVariants.{Nowhere, After, Input, End, Heap, Patch}
 use Rattle.checkpoints.specs.declared.effect.Effect.TheVariants.{Anew}
-use Rattle.checkpoints.specs.Writes.{write_code}
+use Rattle.checkpoints.specs.Writes.{touch_code}
 
 -- the steps of a run at which an edit with this effect may show
 abbrev pub EffectShows : Effect → State → Setup → List Alteration → ℕ → Type 0
@@ -53,17 +54,18 @@ pub record DifferInHeap (setup other : Setup) : Type 0 where
   pub input : setup.input ≡ other.input
   pub hooks : setup.hooks ≡ other.hooks
 
--- setups and marks before and after an edit with this effect. A code of which a mark writes a byte too is written anew,
--- as the machines from the mark on hold what the mark wrote
-abbrev pub DifferBy : Effect → Setup → List Alteration → Setup → List Alteration → Type 0
-DifferBy Nowhere setup marks other edited = (setup ≡ other) × (marks ≡ edited)
-DifferBy (After s) setup marks other edited = (setup ≡ other) × DifferAtStep s marks edited
-DifferBy (Input offset) setup marks other edited = SharesFront offset setup other × (marks ≡ edited)
-DifferBy End setup marks other edited = Extends setup other × (marks ≡ edited)
-DifferBy Heap setup marks other edited = DifferInHeap setup other × (marks ≡ edited)
-DifferBy (Patch addr code) setup marks other edited =
-    (setup ≡ other) × (marks ≡ edited) × (write_code marks addr (len_of code) ≡ false)
-DifferBy (Anew addr code) setup marks other edited = (setup ≡ other) × (marks ≡ edited)
+-- setups and marks before and after an edit with this effect, of runs with an instruction set. A code of which a mark
+-- writes a byte too, or may go by one, is written anew, as the machines from the mark on hold what the mark wrote, or
+-- have gone by the code that was there
+abbrev pub DifferBy : Isa → Effect → Setup → List Alteration → Setup → List Alteration → Type 0
+DifferBy isa Nowhere setup marks other edited = (setup ≡ other) × (marks ≡ edited)
+DifferBy isa (After s) setup marks other edited = (setup ≡ other) × DifferAtStep s marks edited
+DifferBy isa (Input offset) setup marks other edited = SharesFront offset setup other × (marks ≡ edited)
+DifferBy isa End setup marks other edited = Extends setup other × (marks ≡ edited)
+DifferBy isa Heap setup marks other edited = DifferInHeap setup other × (marks ≡ edited)
+DifferBy isa (Patch addr code) setup marks other edited =
+    (setup ≡ other) × (marks ≡ edited) × (touch_code isa marks addr (len_of code) ≡ false)
+DifferBy isa (Anew addr code) setup marks other edited = (setup ≡ other) × (marks ≡ edited)
 
 -- a state with the code written, if the effect writes one
 abbrev pub written_by : Effect → State → State
@@ -71,13 +73,13 @@ written_by (Patch addr code) s = poked s addr code
 written_by (Anew addr code) s = poked s addr code
 written_by _ s = s
 
--- the effect of another code at an address: whether a mark writes a byte of it, too
+-- the effect of another code at an address: whether a mark writes a byte of it, too, or may go by one
 abbrev pub effect_by : Bool → ℕ → Code → Effect
 effect_by true addr code = Anew addr code
 effect_by false addr code = Patch addr code
 
-abbrev pub code_effect : List Alteration → ℕ → Code → Effect
-code_effect marks addr code = effect_by (write_code marks addr (len_of code)) addr code
+abbrev pub code_effect : Isa → List Alteration → ℕ → Code → Effect
+code_effect isa marks addr code = effect_by (touch_code isa marks addr (len_of code)) addr code
 
 -- a run, by what it begins with
 pub record Run : Type 0 where
@@ -88,4 +90,4 @@ pub record Run : Type 0 where
 -- an edit with this effect leads from one run to another
 pub record LeadsTo (effect : Effect) (one other : Run) : Type 0 where
   pub start : other.start ≡ written_by effect one.start
-  pub differ : DifferBy effect one.setup one.marks other.setup other.marks
+  pub differ : DifferBy one.start.core.isa effect one.setup one.marks other.setup other.marks

@@ -1,6 +1,9 @@
--- Whether alterations write a byte of a code. A patch of such a code must not be poked over what they have written.
-use Rattle.std.specs.Prelude.{ℕ, Bool, List}
+-- Whether alterations write a byte of a code, or go by bytes. A patch of such a code must not be poked over what they
+-- have written or gone by.
+use Rattle.std.specs.Prelude.{ℕ, ◌||◌, Bool, List}
 use Rattle.std.specs.List.{list_any}
+use Rattle.guest_elf.specs.declared.profile.Isa.{Isa}
+use Rattle.guest_machine.specs.Alterations.{goes_by_bytes}
 use Rattle.guest_machine.specs.Spans.{covers}
 use Rattle.run_values.specs.Alterations.{writes_of}
 use Rattle.run_values.specs.declared.alteration.Act.{Act}
@@ -11,6 +14,10 @@ use Rattle.checkpoints.specs.Words.{meets_code}
 abbrev pub writes_code : Act → ℕ → ℕ → Bool
 writes_code act addr len = meets_code (covers (writes_of act)) addr len
 
+-- or go by one? Where its step stands isn't known of a skip, so each code counts for one that goes by bytes
+abbrev pub touches_code : Isa → Act → ℕ → ℕ → Bool
+touches_code isa act addr len = goes_by_bytes isa act || writes_code act addr len
+
 -- may one of these alterations?
-abbrev pub write_code : List Alteration → ℕ → ℕ → Bool
-write_code marks addr len = list_any (λ mark. writes_code mark.act addr len) marks
+abbrev pub touch_code : Isa → List Alteration → ℕ → ℕ → Bool
+touch_code isa marks addr len = list_any (λ mark. touches_code isa mark.act addr len) marks

@@ -15,8 +15,9 @@ pub enum Effect {
     End,
     /// Once a heap call was executed: the options of the heap are others.
     Heap,
-    /// After a step that touches a word with a byte of the code at an address: another code is written there, of which no mark writes a byte.
+    /// After a step that touches a word with a byte of the code at an address: another code is written there, of which no mark writes a byte or
+    /// goes by one.
     Patch { addr: u32, code: Code },
-    /// From step 1 on: another code is written at an address, of which marks write a byte too. The run is begun anew.
+    /// From step 1 on: another code is written at an address, of which marks write a byte too or may go by one. The run is begun anew.
     Anew { addr: u32, code: Code },
 }

@@ -19,8 +19,11 @@ use crate::effect::Effect;
 use crate::reaching::SPACING;
 use crate::running::{apply_marks, next_step, pass_marks, run_on};
 use crate::trail::Trail;
-use crate::writes::write_code;
-use guest_machine::laws::{end_stays, keeps_end, keeps_heap, keeps_input, keeps_pokes, reads_on};
+use crate::writes::touch_code;
+use guest_elf::Isa;
+use guest_machine::laws::{
+    end_stays, keeps_end, keeps_heap, keeps_input, keeps_isa, keeps_pokes, reads_on,
+};
 use guest_machine::{Alteration, Machine, Meter, Setup};
 use std::alloc::AllocError;
 
@@ -54,6 +57,7 @@ impl Fork {
         end_stays();
         keeps_heap();
         keeps_pokes();
+        keeps_isa();
         let _turns = meter.read();
         let written = written_copy(&self.machine, effect)?;
         let machine = run_on(written, setup, marks, self.step, step, meter)?;
@@ -76,6 +80,7 @@ impl Fork {
         end_stays();
         keeps_heap();
         keeps_pokes();
+        keeps_isa();
         let copy = self.machine.share_ready()?;
         let machine = run_on(copy, setup, marks, self.step, step, &mut Meter::new())?;
         Ok(Fork { machine, step })
@@ -118,13 +123,15 @@ impl Trail {
     }
 
     /// Returns a fork of the run before the last step, up to another, with no earlier use of a word with a byte of the code of `len` bytes, 2
-    /// or 4, at an address; before step 0 if a mark writes a byte of it. Each run in which another code is written there continues from it.
+    /// or 4, at an address; before step 0 if a mark writes a byte of it, or may go by one with this instruction set. Each run in which another
+    /// code is written there continues from it.
     #[tactic(auto, unfolding(crate::specs::Trails::last_held))]
     pub fn fork_at_code(
         &mut self,
         addr: u32,
         len: u32,
         last: u32,
+        isa: Isa,
         setup: &Setup,
         marks: &[Alteration],
     ) -> Result<Fork, AllocError>
@@ -132,12 +139,12 @@ impl Trail {
         requires code { IsCodeIn (loaded_of self.old) addr len }
         ensures right { (start : State) → IsRightFor self.old start setup.now marks.now → IsRightFor self.new start setup.now marks.now }
         ensures fork { IfOk result (λ fork. (code : CodeOf) (start : State) → len_of code ≡ len → IsRightFor self.old start setup.now marks.now
-            → IsForkFor (code_effect marks.now addr code) (record { start = start; setup = setup.now; marks = marks.now }) last fork) }
+            → IsForkFor (code_effect isa marks.now addr code) (record { start = start; setup = setup.now; marks = marks.now }) last fork) }
         ensures short { is_short self.new ≡ is_short self.old }
         ensures loaded { loaded_of self.new ≡ loaded_of self.old }
     {
         self.reach((last / SPACING + 1) as usize, setup, marks)?;
-        let step = self.last_without(addr, len, last, marks);
+        let step = self.last_without(addr, len, last, isa, marks);
         self.fork_at(step, setup, marks)
     }
 
@@ -183,13 +190,13 @@ impl Trail {
     }
 
     /// The last step, up to another, at which another code at an address doesn't show.
-    fn last_without(&self, addr: u32, len: u32, last: u32, marks: &[Alteration]) -> u32
+    fn last_without(&self, addr: u32, len: u32, last: u32, isa: Isa, marks: &[Alteration]) -> u32
         requires held { last < last_held self.now }
         requires code { IsCodeIn (loaded_of self.now) addr len }
         ensures within { result ≤ last }
-        ensures step { (code : CodeOf) (setup : SetupOf) → len_of code ≡ len → IsStepOf (code_effect marks.now addr code) self.now setup marks.now last result }
+        ensures step { (code : CodeOf) (setup : SetupOf) → len_of code ≡ len → IsStepOf (code_effect isa marks.now addr code) self.now setup marks.now last result }
     {
-        if write_code(marks, addr, len) {
+        if touch_code(isa, marks, addr, len) {
             return 0;
         }
         self.last_unused(addr, len, last)

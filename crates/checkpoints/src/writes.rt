@@ -1,11 +1,12 @@
-//! Whether alterations write a code.
+//! Whether alterations write a code, or go by bytes.
 ghost use Rattle.std.specs.Prelude.{◌≡◌};
 ghost use Rattle.shadow_memory.specs.Ranges.{is_in};
 ghost use Rattle.checkpoints.specs.Effects.{code_effect};
 ghost use Rattle.checkpoints.specs.Words.{meets_code};
-ghost use Rattle.checkpoints.specs.Writes.{write_code, writes_code};
+ghost use Rattle.checkpoints.specs.Writes.{touch_code, touches_code, writes_code};
 
 use crate::effect::Effect;
+use guest_elf::Isa;
 use guest_machine::{Act, Alteration, Code, Span};
 
 /// Whether an address is in a range.
@@ -39,18 +40,30 @@ fn writes_code(act: &Act, addr: u32, len: u32) -> bool
     }
 }
 
-/// Whether one of some alterations may change a byte of the code at an address.
-pub(crate) fn write_code(marks: &[Alteration], addr: u32, len: u32) -> bool
-    ensures { result ≡ write_code marks.now addr len }
+/// Whether an act may change a byte of the code at an address, or goes by bytes: so a skip does among instructions of 16 bits.
+fn touches_code(isa: Isa, act: &Act, addr: u32, len: u32) -> bool
+    ensures { result ≡ touches_code isa act.now addr len }
 {
-    marks.iter().any(|mark| writes_code(&mark.act, addr, len))
+    if isa.has_halves() && matches!(act, Act::Skip) {
+        return true;
+    }
+    writes_code(act, addr, len)
+}
+
+/// Whether one of some alterations may change a byte of the code at an address, or goes by bytes.
+pub(crate) fn touch_code(isa: Isa, marks: &[Alteration], addr: u32, len: u32) -> bool
+    ensures { result ≡ touch_code isa marks.now addr len }
+{
+    marks
+        .iter()
+        .any(|mark| touches_code(isa, &mark.act, addr, len))
 }
 
 /// Returns the effect of another code at an address, in a run with alterations.
-pub fn code_effect(marks: &[Alteration], addr: u32, code: Code) -> Effect
-    ensures { result ≡ code_effect marks.now addr code }
+pub fn code_effect(isa: Isa, marks: &[Alteration], addr: u32, code: Code) -> Effect
+    ensures { result ≡ code_effect isa marks.now addr code }
 {
-    if write_code(marks, addr, code.len()) {
+    if touch_code(isa, marks, addr, code.len()) {
         Effect::Anew { addr, code }
     } else {
         Effect::Patch { addr, code }

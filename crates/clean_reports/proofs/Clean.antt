@@ -13,18 +13,18 @@ use Rattle.clean_reports.specs.Uses.{NoUse}
 use Rattle.clean_reports.proofs.HeapRuns.{heap-stays-open, blocks-open}
 use Rattle.clean_reports.proofs.Inputs.{has-bytes}
 use Rattle.clean_reports.proofs.Reports.{reports-agree}
-use Rattle.clean_reports.proofs.Runs.{after-agree, begun, runs-agree, states-sym}
+use Rattle.clean_reports.proofs.Runs.{after-agree, begun, loose-along, runs-agree, states-sym}
 use Rattle.clean_reports.proofs.Steps.{StepAgrees, step-agrees}
 
 -- a run and a disturbed one, and one from another start
 module _ (image : Image) (start : State) (setup : Setup) (law : StepAgrees setup) (marks : List Alteration) (n : ℕ)
-    (begins : IsStartOf image start) (loose : DefineNothing marks) (hide : HideNothing marks)
+    (begins : IsStartOf image start) (loose : DefineNothing start.core.isa marks) (hide : HideNothing marks)
     (none : NoUse (pre start setup marks n).events) where
   pub run-agrees : (states : ℕ → State) → IsDisturbed start setup marks n states
       → StatesAgree (post start setup marks n) (after_marks n marks (states n))
   unfolding post
   run-agrees states run =
-      after-agree n marks (pre start setup marks n) (states n) loose
+      after-agree n marks (pre start setup marks n) (states n) (loose-along start setup marks n loose)
       (runs-agree start setup law marks states loose n run
       (λ k h. blocks-open _ (heap-stays-open image start setup marks begins hide k)) none)
 
@@ -32,7 +32,7 @@ module _ (image : Image) (start : State) (setup : Setup) (law : StepAgrees setup
       → StatesAgree (post start setup marks n) (post other setup marks n)
   unfolding post
   start-agrees other first =
-      after-agree n marks (pre start setup marks n) (pre other setup marks n) loose
+      after-agree n marks (pre start setup marks n) (pre other setup marks n) (loose-along start setup marks n loose)
       (begun start other setup law marks loose first n
       (λ k h. blocks-open _ (heap-stays-open image start setup marks begins hide k)) none)
 

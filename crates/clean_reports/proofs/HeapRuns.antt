@@ -69,15 +69,15 @@ abbrev MakesNoRange : Act → Type 0
 MakesNoRange (Make addr len kind) = ⊥
 MakesNoRange _ = Unit {0}
 
-left-by : (act : Act) (c : Core) → MakesNoRange act → LeavesHeap c (core_by act c)
-left-by (Make addr len kind) c none = absurd none
-left-by (Set r value undef) c none = sets c r _
-left-by (Flip r mask) c none = sets c r _
-left-by (Jump target) c none = goes c target
-left-by (FlipPc mask) c none = goes c _
-left-by (Write addr width value) c none = stores c addr _ 0
-left-by (Turn addr mask) c none = as-is c
-left-by Skip c none = goes c _
+left-by : (act : Act) (c : Core) (f : ℕ → ℕ) → MakesNoRange act → LeavesHeap c (core_by act c f)
+left-by (Make addr len kind) c f none = absurd none
+left-by (Set r value undef) c f none = sets c r _
+left-by (Flip r mask) c f none = sets c r _
+left-by (Jump target) c f none = goes c target
+left-by (FlipPc mask) c f none = goes c _
+left-by (Write addr width value) c f none = stores c addr _ 0
+left-by (Turn addr mask) c f none = as-is c
+left-by Skip c f none = goes c _
 
 -- a mark that hides nothing keeps the heap open
 open-act : (s : State) (step : ℕ) (act : Act) → HidesNothing act → HeapIsOpen s.core
@@ -88,7 +88,7 @@ open-act s step (Make addr len kind) (inr miss) h =
     (on false s.core (record s.core { shadow = made_so s.core.shadow addr len kind })
     (missed-made s.core addr len kind miss) (h, tt)).0
 open-act s step act hide h =
-    (on false s.core _ (left-if (is_running s.core.status) s.core _ (left-by act s.core tt)) (h, tt)).0
+    (on false s.core _ (left-if (is_running s.core.status) s.core _ (left-by act s.core s.bytes tt)) (h, tt)).0
 
 -- and one outside of the heap region leaves it
 missed-act : (s : State) (step : ℕ) (act : Act) → MissesTheHeap act → Stands true s.core
@@ -98,7 +98,7 @@ missed-act s step (Make addr len kind) miss h =
     on true s.core (record s.core { shadow = made_so s.core.shadow addr len kind })
     (missed-made s.core addr len kind miss) h
 missed-act s step act miss h =
-    on true s.core _ (left-if (is_running s.core.status) s.core _ (left-by act s.core tt)) h
+    on true s.core _ (left-if (is_running s.core.status) s.core _ (left-by act s.core s.bytes tt)) h
 
 open-marks : (k : ℕ) (marks : List Alteration) (s : State) → HideNothing marks → HeapIsOpen s.core
     → HeapIsOpen (fold altered s (filter (λ m. m.step == k) marks)).core

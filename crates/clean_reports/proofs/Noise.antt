@@ -26,7 +26,8 @@ use Rattle.clean_reports.proofs.Clean.{law-of}
 use Rattle.clean_reports.proofs.HeapRuns.{blocks-open, heap-stays-open}
 use Rattle.clean_reports.proofs.Memory.{changed-bits, kind-bits}
 use Rattle.clean_reports.proofs.Registers.{set-agrees}
-use Rattle.clean_reports.proofs.Runs.{after-agree, begun, fewer, marks-events, runs-agree, states-sym, states-trans}
+use Rattle.clean_reports.proofs.Runs.{after-agree, begun, fewer, loose-along, marks-events, runs-agree, states-sym}
+use Rattle.clean_reports.proofs.Runs.{states-trans}
 use Rattle.clean_reports.proofs.Steps.{StepAgrees}
 use Rattle.clean_reports.proofs.Values.{known-agrees}
 
@@ -131,7 +132,7 @@ noise-agrees s noise d small = record {
 -- the runs --
 
 module _ (image : Image) (start : State) (setup : Setup) (law : StepAgrees setup) (marks : List Alteration)
-    (begins : IsStartOf image start) (small : AreBytes start.bytes) (loose : DefineNothing marks)
+    (begins : IsStartOf image start) (small : AreBytes start.bytes) (loose : DefineNothing start.core.isa marks)
     (hide : HideNothing marks) where
   -- no use before a step, so none before an earlier one
   one-fewer : (k : ℕ) → NoUse (pre start setup marks (suc k)).events → NoUse (pre start setup marks k).events
@@ -172,7 +173,7 @@ module _ (image : Image) (start : State) (setup : Setup) (law : StepAgrees setup
         let here = runs-agree start setup law marks noised loose k run (λ j l. opened j) (one-fewer k none) in
         second-itself _ _ (law (after_marks k marks (pre start setup marks k)) (after_marks k marks (noised k))
         (opened k)
-        (after-agree k marks (pre start setup marks k) (noised k) loose here) none)
+        (after-agree k marks (pre start setup marks k) (noised k) (loose-along start setup marks k loose) here) none)
 
     pub noisy-disturbed : (n : ℕ) → NoUse (pre start setup marks n).events → IsDisturbed start setup marks n noised
     unfolding noisy_run

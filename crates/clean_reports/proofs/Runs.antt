@@ -11,11 +11,16 @@ use Rattle.shadow_memory.specs.declared.cells.RangeKind.TheVariants.{Defined}
 use Rattle.run_values.specs.declared.alteration.Act.{Act}
 use Rattle.run_values.specs.declared.alteration.Act.TheVariants.{Make, Set, Flip, Jump, FlipPc, Write, Turn, Skip}
 use Rattle.run_values.specs.declared.alteration.Alteration.{Alteration}
+use Rattle.guest_elf.specs.Profiles.{has_halves}
 use Rattle.guest_machine.specs.State.{State}
-use Rattle.guest_machine.specs.Exec.{exec}
-use Rattle.guest_machine.specs.Alterations.{altered, altered_bytes, altered_core}
+use Rattle.guest_machine.specs.Effects.{next_of}
+use Rattle.guest_machine.specs.Exec.{exec, half_at}
+use Rattle.guest_machine.specs.Alterations.{altered, altered_bytes, altered_core, len_here}
 use Rattle.guest_machine.specs.Run.{marks_at, after_marks, pre, post}
 use Rattle.guest_machine.specs.declared.setup.Setup.{Setup}
+use Rattle.guest_machine.proofs.AlterSteps.{altered-isa, never-half}
+use Rattle.guest_machine.proofs.IsaLaw.{keeps-isa}
+use Rattle.checkpoints.proofs.RunSteps.{pre-isa}
 use Rattle.clean_reports.specs.Agreement.{ValuesAgree, MemoriesAgree, StatesAgree}
 use Rattle.clean_reports.specs.Uses.{NoUse}
 use Rattle.clean_reports.specs.Heap.{BlocksAreOpen}
@@ -104,7 +109,16 @@ states-sym s t d = record {
 loose-kind : (kind : RangeKind) → defines kind ≡ false → kind ≡ Defined → ⊥
 loose-kind kind e is = false≢true (sym e ∙ ap defines is)
 
-act-agrees : (s t : State) (step : ℕ) (act : Act) → DefinesNothing act → StatesAgree s t
+-- a skip goes as far in both, if it goes by no bytes
+skipped-both : (s t : State) → has_halves s.core.isa ≡ false → StatesAgree s t
+    → next_of s.core (len_here s.core s.bytes) ≡ next_of t.core (len_here t.core t.bytes)
+skipped-both s t none d =
+    let other = sym (ap has_halves d.isa) ∙ none in
+    let halves = never-half s.core.isa (half_at s.core s.bytes) none
+    ∙ sym (never-half t.core.isa (half_at t.core t.bytes) other) in
+    λ i. (d.pc i + cond (halves i) 2 4) % 2 ^ 32
+
+act-agrees : (s t : State) (step : ℕ) (act : Act) → DefinesNothing s.core.isa act → StatesAgree s t
     → StatesAgree (altered s (record { step = step; act = act })) (altered t (record { step = step; act = act }))
 unfolding altered altered_core altered_bytes
 act-agrees s t step (Make addr len kind) loose d = record {
@@ -131,28 +145,35 @@ act-agrees s t step (FlipPc mask) loose d =
     if-running s t _ _ _ _ d (moved-both s t _ _ (ap (λ pc. xor_of pc mask) d.pc) d)
 act-agrees s t step (Write addr width value) loose d = absurd loose
 act-agrees s t step (Turn addr mask) small d = if-running s t _ _ _ _ d (turn-both s t addr mask small d)
-act-agrees s t step Skip loose d =
-    if-running s t _ _ _ _ d (moved-both s t _ _ (ap (λ pc. (pc + 4) % 2 ^ 32) d.pc) d)
+act-agrees s t step Skip none d =
+    if-running s t _ _ _ _ d (moved-both s t _ _ (skipped-both s t none d) d)
 
 -- the marks of step k, in order
-marks-agree : (k : ℕ) (marks : List Alteration) (s t : State) → DefineNothing marks → StatesAgree s t
+marks-agree : (k : ℕ) (marks : List Alteration) (s t : State) → DefineNothing s.core.isa marks → StatesAgree s t
     → StatesAgree (fold altered s (filter (λ m. m.step == k) marks)) (fold altered t (filter (λ m. m.step == k) marks))
 marks-agree k [] s t loose d = d
 marks-agree k (m ∷ ms) s t loose d =
-    go (m.step == k) (λ s t d. marks-agree k ms s t loose.1 d)
+    go (m.step == k)
+    (λ u v same d. marks-agree k ms u v (subst (λ isa. DefineNothing isa ms) (sym same) loose.1) d)
   where
     go : (b : Bool)
-        → ((s t : State) → StatesAgree s t
-        → StatesAgree (fold altered s (filter (λ m. m.step == k) ms)) (fold altered t (filter (λ m. m.step == k) ms)))
+        → ((u v : State) → u.core.isa ≡ s.core.isa → StatesAgree u v
+        → StatesAgree (fold altered u (filter (λ m. m.step == k) ms)) (fold altered v (filter (λ m. m.step == k) ms)))
         → StatesAgree (fold altered s (cond b (m ∷ filter (λ m. m.step == k) ms) (filter (λ m. m.step == k) ms)))
         (fold altered t (cond b (m ∷ filter (λ m. m.step == k) ms) (filter (λ m. m.step == k) ms)))
-    go true rest = rest (altered s m) (altered t m) (act-agrees s t m.step m.act loose.0 d)
-    go false rest = rest s t d
+    go true rest = rest (altered s m) (altered t m) (altered-isa s m) (act-agrees s t m.step m.act loose.0 d)
+    go false rest = rest s t refl d
 
-pub after-agree : (k : ℕ) (marks : List Alteration) (s t : State) → DefineNothing marks → StatesAgree s t
+pub after-agree : (k : ℕ) (marks : List Alteration) (s t : State) → DefineNothing s.core.isa marks → StatesAgree s t
     → StatesAgree (after_marks k marks s) (after_marks k marks t)
 unfolding after_marks
 after-agree k marks s t loose d = marks-agree k marks s t loose d
+
+-- no step changes which marks define nothing
+pub loose-along : (start : State) (setup : Setup) (marks : List Alteration) (k : ℕ)
+    → DefineNothing start.core.isa marks → DefineNothing (pre start setup marks k).core.isa marks
+loose-along start setup marks k loose =
+    subst (λ isa. DefineNothing isa marks) (sym (pre-isa keeps-isa start setup marks k)) loose
 
 -- marks raise no errors
 fold-events : (marks : List Alteration) (s : State) → (fold altered s marks).events ≡ s.events
@@ -170,7 +191,7 @@ unfolding exec
 fewer s setup none = left-none s.events _ none
 
 module _ (start : State) (setup : Setup) (law : StepAgrees setup) (marks : List Alteration) (states : ℕ → State)
-    (loose : DefineNothing marks) where
+    (loose : DefineNothing start.core.isa marks) where
   -- a disturbed run agrees at each step up to its last
   pub runs-agree : (n : ℕ) → IsDisturbed start setup marks n states
       → ((k : ℕ) → k < n → BlocksAreOpen (post start setup marks k).core)
@@ -184,12 +205,13 @@ module _ (start : State) (setup : Setup) (law : StepAgrees setup) (marks : List 
       record { first = run.first; next = λ j h. run.next j (omega arith) } in
       let here = runs-agree k shorter (λ j h. opened j (omega arith)) earlier in
       let stepped = law (after_marks k marks (pre start setup marks k)) (after_marks k marks (states k))
-      (opened k (omega arith)) (after-agree k marks (pre start setup marks k) (states k) loose here) none in
+      (opened k (omega arith)) (after-agree k marks (pre start setup marks k) (states k)
+      (loose-along start setup marks k loose) here) none in
       states-trans _ _ _ stepped (run.next k (omega arith))
 
 -- a run from another start, with nothing disturbed between steps
 module _ (start other : State) (setup : Setup) (law : StepAgrees setup) (marks : List Alteration)
-    (loose : DefineNothing marks) (first : StatesAgree start other) where
+    (loose : DefineNothing start.core.isa marks) (first : StatesAgree start other) where
   pub begun : (n : ℕ) → ((k : ℕ) → k < n → BlocksAreOpen (post start setup marks k).core)
       → NoUse (pre start setup marks n).events → StatesAgree (pre start setup marks n) (pre other setup marks n)
   unfolding pre post
@@ -199,4 +221,5 @@ module _ (start other : State) (setup : Setup) (law : StepAgrees setup) (marks :
       let earlier = subst NoUse (marks-events k marks (pre start setup marks k)) before in
       let here = begun k (λ j h. opened j (omega arith)) earlier in
       law (after_marks k marks (pre start setup marks k)) (after_marks k marks (pre other setup marks k))
-      (opened k (omega arith)) (after-agree k marks (pre start setup marks k) (pre other setup marks k) loose here) none
+      (opened k (omega arith)) (after-agree k marks (pre start setup marks k) (pre other setup marks k)
+      (loose-along start setup marks k loose) here) none

@@ -10,10 +10,11 @@ use Rattle.error_events.specs.Groups.{group_of, grouped}
 use Rattle.error_events.specs.declared.event.Event.{Event}
 use Rattle.error_events.specs.declared.event.Group.{Group}
 use Rattle.guest_elf.specs.declared.image.Image.{Image}
+use Rattle.guest_elf.specs.declared.profile.Isa.{Isa}
 use Rattle.memory_map.specs.Regions.{heap_begin, heap_end}
 use Rattle.shadow_memory.specs.Ranges.{is_in}
 use Rattle.run_values.specs.declared.alteration.Act.{Act}
-use Rattle.run_values.specs.declared.alteration.Act.TheVariants.{Make, Set, Flip, Write, Turn}
+use Rattle.run_values.specs.declared.alteration.Act.TheVariants.{Make, Set, Flip, Write, Turn, Skip}
 use Rattle.run_values.specs.declared.alteration.Alteration.{Alteration}
 use Rattle.shadow_memory.specs.declared.cells.RangeKind.{RangeKind}
 use Rattle.guest_machine.specs.State.{State}
@@ -50,43 +51,44 @@ either : (b : Bool) (addr len : ℕ) (kind : RangeKind) → hides kind ≡ b →
 either false addr len kind is e = inl is
 either true addr len kind is e = inr (misses-heap addr len e)
 
-defines-nothing : (act : Act) → hinders act ≡ false → DefinesNothing act
-defines-nothing (Make addr len kind) e = (or_parts (defines kind) (hides kind && meets_heap addr len) e).0
-defines-nothing (Set register value undef) e =
+defines-nothing : (isa : Isa) (act : Act) → hinders isa act ≡ false → DefinesNothing isa act
+defines-nothing isa (Make addr len kind) e = (or_parts (defines kind) (hides kind && meets_heap addr len) e).0
+defines-nothing isa (Set register value undef) e =
     let parts = and_parts (undef == all_bits) (is_word value) (not-false _ e) in
     (ltb-true value (2 ^ 32) parts.1, eqb-true undef all_bits parts.0)
-defines-nothing (Flip register mask) e = ltb-true mask (2 ^ 32) (not-false _ e)
-defines-nothing (Write addr width value) e = absurd (true≢false e)
-defines-nothing (Turn addr mask) e = ltb-true addr (2 ^ 32) (not-false _ e)
-defines-nothing _ e = tt
+defines-nothing isa (Flip register mask) e = ltb-true mask (2 ^ 32) (not-false _ e)
+defines-nothing isa (Write addr width value) e = absurd (true≢false e)
+defines-nothing isa (Turn addr mask) e = ltb-true addr (2 ^ 32) (not-false _ e)
+defines-nothing isa Skip e = e
+defines-nothing isa _ e = tt
 
-hides-nothing : (act : Act) → hinders act ≡ false → HidesNothing act
-hides-nothing (Make addr len kind) e =
+hides-nothing : (isa : Isa) (act : Act) → hinders isa act ≡ false → HidesNothing act
+hides-nothing isa (Make addr len kind) e =
     either (hides kind) addr len kind refl (or_parts (defines kind) (hides kind && meets_heap addr len) e).1
-hides-nothing _ e = tt
+hides-nothing isa _ e = tt
 
-pub define-nothing : (marks : List Alteration) → NoneInTheWay marks → DefineNothing marks
-define-nothing [] none = tt
-define-nothing (m ∷ ms) none =
-    let parts = or_parts (is_in_the_way m) (list_any is_in_the_way ms) none in
-    (defines-nothing m.act parts.0, define-nothing ms parts.1)
+pub define-nothing : (isa : Isa) (marks : List Alteration) → NoneInTheWay isa marks → DefineNothing isa marks
+define-nothing isa [] none = tt
+define-nothing isa (m ∷ ms) none =
+    let parts = or_parts (is_in_the_way isa m) (list_any (is_in_the_way isa) ms) none in
+    (defines-nothing isa m.act parts.0, define-nothing isa ms parts.1)
 
-pub hide-nothing : (marks : List Alteration) → NoneInTheWay marks → HideNothing marks
-hide-nothing [] none = tt
-hide-nothing (m ∷ ms) none =
-    let parts = or_parts (is_in_the_way m) (list_any is_in_the_way ms) none in
-    (hides-nothing m.act parts.0, hide-nothing ms parts.1)
+pub hide-nothing : (isa : Isa) (marks : List Alteration) → NoneInTheWay isa marks → HideNothing marks
+hide-nothing isa [] none = tt
+hide-nothing isa (m ∷ ms) none =
+    let parts = or_parts (is_in_the_way isa m) (list_any (is_in_the_way isa) ms) none in
+    (hides-nothing isa m.act parts.0, hide-nothing isa ms parts.1)
 
 -- what is certified --
 
 pub certified : (image : Image) (start : State) (setup : Setup) (marks : List Alteration) (n : ℕ)
     → IsStartOf image start
-    → HasBytes setup → NoneInTheWay marks → NoUse (post start setup marks n).events
+    → HasBytes setup → NoneInTheWay start.core.isa marks → NoUse (post start setup marks n).events
     → IsCertified image start setup marks n
 certified image start setup marks n begins bytes clear none =
     let before = subst NoUse (marked-events start setup marks n) none in
-    let agree = run-agrees image start setup (step-agrees setup bytes) marks n begins (define-nothing marks clear)
-    (hide-nothing marks clear) before in
+    let agree = run-agrees image start setup (step-agrees setup bytes) marks n begins
+    (define-nothing start.core.isa marks clear) (hide-nothing start.core.isa marks clear) before in
     record {
       runs = agree;
       reports = λ states run rules options step input_len text. (

@@ -31,7 +31,7 @@ StepsAgree input =
 abbrev pub RunsAgree : List ℕ → Type 0
 RunsAgree input =
     (start : State) (setup : Setup) (marks : List Alteration) (states : ℕ → State) (n : ℕ) → setup.input ≡ input
-    → DefineNothing marks → IsDisturbed start setup marks n states
+    → DefineNothing start.core.isa marks → IsDisturbed start setup marks n states
     → ((k : ℕ) → k < n → BlocksAreOpen (post start setup marks k).core)
     → NoUse (pre start setup marks n).events → StatesAgree (pre start setup marks n) (states n)
 
@@ -47,7 +47,7 @@ ReportsAgree =
 abbrev pub CleanRuns : List ℕ → Type 0
 CleanRuns input =
     (image : Image) (start : State) (setup : Setup) (marks : List Alteration) (states : ℕ → State) (n : ℕ)
-    → IsStartOf image start → setup.input ≡ input → DefineNothing marks → HideNothing marks
+    → IsStartOf image start → setup.input ≡ input → DefineNothing start.core.isa marks → HideNothing marks
     → IsDisturbed start setup marks n states → NoUse (pre start setup marks n).events
     → StatesAgree (post start setup marks n) (after_marks n marks (states n))
 
@@ -55,7 +55,8 @@ CleanRuns input =
 abbrev pub PowerOn : List ℕ → Type 0
 PowerOn input =
     (image : Image) (start other : State) (setup : Setup) (marks : List Alteration) (n : ℕ)
-    → IsStartOf image start → setup.input ≡ input → DefineNothing marks → HideNothing marks → StatesAgree start other
+    → IsStartOf image start → setup.input ≡ input → DefineNothing start.core.isa marks → HideNothing marks
+    → StatesAgree start other
     → NoUse (pre start setup marks n).events
     → StatesAgree (post start setup marks n) (post other setup marks n)
 
@@ -63,7 +64,7 @@ PowerOn input =
 abbrev pub CleanReports : List ℕ → Type 0
 CleanReports input =
     (image : Image) (start : State) (setup : Setup) (marks : List Alteration) (states : ℕ → State) (n : ℕ)
-    → IsStartOf image start → setup.input ≡ input → DefineNothing marks → HideNothing marks
+    → IsStartOf image start → setup.input ≡ input → DefineNothing start.core.isa marks → HideNothing marks
     → IsDisturbed start setup marks n states → NoUse (pre start setup marks n).events
     → (rules : List Rule) (options : Options) (step input_len : ℕ) (text : List ℕ)
     → IsReport (post start setup marks n) image rules options step input_len text
@@ -73,11 +74,13 @@ CleanReports input =
 -- each step
 pub record DisturbedRunsExist (input : List ℕ) : Type 0 where
   pub itself : (image : Image) (start : State) (setup : Setup) (marks : List Alteration) (n : ℕ)
-      → IsStartOf image start → AreBytes start.bytes → setup.input ≡ input → DefineNothing marks → HideNothing marks
+      → IsStartOf image start → AreBytes start.bytes → setup.input ≡ input → DefineNothing start.core.isa marks
+      → HideNothing marks
       → NoUse (pre start setup marks n).events
       → IsDisturbed start setup marks n (pre start setup marks)
   pub noisy : (image : Image) (start : State) (setup : Setup) (marks : List Alteration) (n : ℕ)
-      → IsStartOf image start → AreBytes start.bytes → setup.input ≡ input → DefineNothing marks → HideNothing marks
+      → IsStartOf image start → AreBytes start.bytes → setup.input ≡ input → DefineNothing start.core.isa marks
+      → HideNothing marks
       → NoUse (pre start setup marks n).events → (noise : ℕ → ℕ → ℕ) → ((k : ℕ) → AreBytes (noise k))
       → IsDisturbed start setup marks n (noisy_run start setup marks noise)
 

@@ -1,15 +1,18 @@
 -- The marks that are in the way of a clean run. One that makes bits defined takes their values as meant: a range that
 -- is made defined, a register that is set, bytes that are written. One that makes bytes of the heap inaccessible has
 -- `realloc` copy them as they are. Turned bits stay undefined where they were, and pc has no undefined bits. So a mark
--- that turns bits, moves pc or leaves out an instruction isn't in the way.
+-- that turns bits or moves pc isn't in the way. One that leaves out an instruction goes by the bytes at pc if there are
+-- instructions of 16 bits, whether they are defined or not; only then is it in the way.
 use Rattle.std.specs.Prelude.{◌≡◌, ◌⊎◌, ◌||◌, ◌&&◌, ◌==◌, not, ℕ, ◌-◌, ◌^◌, ◌<◌, ◌≤◌, nat_lt, Bool, true, false, List}
 use Rattle.std.specs.Prelude.{[], ◌∷◌}
+use Rattle.guest_elf.specs.Profiles.{has_halves}
+use Rattle.guest_elf.specs.declared.profile.Isa.{Isa}
 use Rattle.memory_map.specs.Regions.{heap_begin, heap_end}
 use Rattle.shadow_memory.specs.Ranges.{is_in}
 use Rattle.shadow_memory.specs.declared.cells.RangeKind.{RangeKind}
 use Rattle.shadow_memory.specs.declared.cells.RangeKind.TheVariants.{NoAccess, Undefined, Defined}
 use Rattle.run_values.specs.declared.alteration.Act.{Act}
-use Rattle.run_values.specs.declared.alteration.Act.TheVariants.{Make, Set, Flip, Write, Turn}
+use Rattle.run_values.specs.declared.alteration.Act.TheVariants.{Make, Set, Flip, Write, Turn, Skip}
 use Rattle.run_values.specs.declared.alteration.Alteration.{Alteration}
 
 -- does a mark of this kind make bytes defined?
@@ -32,14 +35,16 @@ MissesHeap addr len = (a : ℕ) → heap_begin ≤ a → a < heap_end → is_in 
 abbrev pub all_bits : ℕ
 all_bits = 4294967295
 
--- what one mark does: it makes no bit defined. Numbers are words, as in each line, so that a register stays one
-abbrev pub DefinesNothing : Act → Type 0
-DefinesNothing (Make addr len kind) = defines kind ≡ false
-DefinesNothing (Set register value undef) = (value < 2 ^ 32) × (undef ≡ all_bits)
-DefinesNothing (Flip register mask) = mask < 2 ^ 32
-DefinesNothing (Write addr width value) = ⊥
-DefinesNothing (Turn addr mask) = addr < 2 ^ 32
-DefinesNothing _ = Unit {0}
+-- what one mark does: it makes no bit defined, and takes none as defined. Numbers are words, as in each line, so that a
+-- register stays one
+abbrev pub DefinesNothing : Isa → Act → Type 0
+DefinesNothing isa (Make addr len kind) = defines kind ≡ false
+DefinesNothing isa (Set register value undef) = (value < 2 ^ 32) × (undef ≡ all_bits)
+DefinesNothing isa (Flip register mask) = mask < 2 ^ 32
+DefinesNothing isa (Write addr width value) = ⊥
+DefinesNothing isa (Turn addr mask) = addr < 2 ^ 32
+DefinesNothing isa Skip = has_halves isa ≡ false
+DefinesNothing isa _ = Unit {0}
 
 -- it makes no byte of the heap region inaccessible
 abbrev pub HidesNothing : Act → Type 0
@@ -52,9 +57,9 @@ MissesTheHeap (Make addr len kind) = MissesHeap addr len
 MissesTheHeap _ = Unit {0}
 
 -- no mark makes bits defined
-abbrev pub DefineNothing : List Alteration → Type 0
-DefineNothing [] = Unit {0}
-DefineNothing (m ∷ ms) = DefinesNothing m.act × DefineNothing ms
+abbrev pub DefineNothing : Isa → List Alteration → Type 0
+DefineNothing isa [] = Unit {0}
+DefineNothing isa (m ∷ ms) = DefinesNothing isa m.act × DefineNothing isa ms
 
 -- none makes bytes of the heap region inaccessible
 abbrev pub HideNothing : List Alteration → Type 0
@@ -75,13 +80,14 @@ abbrev pub is_word : ℕ → Bool
 is_word n = nat_lt n (2 ^ 32)
 
 -- is what a mark does in the way of a clean run?
-abbrev pub hinders : Act → Bool
-hinders (Make addr len kind) = defines kind || (hides kind && meets_heap addr len)
-hinders (Set register value undef) = not (undef == all_bits && is_word value)
-hinders (Flip register mask) = not (is_word mask)
-hinders (Write addr width value) = true
-hinders (Turn addr mask) = not (is_word addr)
-hinders _ = false
+abbrev pub hinders : Isa → Act → Bool
+hinders isa (Make addr len kind) = defines kind || (hides kind && meets_heap addr len)
+hinders isa (Set register value undef) = not (undef == all_bits && is_word value)
+hinders isa (Flip register mask) = not (is_word mask)
+hinders isa (Write addr width value) = true
+hinders isa (Turn addr mask) = not (is_word addr)
+hinders isa Skip = has_halves isa
+hinders isa _ = false
 
-abbrev pub is_in_the_way : Alteration → Bool
-is_in_the_way mark = hinders mark.act
+abbrev pub is_in_the_way : Isa → Alteration → Bool
+is_in_the_way isa mark = hinders isa mark.act

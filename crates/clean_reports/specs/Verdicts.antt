@@ -4,6 +4,7 @@ use Rattle.std.specs.Prelude.{◌≡◌, ℕ, suc, ◌<◌, ◌↔◌, false, tr
 use Rattle.std.specs.List.{list_any}
 use Rattle.error_events.specs.declared.event.Event.{Event}
 use Rattle.guest_elf.specs.declared.image.Image.{Image}
+use Rattle.guest_elf.specs.declared.profile.Isa.{Isa}
 use Rattle.run_values.specs.declared.alteration.Alteration.{Alteration}
 use Rattle.suppressions.specs.Rules.{Rule}
 use Rattle.replay_report.specs.Report.{IsReport}
@@ -19,15 +20,15 @@ use Rattle.clean_reports.specs.declared.verdict.FirstUse.{FirstUse}
 use Rattle.clean_reports.specs.declared.verdict.Verdict.{Verdict}
 use Rattle.clean_reports.specs.declared.verdict.Verdict.TheVariants.{Clean, Mark as ByMark, Use}
 
--- no mark of a list is in the way
-abbrev pub NoneInTheWay : List Alteration → Type 0
-NoneInTheWay marks = list_any is_in_the_way marks ≡ false
+-- no mark of a list is in the way of a run with an instruction set
+abbrev pub NoneInTheWay : Isa → List Alteration → Type 0
+NoneInTheWay isa marks = list_any (is_in_the_way isa) marks ≡ false
 
 -- the mark at an index is the first that is in the way
-pub record IsFirstInTheWay (marks : List Alteration) (index : ℕ) (mark : Alteration) : Type 0 where
+pub record IsFirstInTheWay (isa : Isa) (marks : List Alteration) (index : ℕ) (mark : Alteration) : Type 0 where
   pub at : slice_get marks index ≡ Some mark
-  pub stands : is_in_the_way mark ≡ true
-  pub first : NoneInTheWay (take index marks)
+  pub stands : is_in_the_way isa mark ≡ true
+  pub first : NoneInTheWay isa (take index marks)
 
 -- step k raises the first use of a run
 pub record RaisesFirstUse (start : State) (setup : Setup) (marks : List Alteration) (k : ℕ) : Type 0 where
@@ -46,9 +47,10 @@ pub record IsFirstUse (start : State) (setup : Setup) (marks : List Alteration) 
 
 -- the verdict on a run up to step n: on marks first, and then on errors, including suppressed ones
 abbrev pub IsVerdict : State → Setup → List Alteration → ℕ → Verdict → Type 0
-IsVerdict start setup marks n Clean = NoneInTheWay marks × NoUse (post start setup marks n).events
-IsVerdict start setup marks n (ByMark index mark) = IsFirstInTheWay marks index mark
-IsVerdict start setup marks n (Use found) = NoneInTheWay marks × IsFirstUse start setup marks n found
+IsVerdict start setup marks n Clean = NoneInTheWay start.core.isa marks × NoUse (post start setup marks n).events
+IsVerdict start setup marks n (ByMark index mark) = IsFirstInTheWay start.core.isa marks index mark
+IsVerdict start setup marks n (Use found) =
+    NoneInTheWay start.core.isa marks × IsFirstUse start setup marks n found
 
 -- What is certified of a run up to step n: each disturbed run agrees with it, and has the same reports
 pub record IsCertified (image : Image) (start : State) (setup : Setup) (marks : List Alteration) (n : ℕ) : Type 0 where

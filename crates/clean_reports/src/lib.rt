@@ -2,7 +2,7 @@
 //!
 //! A *use* is an error that lets such memory in: a use of undefined bits as an address, a condition or a parameter, or a read of
 //! inaccessible bytes. An invalid write, a bad free and a jump to no code are not uses. A run is *clean* up to a step if none of its errors
-//! is a use and no mark is in the way: a mark that makes bits defined, or bytes of the heap inaccessible.
+//! is a use and no mark is in the way: a mark that makes bits defined, or takes them as defined, or makes bytes of the heap inaccessible.
 //!
 //! | Call | What it does |
 //! |---|---|

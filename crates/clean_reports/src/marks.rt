@@ -5,6 +5,7 @@ ghost use Rattle.shadow_memory.specs.Ranges.{is_in};
 ghost use Rattle.clean_reports.specs.Marks.{hinders, is_word, meets_heap};
 ghost use Rattle.clean_reports.specs.Verdicts.{IsFirstInTheWay, NoneInTheWay};
 
+use guest_elf::Isa;
 use guest_machine::{Act, Alteration};
 use memory_map::{HEAP_BEGIN, HEAP_END};
 use shadow_memory::RangeKind;
@@ -33,9 +34,10 @@ fn is_word(n: u32) -> bool
     u64::from(n) < 1 << 32
 }
 
-/// Returns whether what a mark does is in the way of a clean run: it makes bits defined, or bytes of the heap region inaccessible.
-fn hinders(act: &Act) -> bool
-    ensures { result ≡ hinders act.now }
+/// Returns whether what a mark does is in the way of a clean run: it makes bits defined, or takes them as defined, or makes bytes of the heap
+/// region inaccessible.
+fn hinders(isa: Isa, act: &Act) -> bool
+    ensures { result ≡ hinders isa act.now }
 {
     match act {
         Act::Make { addr, len, kind } => match kind {
@@ -47,17 +49,18 @@ fn hinders(act: &Act) -> bool
         Act::Flip { mask, .. } => !is_word(*mask),
         Act::Write { .. } => true,
         Act::Turn { addr, .. } => !is_word(*addr),
-        Act::Jump { .. } | Act::FlipPc { .. } | Act::Skip => false,
+        Act::Skip => isa.has_halves(),
+        Act::Jump { .. } | Act::FlipPc { .. } => false,
     }
 }
 
-/// Returns the first mark that is in the way, with its index.
-pub(crate) fn first_in_the_way(marks: &[Alteration]) -> Option<(usize, Alteration)>
-    ensures some { IfSome result (λ found. IsFirstInTheWay marks.now found.0 found.1) }
-    ensures none { IfNone result (NoneInTheWay marks.now) }
+/// Returns the first mark that is in the way of a run with an instruction set, with the mark's index.
+pub(crate) fn first_in_the_way(isa: Isa, marks: &[Alteration]) -> Option<(usize, Alteration)>
+    ensures some { IfSome result (λ found. IsFirstInTheWay isa marks.now found.0 found.1) }
+    ensures none { IfNone result (NoneInTheWay isa marks.now) }
 {
     for (index, mark) in marks.iter().enumerate() {
-        if hinders(&mark.act) {
+        if hinders(isa, &mark.act) {
             return Some((index, *mark));
         }
     }

@@ -1,16 +1,23 @@
--- What an alteration leaves as it is: whether the machine runs, and the bytes of a code that it doesn't write.
-use Rattle.std.proofs.Common.{◌≡◌, ℕ, ◌<◌, ◌≤◌, ◌^◌, Bool, true, false, cond, nat_lt, refl, ap, sym}
+-- What an alteration leaves as it is: whether the machine runs, its instruction set, and the bytes of a code that it
+-- doesn't write.
+use Rattle.std.proofs.Common.{◌≡◌, ℕ, ◌<◌, ◌≤◌, ◌^◌, ◌&&◌, Bool, true, false, cond, nat_lt, refl, ap, sym}
 use Rattle.std.proofs.Common.{◌∙◌}
 use Rattle.std.proofs.Common.{arith, inl, inr}
 use Rattle.std.proofs.Math.Path.{fun_ext}
 use Rattle.std.proofs.lemmas.Bool.{cases_lt, true≢false}
 use Rattle.std.proofs.lemmas.Bool.Decides.{nat_tests}
 use Rattle.definedness.specs.Operations.{xor_of}
+use Rattle.guest_elf.specs.Profiles.{has_halves, is_half}
+use Rattle.guest_elf.specs.declared.profile.Isa.{Isa}
+use Rattle.guest_elf.specs.declared.profile.Isa.TheVariants.{Rv32im, Rv32imc}
 use Rattle.instructions.specs.Codes.{len_of, number_of}
 use Rattle.instructions.specs.Widths.{width_len}
 use Rattle.instructions.specs.declared.code.Code.{Code}
 use Rattle.shadow_memory.specs.Ranges.{above, byte_of, changed_in, is_in, little_word, offset, window, written}
 use Rattle.guest_machine.specs.Alterations.{altered, altered_bytes, altered_core, alters, bytes_by, core_by}
+use Rattle.guest_machine.specs.Alterations.{goes_by_bytes}
+use Rattle.guest_machine.specs.Effects.{moved_to, next_of}
+use Rattle.guest_machine.specs.Exec.{half_at}
 use Rattle.guest_machine.specs.Laws.{InCode}
 use Rattle.guest_machine.specs.Registers.{set_register}
 use Rattle.guest_machine.specs.Run.{poked}
@@ -23,23 +30,43 @@ use Rattle.run_values.specs.declared.alteration.Alteration.{Alteration}
 
 -- ---- whether the machine runs
 
-by-status : (act : Act) (core : Core) → (core_by act core).status ≡ core.status
+by-status : (act : Act) (core : Core) (bytes : ℕ → ℕ) → (core_by act core bytes).status ≡ core.status
 unfolding set_register
-by-status (Make addr len kind) core = refl
-by-status (Set r value undef) core = refl
-by-status (Flip r mask) core = refl
-by-status (Jump target) core = refl
-by-status (FlipPc mask) core = refl
-by-status (Write addr width value) core = refl
-by-status (Turn addr mask) core = refl
-by-status Skip core = refl
+by-status (Make addr len kind) core bytes = refl
+by-status (Set r value undef) core bytes = refl
+by-status (Flip r mask) core bytes = refl
+by-status (Jump target) core bytes = refl
+by-status (FlipPc mask) core bytes = refl
+by-status (Write addr width value) core bytes = refl
+by-status (Turn addr mask) core bytes = refl
+by-status Skip core bytes = refl
+
+-- and the instruction set
+by-isa : (act : Act) (core : Core) (bytes : ℕ → ℕ) → (core_by act core bytes).isa ≡ core.isa
+unfolding set_register
+by-isa (Make addr len kind) core bytes = refl
+by-isa (Set r value undef) core bytes = refl
+by-isa (Flip r mask) core bytes = refl
+by-isa (Jump target) core bytes = refl
+by-isa (FlipPc mask) core bytes = refl
+by-isa (Write addr width value) core bytes = refl
+by-isa (Turn addr mask) core bytes = refl
+by-isa Skip core bytes = refl
+
+pub altered-isa : (s : State) (alteration : Alteration) → (altered s alteration).core.isa ≡ s.core.isa
+unfolding altered altered_core
+altered-isa s alteration = go (alters alteration.act s.core)
+  where
+    go : (b : Bool) → (cond b (core_by alteration.act s.core s.bytes) s.core).isa ≡ s.core.isa
+    go true = by-isa alteration.act s.core s.bytes
+    go false = refl
 
 pub altered-status : (s : State) (alteration : Alteration) → (altered s alteration).core.status ≡ s.core.status
 unfolding altered altered_core
 altered-status s alteration = go (alters alteration.act s.core)
   where
-    go : (b : Bool) → (cond b (core_by alteration.act s.core) s.core).status ≡ s.core.status
-    go true = by-status alteration.act s.core
+    go : (b : Bool) → (cond b (core_by alteration.act s.core s.bytes) s.core).status ≡ s.core.status
+    go true = by-status alteration.act s.core s.bytes
     go false = refl
 
 -- ---- the bytes of a code that it doesn't write
@@ -112,14 +139,43 @@ bytes-poked (Turn start mask) f addr code apart =
     ∙ written-apart f start 4 (byte_of (xor_of (little_word (window f start 4)) mask)) addr code apart
 bytes-poked Skip f addr code apart = refl
 
+-- what it makes of a core, if that isn't decided by byte values
+no-halves : (b : Bool) → (b && true) ≡ false → b ≡ false
+no-halves true h = h
+no-halves false h = refl
+
+pub never-half : (isa : Isa) (first : ℕ) → has_halves isa ≡ false → is_half isa first ≡ false
+unfolding has_halves is_half
+never-half Rv32im first none = refl
+never-half Rv32imc first none = absurd (true≢false none)
+
+core-blind : (act : Act) (core : Core) (f g : ℕ → ℕ) → goes_by_bytes core.isa act ≡ false
+    → core_by act core f ≡ core_by act core g
+core-blind (Make start len kind) core f g blind = refl
+core-blind (Set r value undef) core f g blind = refl
+core-blind (Flip r mask) core f g blind = refl
+core-blind (Jump target) core f g blind = refl
+core-blind (FlipPc mask) core f g blind = refl
+core-blind (Write start width value) core f g blind = refl
+core-blind (Turn start mask) core f g blind = refl
+core-blind Skip core f g blind =
+    let none = no-halves (has_halves core.isa) blind in
+    ap (λ (b : Bool). moved_to core (next_of core (cond b 2 4)))
+    (never-half core.isa (half_at core f) none ∙ sym (never-half core.isa (half_at core g) none))
+
 -- the code may be poked before the alteration or after it
 pub altered-poked : (alteration : Alteration) (s : State) (addr : ℕ) (code : Code)
     → ((a : ℕ) → InCode addr code a → covers (writes_of alteration.act) a ≡ false)
+    → goes_by_bytes s.core.isa alteration.act ≡ false
     → altered (poked s addr code) alteration ≡ poked (altered s alteration) addr code
-unfolding altered altered_bytes poked
-altered-poked alteration s addr code apart =
-    ap (λ (f : ℕ → ℕ). record s { bytes = f; core = altered_core alteration.act s.core })
-    (go (alters alteration.act s.core))
+unfolding altered altered_bytes altered_core poked
+altered-poked alteration s addr code apart blind =
+    λ i. record s {
+      bytes = go (alters alteration.act s.core) i;
+      core =
+          cond (alters alteration.act s.core)
+          (core-blind alteration.act s.core (poked_bytes f addr code) f blind i) s.core;
+    }
   where
     f : ℕ → ℕ
     f = s.bytes

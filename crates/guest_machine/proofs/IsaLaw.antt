@@ -286,6 +286,7 @@ by-fours core is = record {
   halts = λ i. cond (is_running core.status)
       (cond (is_aligned (is i) core.pc)
       (jump_fault core (first_inaccessible core.shadow core.pc (unit (is i)))) (stops core Misaligned)) (quiet core);
+  skips = λ bytes. (λ i. moved_to core (next_of core (cond (is_half (is i) (half_at core bytes)) 2 4)));
 }
 
 pub goes-by-fours : GoesByFours

@@ -150,7 +150,7 @@ unfolding altered
 holds-altered old new alteration c s h =
     record {
       bytes = c.bytes ∙ (λ i. altered_bytes alteration.act (h.core i) (h.bytes i));
-      core = c.core ∙ (λ i. altered_core alteration.act (h.core i));
+      core = c.core ∙ (λ i. altered_core alteration.act (h.core i) (h.bytes i));
       position = ap (λ (p : Progress). p.position) c.progress ∙ h.position;
       end_seen = ap (λ (p : Progress). p.end_seen) c.progress ∙ h.end_seen;
       output = ap (λ (p : Progress). p.output_len) c.progress ∙ h.output;

@@ -8,4 +8,4 @@ use Rattle.run_values.specs.declared.alteration.Act.{Act}
 -- an act is done
 abbrev pub IsDone : Act → Guest → Guest → Type 0
 IsDone act old new =
-    Changes old new (altered_core act (core_of old)) (altered_bytes act (core_of old) (bytes_of old))
+    Changes old new (altered_core act (core_of old) (bytes_of old)) (altered_bytes act (core_of old) (bytes_of old))

@@ -1,14 +1,16 @@
 -- What an alteration makes of a state between two steps. No error is raised, and nothing that only increases changes.
-use Rattle.std.specs.Prelude.{ℕ, Bool, true, if◌then◌else◌}
+use Rattle.std.specs.Prelude.{ℕ, ◌&&◌, Bool, true, false, if◌then◌else◌}
 use Rattle.definedness.specs.Operations.{xor_of}
 use Rattle.definedness.specs.declared.Bits.{Bits}
+use Rattle.guest_elf.specs.Profiles.{has_halves, is_half}
+use Rattle.guest_elf.specs.declared.profile.Isa.{Isa}
 use Rattle.instructions.specs.Widths.{width_len}
 use Rattle.shadow_memory.specs.Ranges.{written, byte_of, little_word, window}
 use Rattle.shadow_memory.specs.Shadows.{made_so}
 use Rattle.guest_machine.specs.State.{Core, State}
 use Rattle.guest_machine.specs.Registers.{register, set_register}
 use Rattle.guest_machine.specs.Effects.{moved_to, next_of, stored_core}
-use Rattle.guest_machine.specs.Exec.{is_running}
+use Rattle.guest_machine.specs.Exec.{half_at, is_running}
 use Rattle.run_values.specs.declared.alteration.Act.{Act}
 use Rattle.run_values.specs.declared.alteration.Act.TheVariants.{Make, Set, Flip, Jump, FlipPc, Write, Turn, Skip}
 use Rattle.run_values.specs.declared.alteration.Alteration.{Alteration}
@@ -22,16 +24,29 @@ alters _ core = is_running core.status
 abbrev pub turned : Bits → ℕ → Bits
 turned bits mask = record { value = xor_of bits.value mask; undef = bits.undef }
 
+-- the length of the instruction at pc, as a fetch decides it, by the bytes there, accessible or not
+abbrev pub len_here : Core → (ℕ → ℕ) → ℕ
+len_here core bytes = if is_half core.isa (half_at core bytes) then 2 else 4
+
+-- is what it makes of a core decided by byte values? Those of the half at pc decide how far a skip goes, if there are
+-- instructions of 16 bits
+abbrev pub is_skip : Act → Bool
+is_skip Skip = true
+is_skip _ = false
+
+abbrev pub goes_by_bytes : Isa → Act → Bool
+goes_by_bytes isa act = has_halves isa && is_skip act
+
 -- what it makes of all that decides a step besides the byte values. The stack pointer rule is for instructions only
-abbrev pub core_by : Act → Core → Core
-core_by (Make addr len kind) core = record core { shadow = made_so core.shadow addr len kind }
-core_by (Set r value undef) core = set_register core r (record { value = value; undef = undef })
-core_by (Flip r mask) core = set_register core r (turned (register core r) mask)
-core_by (Jump target) core = moved_to core target
-core_by (FlipPc mask) core = moved_to core (xor_of core.pc mask)
-core_by (Write addr width value) core = stored_core core addr (width_len width) 0
-core_by (Turn addr mask) core = core
-core_by Skip core = moved_to core (next_of core 4)
+abbrev pub core_by : Act → Core → (ℕ → ℕ) → Core
+core_by (Make addr len kind) core bytes = record core { shadow = made_so core.shadow addr len kind }
+core_by (Set r value undef) core bytes = set_register core r (record { value = value; undef = undef })
+core_by (Flip r mask) core bytes = set_register core r (turned (register core r) mask)
+core_by (Jump target) core bytes = moved_to core target
+core_by (FlipPc mask) core bytes = moved_to core (xor_of core.pc mask)
+core_by (Write addr width value) core bytes = stored_core core addr (width_len width) 0
+core_by (Turn addr mask) core bytes = core
+core_by Skip core bytes = moved_to core (next_of core (len_here core bytes))
 
 -- and of the byte values
 abbrev pub bytes_by : Act → (ℕ → ℕ) → ℕ → ℕ
@@ -39,8 +54,8 @@ bytes_by (Write addr width value) bytes = written bytes addr (width_len width) (
 bytes_by (Turn addr mask) bytes = written bytes addr 4 (byte_of (xor_of (little_word (window bytes addr 4)) mask))
 bytes_by _ bytes = bytes
 
-unfoldable pub altered_core : Act → Core → Core
-altered_core act core = if alters act core then core_by act core else core
+unfoldable pub altered_core : Act → Core → (ℕ → ℕ) → Core
+altered_core act core bytes = if alters act core then core_by act core bytes else core
 
 unfoldable pub altered_bytes : Act → Core → (ℕ → ℕ) → ℕ → ℕ
 altered_bytes act core bytes = if alters act core then bytes_by act bytes else bytes
@@ -50,5 +65,5 @@ unfoldable pub altered : State → Alteration → State
 altered s alteration =
     record s {
       bytes = altered_bytes alteration.act s.core s.bytes;
-      core = altered_core alteration.act s.core;
+      core = altered_core alteration.act s.core s.bytes;
     }

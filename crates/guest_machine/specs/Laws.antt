@@ -5,14 +5,15 @@ use Rattle.guest_elf.specs.Hooks.{hook_at}
 use Rattle.guest_elf.specs.declared.hook.Hook.{Hook}
 use Rattle.guest_elf.specs.declared.profile.Isa.TheVariants.{Rv32im}
 use Rattle.instructions.specs.declared.hint.StackHint.{StackHint}
+use Rattle.run_values.specs.declared.alteration.Act.TheVariants.{Skip}
 use Rattle.run_values.specs.declared.status.Stop.TheVariants.{Misaligned}
 use Rattle.guest_machine.specs.State.{Core, State}
 use Rattle.guest_machine.specs.Registers.{known, set_register}
-use Rattle.guest_machine.specs.Effects.{followed, jumped, linked_jump, moved_to, quiet, stopped, stops}
+use Rattle.guest_machine.specs.Effects.{followed, jumped, linked_jump, moved_to, next_of, quiet, stopped, stops}
 use Rattle.guest_machine.specs.NamedCalls.{return_address, returns}
 use Rattle.guest_machine.specs.Run as Altered
 use Rattle.guest_machine.specs.Run.{poked, marked}
-use Rattle.guest_machine.specs.Alterations.{altered}
+use Rattle.guest_machine.specs.Alterations.{altered, core_by}
 use Rattle.guest_machine.specs.MarkedRun as Marked
 use Rattle.guest_machine.specs.MarkedRun.{alterations_of}
 use Rattle.run_values.specs.Alterations.{alteration_of}
@@ -122,8 +123,8 @@ StaysHalted =
 abbrev pub KeepsIsa : Type 0
 KeepsIsa = (setup : Setup) (s : State) → (exec s setup).core.isa ≡ s.core.isa
 
--- a core at which an instruction may begin at each multiple of 4, and nowhere else (RISC-V Unprivileged ISA 20191213,
--- section 1.5)
+-- a core at which an instruction may begin at each multiple of 4, and nowhere else, and has 4 bytes (RISC-V
+-- Unprivileged ISA 20191213, section 1.5)
 pub record IsByFours (core : Core) : Type 0 where
   pub jumps : (to : ℕ) → jumped core to ≡ if to % 4 == 0 then moved_to core to else stopped core Misaligned
   pub links : (next : ℕ) (hint : StackHint) (rd to : ℕ) → linked_jump core next hint rd to
@@ -140,6 +141,7 @@ pub record IsByFours (core : Core) : Type 0 where
       ≡ if is_running core.status
       then (if core.pc % 4 == 0 then jump_fault core (word_fault core) else stops core Misaligned)
       else quiet core
+  pub skips : (bytes : ℕ → ℕ) → core_by Skip core bytes ≡ moved_to core (next_of core 4)
 
 -- a core whose instruction set is RV32IM is one
 abbrev pub GoesByFours : Type 0

@@ -38,7 +38,7 @@
 //! | `flip STEP REGISTER MASK`, `flip STEP pc MASK` | turns these bits; undefined ones stay undefined |
 //! | `flip STEP ADDR MASK` | turns these bits of four bytes, the lowest byte first: a MASK up to 255 turns the byte at ADDR only. What is known of them stays |
 //! | `write STEP ADDR LEN VALUE` | writes LEN bytes, 1, 2 or 4, the lowest first; they are defined where they are accessible, and elsewhere stay inaccessible |
-//! | `skip STEP` | leaves out an instruction: pc advances by 4. It takes no step |
+//! | `skip STEP` | leaves out an instruction: pc advances by the instruction's length. It takes no step |
 //!
 //! REGISTER is `x1` to `x31`. Alterations and marks of a step are applied in the order of their lines. A machine that has exited or stopped
 //! is altered by marks only. An alteration is no step: it raises no error, and no search finds it. A line is rejected with the first of these

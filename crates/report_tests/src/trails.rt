@@ -5,7 +5,7 @@ ghost use Rattle.checkpoints.specs.Trails.{LoadsAs};
 
 use crate::runs::setup_of;
 use checkpoints::{Effect, Fork, Sought, Trail, Watch, run_to};
-use guest_elf::{Image, read};
+use guest_elf::{Image, Isa, read};
 use guest_machine::{
     Act as Deed, Alteration, Code, Input, Machine, Mark, Meter, Setup, Span, Status, Stop, Width,
 };
@@ -444,7 +444,7 @@ impl<'a> Edited<'a> {
         }
         let fork = self
             .trail
-            .fork_at_code(addr, 4, 4000, &self.setup, &self.marks)?;
+            .fork_at_code(addr, 4, 4000, Isa::Rv32im, &self.setup, &self.marks)?;
         let effect = Effect::Patch {
             addr,
             code: Code::Word(word),

@@ -56,7 +56,7 @@ pub enum Act {
         addr: u32,
         mask: u32,
     },
-    /// Leaves out the instruction at pc: pc advances by 4.
+    /// Leaves out the instruction at pc: pc advances by the instruction's length, which the bytes there decide, accessible or not.
     Skip,
 }
 

@@ -1,23 +1,28 @@
 -- The two laws of the table of edits, with a clause for each edit.
 use Rattle.std.proofs.Common.{◌≡◌, ℕ, zero, suc, ◌+◌, ◌-◌, ◌<◌, ◌≤◌, ◌==◌, nat_le, nat_lt, Bool, true, false, cond}
 use Rattle.std.proofs.Common.{List, [], ◌∷◌, ◌++◌, take, remove, length, Some, None, refl, ap, sym, subst, arith}
+use Rattle.std.proofs.Common.{◌∙◌}
 use Rattle.std.specs.Prelude.{slice_get, slice_set, slice_index_or}
 use Rattle.std.proofs.lemmas.Bool.Decides.{nat_tests}
 use Rattle.std.proofs.lemmas.List.{length-set, length-append, length-take}
-use Rattle.guest_machine.specs.Run.{marks_at, start_state}
+use Rattle.guest_elf.specs.Images.{profile_of}
+use Rattle.guest_elf.specs.declared.profile.Isa.{Isa}
+use Rattle.guest_machine.specs.Run.{marks_at, poked, start_state}
+use Rattle.guest_machine.specs.State.{State}
 use Rattle.instructions.specs.Codes.{len_of}
 use Rattle.instructions.specs.declared.code.Code.{Code}
 use Rattle.instructions.specs.declared.code.Code.TheVariants.{Half, Word}
 use Rattle.run_values.specs.declared.alteration.Alteration.{Alteration}
 use Rattle.suppressions.specs.Rules.{Rule}
 use Rattle.checkpoints.specs.Effects.{DifferAtStep, LeadsTo, effect_by}
-use Rattle.checkpoints.specs.Writes.{write_code}
-use Rattle.scenario.specs.Scenario.{Scenario, first_state, run_of}
+use Rattle.checkpoints.specs.Writes.{touch_code}
+use Rattle.scenario.specs.Scenario.{Scenario, first_state, run_of, with_words}
 use Rattle.scenario.specs.Edits.{Follows, TakesBack, IsTaken, row, refused_if, mark_step, switched, is_on, with_code}
 use Rattle.commands.specs.declared.edit.Edit.{Edit}
 use Rattle.commands.specs.declared.edit.Edit.TheVariants.{Input, Append, Cut, Patch, Mark, Unmark, Switch, Add, Callers}
 use Rattle.commands.specs.declared.edit.Edit.TheVariants.{PatchHalf, Redzone, Volume, Show}
 use Rattle.commands.specs.declared.refusal.Refusal.{Refusal}
+use Rattle.scenario.specs.declared.written.Written.{Written}
 use Rattle.scenario.proofs.FrontSteps.{with-more}
 
 -- a test that gives a refusal fails if nothing is rejected
@@ -70,7 +75,18 @@ differ-removed (m ∷ ms) (suc i) k n = ap (λ rest. cond (m.step == k) (m ∷ r
 
 -- ---- an edit leads from run to run
 
-code-leads : (sc : Scenario) (addr : ℕ) (code : Code) (b : Bool) → write_code sc.marks addr (len_of code) ≡ b
+-- the instruction set of its run is the image's
+words-isa : (words : List Written) (s : State) → (with_words s words).core.isa ≡ s.core.isa
+unfolding poked
+words-isa [] s = refl
+words-isa (w ∷ words) s = words-isa words (poked s w.addr w.code)
+
+pub first-isa : (sc : Scenario) → (first_state sc).core.isa ≡ (profile_of sc.image).isa
+unfolding first_state start_state
+first-isa sc = words-isa sc.words (start_state sc.image)
+
+code-leads : (sc : Scenario) (addr : ℕ) (code : Code) (b : Bool)
+    → touch_code (profile_of sc.image).isa sc.marks addr (len_of code) ≡ b
     → LeadsTo (effect_by b addr code) (run_of sc) (run_of (with_code sc addr code))
 unfolding first_state
 code-leads sc addr code true h = record
@@ -78,7 +94,7 @@ code-leads sc addr code true h = record
 code-leads sc addr code false h = record {
   start = with-more (start_state sc.image) sc.words (record { addr = addr; code = code });
   differ =
-      (refl, refl, h);
+      (refl, refl, ap (λ (isa : Isa). touch_code isa sc.marks addr (len_of code)) (first-isa sc) ∙ h);
 }
 
 pub follows : Follows
@@ -121,8 +137,10 @@ follows sc Cut h =
         refl,
       );
     }
-follows sc (Patch addr word) h = code-leads sc addr (Word word) (write_code sc.marks addr 4) refl
-follows sc (PatchHalf addr half) h = code-leads sc addr (Half half) (write_code sc.marks addr 2) refl
+follows sc (Patch addr word) h =
+    code-leads sc addr (Word word) (touch_code (profile_of sc.image).isa sc.marks addr 4) refl
+follows sc (PatchHalf addr half) h =
+    code-leads sc addr (Half half) (touch_code (profile_of sc.image).isa sc.marks addr 2) refl
 follows sc (Mark mark) h = record { start = refl; differ = (refl, differ-appended sc.marks mark) }
 follows sc (Unmark i) h = record { start = refl; differ = (refl, differ-removed sc.marks i) }
 follows sc (Switch i on) h = record { start = refl; differ = (refl, refl) }

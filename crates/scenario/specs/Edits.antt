@@ -125,14 +125,14 @@ row sc Cut = record {
 row sc (Patch addr word) = record {
   refusal = refused_if (not (is_word sc.image addr)) NotPatchable;
   after = with_code sc addr (Word word);
-  effect = code_effect sc.marks addr (Word word);
+  effect = code_effect (profile_of sc.image).isa sc.marks addr (Word word);
   may_fail = true;
   back = None;
 }
 row sc (PatchHalf addr half) = record {
   refusal = half_refusal sc.image addr;
   after = with_code sc addr (HalfWord half);
-  effect = code_effect sc.marks addr (HalfWord half);
+  effect = code_effect (profile_of sc.image).isa sc.marks addr (HalfWord half);
   may_fail = true;
   back = None;
 }

@@ -343,7 +343,8 @@ byte-continues sc offset standing fork h is =
 
 pub word-continues : (sc : Scenario) (addr : ℕ) (standing : Standing) (fork : Fork)
     → standing_word sc addr ≡ Some standing
-    → ((code : Code) → len_of code ≡ 4 → IsForkFor (code_effect sc.marks addr code) (run_of sc) sc.step fork)
+    → ((code : Code) → len_of code ≡ 4
+    → IsForkFor (code_effect (profile_of sc.image).isa sc.marks addr code) (run_of sc) sc.step fork)
     → Continues sc standing fork
 unfolding standing_word
 word-continues sc addr standing fork h is =
@@ -352,13 +353,15 @@ word-continues sc addr standing fork h is =
   where
     go : (old : ℕ) → Continues sc (At.Word addr old) fork
     go old (Word at value) e =
-        subst (λ k. IsForkFor (code_effect sc.marks k (WholeWord value)) (run_of sc) sc.step fork) (sym e)
-        (is (WholeWord value) refl)
+        subst
+        (λ k. IsForkFor (code_effect (profile_of sc.image).isa sc.marks k (WholeWord value)) (run_of sc) sc.step fork)
+        (sym e) (is (WholeWord value) refl)
     go old _ e = absurd e
 
 pub half-continues : (sc : Scenario) (addr : ℕ) (standing : Standing) (fork : Fork)
     → standing_half sc addr ≡ Some standing
-    → ((code : Code) → len_of code ≡ 2 → IsForkFor (code_effect sc.marks addr code) (run_of sc) sc.step fork)
+    → ((code : Code) → len_of code ≡ 2
+    → IsForkFor (code_effect (profile_of sc.image).isa sc.marks addr code) (run_of sc) sc.step fork)
     → Continues sc standing fork
 unfolding standing_half
 half-continues sc addr standing fork h is =
@@ -367,8 +370,9 @@ half-continues sc addr standing fork h is =
   where
     go : (old : ℕ) → Continues sc (At.Half addr old) fork
     go old (Half at value) e =
-        subst (λ k. IsForkFor (code_effect sc.marks k (HalfWord value)) (run_of sc) sc.step fork) (sym e)
-        (is (HalfWord value) refl)
+        subst
+        (λ k. IsForkFor (code_effect (profile_of sc.image).isa sc.marks k (HalfWord value)) (run_of sc) sc.step fork)
+        (sym e) (is (HalfWord value) refl)
     go old _ e = absurd e
 
 pub step-continues : (sc : Scenario) (code : Option Range) (step : ℕ) (standing : Standing) (fork : Fork)

@@ -3,6 +3,7 @@ ghost use Rattle.std.specs.Prelude.{◌≡◌, ◌≤◌, ◌<◌, ◌+◌, ◌^
 ghost use Rattle.checkpoints.specs.Edits.{IsRightForRun};
 ghost use Rattle.checkpoints.specs.Forks.{IsForkFor};
 ghost use Rattle.checkpoints.specs.Effects.{code_effect};
+ghost use Rattle.guest_elf.specs.Images.{profile_of};
 ghost use Rattle.checkpoints.specs.Trails.{LoadsAs, loaded_of};
 ghost use Rattle.checkpoints.specs.Words.{IsCodeIn};
 ghost use Rattle.checkpoints.specs.declared.effect.Effect.TheVariants.{After, Input};
@@ -126,7 +127,7 @@ fn code_fork(
     requires loads { LoadsAs trail.old scenario.now.image }
     requires right { IsRightForRun trail.old (run_of scenario.now) }
     requires code { IsCodeIn (loaded_of trail.old) addr len }
-    ensures fork { IfOk result (λ fork. (code : Code) → len_of code ≡ len → IsForkFor (code_effect scenario.now.marks addr code) (run_of scenario.now) scenario.now.step fork) }
+    ensures fork { IfOk result (λ fork. (code : Code) → len_of code ≡ len → IsForkFor (code_effect (profile_of scenario.now.image).isa scenario.now.marks addr code) (run_of scenario.now) scenario.now.step fork) }
     ensures loads { LoadsAs trail.new scenario.now.image }
     ensures right { IsRightForRun trail.new (run_of scenario.now) }
 {
@@ -134,6 +135,7 @@ fn code_fork(
         addr,
         len,
         scenario.step(),
+        scenario.image().profile().isa,
         scenario.setup(),
         scenario.marks(),
     )

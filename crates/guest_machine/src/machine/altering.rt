@@ -1,10 +1,13 @@
 //! What is altered between steps.
 ghost use Rattle.std.specs.Prelude.{◌≡◌, OnOk};
 ghost use Rattle.guest_machine.specs.Acting.{IsDone};
+ghost use Rattle.guest_machine.specs.Alterations.{len_here};
+ghost use Rattle.guest_machine.specs.Shows.{bytes_of, core_of};
 
 use crate::machine::Guest;
 use crate::machine::registers::known;
 use definedness::Bits;
+use guest_elf::Isa;
 use instructions::{Register, Width};
 use run_values::Act;
 use shadow_memory::RangeKind;
@@ -125,13 +128,28 @@ impl Guest {
         Ok(())
     }
 
+    /// The length of the instruction at pc. It reads no byte if all have the same.
+    #[tactic(auto, unfolding(guest_elf::specs::Profiles::is_half))]
+    fn len_here(&self) -> u32
+        ensures { result ≡ len_here (core_of self.now) (bytes_of self.now) }
+    {
+        match self.isa {
+            Isa::Rv32im => 4,
+            Isa::Rv32imc => {
+                let half = self.memory.load(self.pc, 2);
+                if self.isa.is_half(half.value) { 2 } else { 4 }
+            }
+        }
+    }
+
     /// Leaves an instruction out.
     #[tactic(auto, unfolding(crate::specs::Alterations::altered_core, crate::specs::Alterations::altered_bytes))]
     fn skip(&mut self)
         ensures { IsDone Skip self.old self.new }
     {
         if self.runs() {
-            self.advance_by(4);
+            let len = self.len_here();
+            self.advance_by(len);
         }
     }
 }

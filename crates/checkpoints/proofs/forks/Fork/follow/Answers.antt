@@ -14,7 +14,7 @@ returns-clause-shows c last one start l fork =
       stays = c.end_stays.ensures;
       heap = c.keeps_heap.ensures;
     })
-    c.keeps_pokes.ensures c.args.effect one
+    (record { pokes = c.keeps_pokes.ensures; isa = c.keeps_isa.ensures }) c.args.effect one
     (record { start = start; setup = c.args.setup.now; marks = c.args.marks.now }) c.args.self.now.step
     fork.whole l fork.step.hidden in
     c.in_ok-marked.ensures _ (c.in_ok-machine.ensures.shows start

@@ -13,7 +13,7 @@ returns-clause-fork c s one start last within l fork =
       stays = c.end_stays.ensures;
       heap = c.keeps_heap.ensures;
     })
-    c.keeps_pokes.ensures (After s) one
+    (record { pokes = c.keeps_pokes.ensures; isa = c.keeps_isa.ensures }) (After s) one
     (record { start = start; setup = c.args.setup.now; marks = c.args.marks.now }) c.args.self.now.step
     fork.whole l fork.step.hidden in
     record {

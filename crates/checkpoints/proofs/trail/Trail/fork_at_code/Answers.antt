@@ -2,15 +2,15 @@ use Rattle.std.proofs.Common.{◌≡◌, ℕ, ◌+◌, ◌≤◌, ◌^◌, subst
 use Rattle.std.proofs.lemmas.Result.{IfOk-weaker}
 use Rattle.instructions.specs.Codes.{len_of}
 use Rattle.checkpoints.specs.Effects.{code_effect}
-use Rattle.checkpoints.specs.Writes.{write_code}
+use Rattle.checkpoints.specs.Writes.{touch_code}
 use Rattle.checkpoints.proofs.ForkSteps.{code-whole}
 use Rattle.checkpoints.proofs.trail.Trail.fork_at_code.Goals as goal
 
 pub returns-clause-fork : goal.returns-clause-fork
 returns-clause-fork c =
     IfOk-weaker c.fork_at.result _ _
-    (λ fork is code start size h. is (code_effect c.args.marks.now c.args.addr code) c.args.last
-    (code-whole (write_code c.args.marks.now c.args.addr (len_of code)) c.args.addr code
+    (λ fork is code start size h. is (code_effect c.args.isa c.args.marks.now c.args.addr code) c.args.last
+    (code-whole (touch_code c.args.isa c.args.marks.now c.args.addr (len_of code)) c.args.addr code
     (let P : ℕ → Type 0 = λ n. c.args.addr + n ≤ 2 ^ 32 in subst P (sym size) c.requires.code.whole))
     (c.last_without-step.ensures.step code c.args.setup.now size) start
     (c.in_ok-reach.ensures.right start h)) c.fork_at.ensures.fork
