@@ -9,7 +9,7 @@ use Rattle.std.proofs.lemmas.Bool.Decides.{nat_tests}
 use Rattle.definedness.specs.Operations.{xor_of}
 use Rattle.guest_elf.specs.Profiles.{has_halves, is_half}
 use Rattle.guest_elf.specs.declared.profile.Isa.{Isa}
-use Rattle.guest_elf.specs.declared.profile.Isa.TheVariants.{Rv32im, Rv32imc}
+use Rattle.guest_elf.specs.declared.profile.Isa.TheVariants.{Rv32im, Rv32imc, Rv32imac}
 use Rattle.instructions.specs.Codes.{len_of, number_of}
 use Rattle.instructions.specs.Widths.{width_len}
 use Rattle.instructions.specs.declared.code.Code.{Code}
@@ -148,6 +148,7 @@ pub never-half : (isa : Isa) (first : ℕ) → has_halves isa ≡ false → is_h
 unfolding has_halves is_half
 never-half Rv32im first none = refl
 never-half Rv32imc first none = absurd (true≢false none)
+never-half Rv32imac first none = absurd (true≢false none)
 
 core-blind : (act : Act) (core : Core) (f g : ℕ → ℕ) → goes_by_bytes core.isa act ≡ false
     → core_by act core f ≡ core_by act core g

@@ -55,14 +55,6 @@ pub(crate) struct Pursued {
     pub(crate) is_met: bool,
 }
 
-/// Returns the lesser of two numbers.
-fn lesser(x: u32, y: u32) -> u32
-    ensures first { result ≤ x }
-    ensures second { result ≤ y }
-{
-    if x < y { x } else { y }
-}
-
 impl Ends {
     /// Returns the machines of the unedited run from a fork's step on, and its outcomes.
     pub(crate) fn along(
@@ -75,7 +67,7 @@ impl Ends {
         ensures { IfOk result (AreEnds with_output scenario.now) }
     {
         let left = scenario.step() - before.step;
-        let count = lesser(left / SPACING, MOST_HELD);
+        let count = (left / SPACING).min(MOST_HELD);
         let mut landmarks = Landmarks::begin(alloc, before.step);
         let machine = before.machine.share_ready()?;
         let held = landmarks.run_held(machine, scenario.setup(), count)?;

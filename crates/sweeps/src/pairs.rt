@@ -1,5 +1,5 @@
 //! Pairs of instructions that are left out.
-ghost use Rattle.std.specs.Prelude.{◌≡◌, ◌≤◌, ◌<◌, ◌+◌, ◌-◌, ◌∷◌, [], ℕ, List, IfOk, OnOk, Some, length, min};
+ghost use Rattle.std.specs.Prelude.{◌≡◌, ◌≤◌, ◌<◌, ◌+◌, ◌-◌, ◌∷◌, [], ℕ, List, IfOk, OnOk, Some, length};
 ghost use Rattle.checkpoints.specs.Forks.{IsForkFor};
 ghost use Rattle.checkpoints.specs.declared.effect.Effect.TheVariants.{After};
 ghost use Rattle.guest_machine.specs.Shows.{Shows};
@@ -228,13 +228,6 @@ fn meet_after(
     met
 }
 
-/// Returns the lesser of two numbers.
-fn lesser(x: u32, y: u32) -> u32
-    ensures { result ≡ min x y }
-{
-    if x < y { x } else { y }
-}
-
 /// Tries the pairs at a spot, if they were asked for.
 #[tactic(auto, unfolding(crate::specs::Standing::pairs_at))]
 pub(crate) fn meet_pairs(
@@ -257,7 +250,7 @@ pub(crate) fn meet_pairs(
         return Ok(());
     };
     let last = scenario.step();
-    let end = lesser(plan.steps.end, last);
+    let end = plan.steps.end.min(last);
     if !plan.pairs {
         return Ok(());
     }

@@ -135,7 +135,7 @@ impl Guest {
     {
         match self.isa {
             Isa::Rv32im => 4,
-            Isa::Rv32imc => {
+            Isa::Rv32imc | Isa::Rv32imac => {
                 let half = self.memory.load(self.pc, 2);
                 if self.isa.is_half(half.value) { 2 } else { 4 }
             }

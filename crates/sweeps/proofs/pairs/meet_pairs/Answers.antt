@@ -52,7 +52,7 @@ returns-then-not-plan-clause-met c =
 pub returns-then-end-step-clause-met : goal.returns-then-end-step-clause-met
 returns-then-end-step-clause-met c =
     let sc = c.args.scenario.now in
-    let end : c.lesser-end.result ≡ min c.args.plan.now.steps.end sc.step = c.lesser-end.ensures
+    let end : c.min-end.result ≡ min c.args.plan.now.steps.end sc.step = c.min-end.ensures
     ∙ ap (min c.args.plan.now.steps.end) c.step-last.ensures in
     subst (λ (xs : List Change). CountsMore c.args.counts.now c.args.counts.now c.args.with_output sc xs
     c.args.out.now.items c.args.out.now.items)
@@ -67,12 +67,12 @@ returns-clause-met c =
     let old = c.args.counts.now in
     let out = c.args.out.now.items in
     let step = c.in-Step.step in
-    let end : c.lesser-end.result ≡ min c.args.plan.now.steps.end sc.step = c.lesser-end.ensures
+    let end : c.min-end.result ≡ min c.args.plan.now.steps.end sc.step = c.min-end.ensures
     ∙ ap (min c.args.plan.now.steps.end) c.step-last.ensures in
     let all = pairs-on sc c.args.plan.now c.args.spot.now.standing step c.in-Step.pc c.in-Step.is c.if-not-plan.false in
     on_ok_weaker c.meet_after.result (λ met.
     subst (λ (xs : List Change). CountsMore old c.meet_after.new.counts wo sc xs out c.meet_after.new.out.items)
     (ap (λ n. pairs_from sc c.args.plan.now.code step (n - (step + 1))) end ∙ sym all)
     (counts-join wo sc old (record old { recall = c.foresee.new.self }) c.meet_after.new.counts []
-    (pairs_from sc c.args.plan.now.code step (c.lesser-end.result - (step + 1))) out out c.meet_after.new.out.items
+    (pairs_from sc c.args.plan.now.code step (c.min-end.result - (step + 1))) out out c.meet_after.new.out.items
     (counts-recalled wo sc old c.foresee.new.self out c.in_ok-foresee.ensures) met)) c.meet_after.ensures.met

@@ -20,8 +20,9 @@ returns c =
     let holds = c.in_ok-held.ensures in
     let run = c.in_ok-last.ensures in
     let at : landmarks.first ≡ first = run.first ∙ holds.first ∙ begun.first in
-    let count : landmarks.steps ≡ sc.step - first = all-steps sc.step first c.step.result c.lesser-count.result
-    c.begin-landmarks.result.steps held.steps landmarks.steps c.step.ensures c.lesser-count.ensures.first begun.steps
+    let few : c.min-count.result ≤ (c.step.result - first) / 16 = omega (arith, c.min-count.ensures) in
+    let count : landmarks.steps ≡ sc.step - first = all-steps sc.step first c.step.result c.min-count.result
+    c.begin-landmarks.result.steps held.steps landmarks.steps c.step.ensures few begun.steps
     holds.steps run.steps in
     let here = subst (λ (setup : Setup). Follows setup held c.in_ok-held.held) (c.setup.ensures
     ∙ sym c.setup-2.ensures) holds.follows in
