@@ -14,7 +14,7 @@ use Rattle.checkpoints.specs.Words.{meets_code}
 abbrev pub writes_code : Act → ℕ → ℕ → Bool
 writes_code act addr len = meets_code (covers (writes_of act)) addr len
 
--- or go by one? Where its step stands isn't known of a skip, so each code counts for one that goes by bytes
+-- or go by one? Since pc isn't known before a skip's step, an act that goes by bytes counts for each code
 abbrev pub touches_code : Isa → Act → ℕ → ℕ → Bool
 touches_code isa act addr len = goes_by_bytes isa act || writes_code act addr len
 
