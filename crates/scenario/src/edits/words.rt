@@ -45,12 +45,8 @@ impl<'a> Scenario<'a> {
         ensures effect { result ≡ (row self.now (Patch addr word)).effect }
         ensures loaded { IsTaken self.now (Patch addr word) → WritesLoaded self.now.image result }
     {
-        code_effect(
-            self.image.profile().isa,
-            &self.marks,
-            addr,
-            Code::Word(word),
-        )
+        let isa = self.image.profile().isa;
+        code_effect(isa, &self.marks, addr, Code::Word(word))
     }
 
     /// Returns where another half shows.
@@ -58,12 +54,8 @@ impl<'a> Scenario<'a> {
         ensures effect { result ≡ (row self.now (PatchHalf addr half)).effect }
         ensures loaded { IsTaken self.now (PatchHalf addr half) → WritesLoaded self.now.image result }
     {
-        code_effect(
-            self.image.profile().isa,
-            &self.marks,
-            addr,
-            Code::Half(half),
-        )
+        let isa = self.image.profile().isa;
+        code_effect(isa, &self.marks, addr, Code::Half(half))
     }
 
     /// Writes a code.
