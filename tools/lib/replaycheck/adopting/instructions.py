@@ -12,6 +12,8 @@ LOAD, FENCE, IMMEDIATE, AUIPC, STORE, REGISTERS, LUI, BRANCH, JALR, JAL, SYSTEM 
 JUMPS = {BRANCH, JAL, JALR}
 FLOAT = {0x07, 0x27, 0x43, 0x47, 0x4B, 0x4F, 0x53}
 ATOMIC = 0x2F
+# funct5 of LR.W, SC.W and the nine AMOs of words; the second register of LR.W is 0 (RISC-V Unprivileged ISA 20191213, chapter 8).
+LOAD_RESERVED, ATOMICS = 2, {0, 1, 2, 3, 4, 8, 12, 16, 20, 24, 28}
 # Which funct3 each opcode of RV32IM has, where not all.
 FUNCT3 = {LOAD: {0, 1, 2, 4, 5}, STORE: {0, 1, 2}, BRANCH: {0, 1, 4, 5, 6, 7}, JALR: {0}, FENCE: {0}}
 SHIFTS = {1: {0}, 5: {0, 0x20}}
@@ -94,6 +96,12 @@ def has_row(opcode_and_functs):
 
 def is_of_rv32im(word):
     return has_row(word & 0xFE00707F) or word in (ECALL, EBREAK)
+
+
+def is_atomic(word):
+    """Whether it is an atomic instruction of RV32A."""
+    first = word >> 27
+    return opcode(word) == ATOMIC and funct3(word) == 2 and first in ATOMICS and not (first == LOAD_RESERVED and word >> 20 & 31)
 
 
 def may_jump(word):
