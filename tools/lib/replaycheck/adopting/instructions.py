@@ -1,6 +1,8 @@
 """Words of RISC-V instructions: which of them are RV32IM's, where they go, and those that cures are made of."""
 import functools
 
+from replaycheck.assembly import ATOMICS, LOAD_RESERVED
+
 NAMES = ["zero", "ra", "sp", "gp", "tp", "t0", "t1", "t2", "s0", "s1", *(f"a{i}" for i in range(8)),
          *(f"s{i}" for i in range(2, 12)), *(f"t{i}" for i in range(3, 7))]
 NOP, UNIMP, ECALL, EBREAK = 0x00000013, 0xC0001073, 0x00000073, 0x00100073
@@ -12,8 +14,6 @@ LOAD, FENCE, IMMEDIATE, AUIPC, STORE, REGISTERS, LUI, BRANCH, JALR, JAL, SYSTEM 
 JUMPS = {BRANCH, JAL, JALR}
 FLOAT = {0x07, 0x27, 0x43, 0x47, 0x4B, 0x4F, 0x53}
 ATOMIC = 0x2F
-# funct5 of LR.W, SC.W and the nine AMOs of words; the second register of LR.W is 0 (RISC-V Unprivileged ISA 20191213, chapter 8).
-LOAD_RESERVED, ATOMICS = 2, {0, 1, 2, 3, 4, 8, 12, 16, 20, 24, 28}
 # Which funct3 each opcode of RV32IM has, where not all.
 FUNCT3 = {LOAD: {0, 1, 2, 4, 5}, STORE: {0, 1, 2}, BRANCH: {0, 1, 4, 5, 6, 7}, JALR: {0}, FENCE: {0}}
 SHIFTS = {1: {0}, 5: {0, 0x20}}
@@ -99,9 +99,10 @@ def is_of_rv32im(word):
 
 
 def is_atomic(word):
-    """Whether it is an atomic instruction of RV32A."""
-    first = word >> 27
-    return opcode(word) == ATOMIC and funct3(word) == 2 and first in ATOMICS and not (first == LOAD_RESERVED and word >> 20 & 31)
+    """Whether it is an atomic instruction of RV32A. That which reserves has no second register."""
+    funct5 = word >> 27
+    return (opcode(word) == ATOMIC and funct3(word) == 2 and funct5 in ATOMICS.values()
+            and not (funct5 == LOAD_RESERVED and word >> 20 & 31))
 
 
 def may_jump(word):
