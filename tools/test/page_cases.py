@@ -166,8 +166,8 @@ def sets_in_turn(bench):
         check("rv32im", words, *kept)
         page.run("replaycheck.use('# --isa rv32imc\\ninput 1 6')")
         check("rv32imc", short, "input 1 6")
-        page.run("replaycheck.use('# --isa rv32imac')")
-        same("a set that there isn't", page.text("notice"), "There is no instruction set “rv32imac” here, but rv32im and rv32imc.")
+        page.run("replaycheck.use('# --isa rv32gc')")
+        same("a set that there isn't", page.text("notice"), "There is no instruction set “rv32gc” here, but rv32im, rv32imc and rv32imac.")
     with bench.page(f"?still{link}") as page:
         bench.settle(page)
         same("a link", page.run("[replaycheck.opened.isa, ...replaycheck.scenario.lines]"), ["rv32imc", *kept])
