@@ -55,7 +55,8 @@ def test_parts_refused(tests):
     made = Made(20)
     tables = {f"p{index}": made.part(index, 5) for index in range(1, 6)}
     tables.update(half=made.part(2, 2), first=made.part(1, 2), third=made.part(3, 4), other=Made(20, seed=2).part(2, 5),
-                  short=Made(20, isa="rv32imc").part(3, 5), atomic=Made(20, isa="rv32imac").part(3, 5), values=Made(20, values="3,5,8").part(3, 5),
+                  short=Made(20, isa="rv32imc").part(3, 5), atomic=Made(20, isa="rv32imac").part(3, 5),
+                  values=Made(20, values="3,5,8").part(3, 5),
                   step=made.part(3, 5).replace(b"step 100", b"step 99"),
                   digest=changed(b"program 9 e3", b"program 9 e4")(made.part(3, 5)),
                   unedited=changed(b"outcome 0\nexited 0", b"outcome 0\nexited 9")(Made(20, seed=4, outcomes=["exited 0"]).part(3, 5)))

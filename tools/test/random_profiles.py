@@ -155,7 +155,8 @@ class Program:
     def update(self) -> bytes:
         pointer = self.target()
         to = self.random.choice((0, self.target(), pointer))
-        return bytes_of(self.pointed(pointer), atomic(self.random.choice([*UPDATES.values()]), to, pointer, self.source(), self.random.randrange(4)))
+        funct5 = self.random.choice([*UPDATES.values()])
+        return bytes_of(self.pointed(pointer), atomic(funct5, to, pointer, self.source(), self.random.randrange(4)))
 
     # ---- groups
 

@@ -27,8 +27,8 @@ RULES = {
 
 
 def is_at_atomic(state, isa):
-    """Whether a run that has stopped `misaligned` has met an atomic instruction whose address is no multiple of 4. Any other such stop is at
-    an address at which no instruction of the set begins."""
+    """Whether a run that has stopped `misaligned` has met an atomic instruction whose address is no multiple of 4. Any other such stop is
+    at an address at which no instruction of the set begins."""
     return isa == ATOMIC and state.address % 2 == 0
 
 
