@@ -94,7 +94,7 @@ export class Code {
     const value = this.valueAt(address, length);
     if (value === null) return null;
     const isPatched = this.scenario.patchesOf(address, length).length > 0;
-    const text = (length === HALF ? disassembledHalf : disassembled)(value, address);
+    const text = length === HALF ? disassembledHalf(value, address) : disassembled(value, address, this.isa);
     const isNow = address === this.pc, isAt = address <= this.at && this.at < address + length;
     const names = [isAt && 'at', isPatched && 'patched', isNow && 'now'].filter(Boolean).join(' ');
     return element('tr', { className: names },

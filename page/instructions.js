@@ -1,5 +1,5 @@
-// Instructions of RV32IM as text, in the words of an assembler.
-import { NOTHING, WORD } from './isa.js';
+// Instructions of RV32IM and RV32A as text, in the words of an assembler.
+import { NOTHING, WORD, hasAtomics } from './isa.js';
 import { hexadecimal, hexWord } from './numbers.js';
 
 export const REGISTERS = ['zero', 'ra', 'sp', 'gp', 'tp', 't0', 't1', 't2', 's0', 's1', 'a0', 'a1', 'a2', 'a3', 'a4', 'a5', 'a6', 'a7',
@@ -11,6 +11,13 @@ const IMMEDIATES = { 0: 'addi', 2: 'slti', 3: 'sltiu', 4: 'xori', 6: 'ori', 7: '
 const PLAIN = ['add', 'sll', 'slt', 'sltu', 'xor', 'srl', 'or', 'and'];
 const OTHER = { 0: 'sub', 5: 'sra' };
 const PRODUCTS = ['mul', 'mulh', 'mulhsu', 'mulhu', 'div', 'divu', 'rem', 'remu'];
+
+// The updates of memory by their bits 31 to 27, and the words for bits 26 and 25, which order an atomic instruction among others (RISC-V
+// Unprivileged ISA 20191213, chapter 8).
+const UPDATES = { 0: 'amoadd', 1: 'amoswap', 4: 'amoxor', 8: 'amoor', 12: 'amoand',
+  16: 'amomin', 20: 'amomax', 24: 'amominu', 28: 'amomaxu' };
+const ORDERS = ['', '.rl', '.aq', '.aqrl'];
+const LOAD_RESERVED = 2, STORE_CONDITIONAL = 3;
 
 const place = (address) => hexWord(address >>> 0);
 const signed = (number, bits) => (number << (32 - bits)) >> (32 - bits);
@@ -55,8 +62,16 @@ function jumpBy(word, rd, rs1) {
   return `jalr ${rd},${word >> 20}(${rs1})`;
 }
 
-// The text of an instruction that stands at an address, null where the word is none of RV32IM.
-export function disassembled(word, address) {
+function atomic(word, rd, rs1, rs2) {
+  const [kind, order] = [word >>> 27, ORDERS[word >>> 25 & 3]];
+  if ((word >>> 12 & 7) !== 2) return null;
+  if (kind === LOAD_RESERVED) return rs2 === 'zero' ? `lr.w${order} ${rd},(${rs1})` : null;
+  const name = kind === STORE_CONDITIONAL ? 'sc' : UPDATES[kind];
+  return name ? `${name}.w${order} ${rd},${rs2},(${rs1})` : null;
+}
+
+// The text of an instruction that stands at an address, null where the word of 32 bits is none of a set.
+export function disassembled(word, address, isa) {
   const [rd, rs1, rs2] = [7, 15, 20].map((at) => REGISTERS[word >>> at & 31]);
   const kind = word >>> 12 & 7;
   const toStore = signed((word >>> 25) << 5 | (word >>> 7 & 31), 12);
@@ -71,6 +86,7 @@ export function disassembled(word, address) {
     case 0x6f: return jump(word, rd, address);
     case 0x67: return jumpBy(word, rd, rs1);
     case 0x0f: return kind === 0 ? 'fence' : null;
+    case 0x2f: return hasAtomics(isa) ? atomic(word, rd, rs1, rs2) : null;
     case 0x73: return { 0x73: 'ecall', 0x100073: 'ebreak' }[word] ?? null;
     default: return null;
   }

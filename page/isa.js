@@ -1,7 +1,7 @@
 // Instruction sets, and how long instructions are. Source: RISC-V Unprivileged ISA 20191213, section 1.5.
 import { ISAS } from './facts.js';
 
-export const USUAL = ISAS[0];
+export const [USUAL, , ATOMIC] = ISAS;
 // Bytes of an instruction.
 export const HALF = 2;
 export const WORD = 4;
@@ -11,6 +11,7 @@ export const NOTHING = { [HALF]: 0x0001, [WORD]: 0x13 };
 const ISA_LINE = /^# --isa (\S+)$/m;
 
 export const hasHalves = (isa) => isa !== USUAL;
+export const hasAtomics = (isa) => isa === ATOMIC;
 // Each instruction is at a multiple of it.
 export const unitOf = (isa) => (hasHalves(isa) ? HALF : WORD);
 export const lengthOf = (isa, half) => (hasHalves(isa) && (half & 3) !== 3 ? HALF : WORD);

@@ -12,6 +12,9 @@ export const letter = (value) => (value > 31 && value < 127 ? String.fromCharCod
 export const grouped = (number) => number.toLocaleString('en-US');
 export const many = (count, one, more = `${one}s`) => `${grouped(count)} ${count === 1 ? one : more}`;
 
+// Names in a sentence, the last two with a word between them.
+export const listed = (names, word) => [names.slice(0, -1).join(', '), ...names.slice(-1)].filter(Boolean).join(` ${word} `);
+
 export function milliseconds(time) {
   return time < 10 ? `${time.toFixed(1)} ms` : time < 1000 ? `${Math.round(time)} ms` : `${(time / 1000).toFixed(1)} s`;
 }

@@ -3,7 +3,7 @@ import { $, element } from './dom.js';
 import { EXAMPLES } from './examples.js';
 import { ISAS } from './facts.js';
 import { USUAL } from './isa.js';
-import { many, size } from './numbers.js';
+import { listed, many, size } from './numbers.js';
 
 const ELF = [0x7f, 0x45, 0x4c, 0x46];
 const ROLES = ['program', 'input', 'supp'];
@@ -104,7 +104,7 @@ export class Opening {
 
   // Whether the page has an instruction set; says so where it doesn't.
   check(isa) {
-    if (!ISAS.includes(isa)) this.refuse(`There is no instruction set “${isa}” here, but ${ISAS.join(' and ')}.`);
+    if (!ISAS.includes(isa)) this.refuse(`There is no instruction set “${isa}” here, but ${listed(ISAS, 'and')}.`);
     return ISAS.includes(isa);
   }
 

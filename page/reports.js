@@ -1,20 +1,21 @@
 // The report in place: what is new against the unedited run first, with source lines behind the frames.
 import { $, element, say } from './dom.js';
-import { nameOf, unitOf } from './isa.js';
+import { hasAtomics, nameOf, unitOf } from './isa.js';
 import { grouped, hexWord, many, milliseconds } from './numbers.js';
 import { compared, stateOf, suppressionOf } from './report.js';
 
 const BADGES = { new: 'new', changed: 'changed', gone: 'gone' };
 const STATES = {
   jump: () => 'jumped to where no memory is', break: () => 'met an EBREAK', illegal: (isa) => `met no instruction of ${nameOf(isa)}`,
-  misaligned: (isa) => `jumped to an address that is no multiple of ${unitOf(isa)}`,
+  misaligned: (isa, address) => (hasAtomics(isa) && address % unitOf(isa) === 0
+    ? 'met an atomic instruction whose address is no multiple of 4' : `jumped to an address that is no multiple of ${unitOf(isa)}`),
 };
 const MOST_GROUPS = 200;
 
 function stateWords({ name, rest, address }, isa) {
   if (name === 'exited') return `exited with ${rest}`;
   if (name === 'running') return `running at ${rest}`;
-  return `stopped: ${STATES[rest.split(' ')[0]]?.(isa) ?? rest}, at ${hexWord(address)}`;
+  return `stopped: ${STATES[rest.split(' ')[0]]?.(isa, address) ?? rest}, at ${hexWord(address)}`;
 }
 
 export class Reports {

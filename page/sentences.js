@@ -1,10 +1,10 @@
 // Plain sentences for what goes wrong, each with what to do.
-import { REFUSALS } from './facts.js';
-import { size } from './numbers.js';
+import { ISAS, REFUSALS } from './facts.js';
+import { listed, size } from './numbers.js';
 import { NoEdit } from './scenario.js';
 import { Ended, Refused, Stopped, TooManyLines } from './sessions.js';
 
-const FOR_THE_PROCESSOR = 'Compile and link it for RV32IM or RV32IMC: -march=rv32im -mabi=ilp32, or -march=rv32imc.';
+const FOR_THE_PROCESSOR = `Compile and link it with -mabi=ilp32 and ${listed(ISAS.map((it) => `-march=${it}`), 'or')}.`;
 const ADVICE = {
   13: 'The manual has their form, in the section on suppressions.',
   14: 'Take a shorter input, or cut it in a file.',

@@ -23,6 +23,10 @@ SOURCES = {
     "null": f"{SAY} jalr ra, 0(zero)",
     # Jumps to a multiple of 2, where an EBREAK begins.
     "half": f"{SAY} .word 0x0060006f; .word 0x00730000; .word 0x00000010",
+    # One more by LR and SC, three by an AMO; and one at no multiple of 4.
+    "atomic": f"{SAY} addi sp, sp, -16; sw x0, 0(sp); lr.w a0, (sp); addi a0, a0, 1; sc.w a1, a0, (sp); li t0, 3; amoadd.w a2, t0, (sp); "
+              "lw a0, 0(sp); li a7, 93; ecall",
+    "odd": f"{SAY} addi t0, sp, 2; amoadd.w a0, a0, (t0)",
     "hangs": f"{SAY} again: nop; j again",
     "idles": f"{SAY} again: j again",
     "loud": f"li s0, 17; again: li a7, 64; li a0, 1; li a1, {DATA}; li a2, 2048; li a3, 2048; add a2, a2, a3; ecall; addi s0, s0, -1; "

@@ -9,7 +9,7 @@ import signal
 import subprocess
 
 from replaycheck.guest_files import ENTRY, elf
-from tool_rows import HALF
+from tool_rows import HALF, atomic_file
 
 TOOLS = pathlib.Path(__file__).resolve().parent.parent
 EXPLORE = str(TOOLS / "bin" / "replaycheck-explore")
@@ -95,6 +95,7 @@ def furnish(room):
     for path in [*EXAMPLES.glob("*.elf"), EXAMPLES / "packet.input"]:
         shutil.copy(path, room)
     (room / "half.elf").write_bytes(elf(HALF, symbols=[("main", ENTRY, 4 * len(HALF))]))
+    (room / "counts.elf").write_bytes(atomic_file())
     (room / "packet-2.elf").write_bytes((room / "packet.elf").read_bytes() + b"\0")
     (room / "a name\nin two lines.elf").write_bytes((room / "packet.elf").read_bytes())
     (room / "linked.input").symlink_to("packet.input")

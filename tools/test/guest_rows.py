@@ -5,6 +5,7 @@ import subprocess
 
 from replaycheck.assembly import assemble, number_of
 from replaycheck.guest_files import ENTRY, TOP, answered, elf
+from replaycheck.programs import USUAL, isa_words
 from replaycheck.reports import LEAK_KINDS
 
 TABLES = TOP / "examples" / "guests"
@@ -40,7 +41,7 @@ class Guest:
 
     def __init__(self, label):
         self.label, self.code, self.input, self.lines, self.want = label, "", b"", [], []
-        self.labels, self.entry, self.memory = {}, ENTRY, 0
+        self.labels, self.entry, self.memory, self.isa = {}, ENTRY, 0, USUAL
 
     def add(self, line):
         """One line of the table."""
@@ -75,7 +76,8 @@ class Guest:
         lines = [f"goto {STEPS}", *self.lines] + ([] if "report" in self.lines else ["report"])
         typed = "".join(f"{line}\n" for line in lines)
         command = "look" if any(line.startswith("look ") for line in lines) else "session"
-        ran = subprocess.run([program, command, "guest", "--input", "input"], cwd=folder, input=typed, capture_output=True, text=True)
+        words = [program, command, "guest", "--input", "input", *isa_words(self.isa)]
+        ran = subprocess.run(words, cwd=folder, input=typed, capture_output=True, text=True)
         if ran.returncode or ran.stderr:
             raise ValueError(f"status {ran.returncode} {ran.stderr}".rstrip())
         return answered(ran.stdout.splitlines())
@@ -135,16 +137,18 @@ def value_row(row):
     return guest
 
 
+KINDS = {"value": value_row, "lost": Lost, "guest": Guest}
+
+
 def guests_of(table):
-    guests = []
+    guests, isa = [], USUAL
     for line in table.read_text().splitlines():
         first, _, rest = line.partition(" ")
-        if first == "value":
-            guests.append(value_row(rest))
-        elif first == "lost":
-            guests.append(Lost(rest))
-        elif first == "guest":
-            guests.append(Guest(rest))
+        if first in KINDS:
+            guests.append(KINDS[first](rest))
+            guests[-1].isa = isa
+        elif first == "isa":
+            isa = rest
         elif line and not line.startswith("#"):
             guests[-1].add(line)
     return guests

@@ -147,7 +147,7 @@ def edits_in_turn(bench):
 
 def sets_in_turn(bench):
     """The instruction set: chosen, undone, in a link, and in the lines of a text. Edits that fit stay."""
-    words, short = words_of("boot"), [*words_of("boot"), "--isa=rv32imc"]
+    words, short, atomic = words_of("boot"), [*words_of("boot"), "--isa=rv32imc"], [*words_of("boot"), "--isa=rv32imac"]
     with bench.open("boot") as page:
         def check(isa, given, *lines):
             page.until(f"replaycheck.opened?.isa === '{isa}'")
@@ -166,8 +166,13 @@ def sets_in_turn(bench):
         check("rv32im", words, *kept)
         page.run("replaycheck.use('# --isa rv32imc\\ninput 1 6')")
         check("rv32imc", short, "input 1 6")
-        page.run("replaycheck.use('# --isa rv32imac')")
-        same("a set that there isn't", page.text("notice"), "There is no instruction set “rv32imac” here, but rv32im and rv32imc.")
+        page.run("replaycheck.use('# --isa rv32imac\\npatch 0x10230 0x00b6252f')")
+        check("rv32imac", atomic, "patch 0x10230 0x00b6252f")
+        page.run("replaycheck.code.visit(0x10230)")
+        expect("amoadd.w a0,a1,(a2)" in page.text("code-rows"), "the page doesn't show an atomic instruction")
+        page.run("replaycheck.use('# --isa rv32gc')")
+        same("a set that there isn't", page.text("notice"),
+             "There is no instruction set “rv32gc” here, but rv32im, rv32imc and rv32imac.")
     with bench.page(f"?still{link}") as page:
         bench.settle(page)
         same("a link", page.run("[replaycheck.opened.isa, ...replaycheck.scenario.lines]"), ["rv32imc", *kept])

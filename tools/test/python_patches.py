@@ -1,4 +1,4 @@
-"""Patches of words and halves by `import replaycheck`, for tools/test/test-python."""
+"""Patches of words and halves, and atomic instructions, by `import replaycheck`, for tools/test/test-python."""
 from __future__ import annotations
 
 import random
@@ -8,6 +8,7 @@ import replaycheck
 from replaycheck.guest_files import ENTRY
 from replaycheck.scripting.scenarios import Scenario
 from rows import Rows
+from tool_rows import COUNTED, atomic_file
 
 SIZE, TURNS = 16, 500
 
@@ -44,6 +45,15 @@ def test_halves(rows: Rows, data: bytes) -> None:
         rows.row("halves that are taken back", differs("text", run.report(9).text, before))
         for line, number in (("patch16 0x10001 1", 4), ("patch16 0x20000 1", 4), ("patch16 0x10000 0x10000", 2), ("patch16 0x10000", 2)):
             rows.row(f"rejected: {line}", differs("number", refusal(lambda line=line: run.edit(line)), number))
+
+
+def test_atomics(rows: Rows) -> None:
+    """A run and a sweep of a program with atomic instructions."""
+    with replaycheck.Run(atomic_file(), isa="rv32imac") as run:
+        found = str(run.report(90).state), run.at(9).memory(COUNTED, 4).data, run.at(8).memory(COUNTED, 4).data
+        rows.row("atomic instructions", differs("run", found, ("exited 7", bytes([7, 0, 0, 0]), bytes([1, 0, 0, 0]))))
+    found = {outcome.state for _, outcome in replaycheck.sweep(atomic_file(), words=0x1001E, step=90, isa="rv32imac")}
+    rows.row("a sweep for rv32imac", differs("states", found, {"exited 1"}))
 
 
 def written(data: bytes, line: str) -> bytes:

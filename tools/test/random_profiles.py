@@ -9,7 +9,8 @@ import random
 import struct
 
 from halves import Insn, by_text, disassembled
-from replaycheck.assembly import ECALL, LOADS, STORES, addi, branch, jump, load, load_number, of_immediate, of_registers, store
+from replaycheck.assembly import (ECALL, LOAD_RESERVED, LOADS, STORE_CONDITIONAL, STORES, UPDATES, addi, atomic, branch, jump, load,
+                                  load_number, of_immediate, of_registers, store)
 from replaycheck.guest_files import ENTRY
 
 CODE = 0x8000
@@ -20,8 +21,6 @@ SAVED, SHOWN = 1536, 1664
 STACK = 512
 SP, KEPT, SCRATCH = 2, 8, 31
 FENCE_I = 0x0000100F
-LOAD_RESERVED, STORE_CONDITIONAL = 2, 3
-UPDATES = (0, 1, 4, 8, 12, 16, 20, 24, 28)
 COMPUTING = "c.addi c.li c.lui c.srli c.srai c.andi c.slli c.sub c.xor c.or c.and c.mv c.add c.addi4spn".split()
 FIXED = (SP, KEPT, SCRATCH)
 # Control registers that take each value: mscratch, mcause, mtval, sscratch, scause and stval.
@@ -30,10 +29,6 @@ CONTROLS = (0x340, 0x342, 0x343, 0x140, 0x142, 0x143)
 BOARD, FINISHER = 0x80000000, 0x00100000
 # Which register has the status in the end.
 STATUS = 11
-
-
-def atomic(funct5: int, to: int, base: int, source: int, order: int) -> int:
-    return funct5 << 27 | order << 25 | source << 20 | base << 15 | 2 << 12 | to << 7 | 0x2F
 
 
 def auipc(to: int) -> int:
@@ -160,7 +155,8 @@ class Program:
     def update(self) -> bytes:
         pointer = self.target()
         to = self.random.choice((0, self.target(), pointer))
-        return bytes_of(self.pointed(pointer), atomic(self.random.choice(UPDATES), to, pointer, self.source(), self.random.randrange(4)))
+        funct5 = self.random.choice([*UPDATES.values()])
+        return bytes_of(self.pointed(pointer), atomic(funct5, to, pointer, self.source(), self.random.randrange(4)))
 
     # ---- groups
 

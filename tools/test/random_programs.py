@@ -1,8 +1,8 @@
 """Random programs, for compare-with-twin, test-sweep-table, test-look and test-gdb."""
 import random
 
-from replaycheck.assembly import (EBREAK, ECALL, FENCE, LOADS, STORES, addi, branch, jump, load, load_number, of_immediate,
-                                  of_registers, store)
+from replaycheck.assembly import (EBREAK, ECALL, FENCE, LOAD_RESERVED, LOADS, STORE_CONDITIONAL, STORES, UPDATES, addi, atomic, branch,
+                                  jump, load, load_number, of_immediate, of_registers, store)
 from replaycheck.guest_files import ENTRY
 
 MEMORY, DATA = 0x10000, 0x8000
@@ -125,3 +125,35 @@ class Program:
                        of_immediate(5, SCRATCH, SCRATCH, 16), load(2, 0, SCRATCH, 0)]
         for bit in range(32):
             self.words += [of_immediate(5, SCRATCH, register, bit), of_immediate(7, SCRATCH, SCRATCH, 1), branch(0, SCRATCH, 0, 4)]
+
+
+class AtomicProgram(Program):
+    """The same with atomic instructions."""
+
+    def kinds(self):
+        return [*super().kinds(), (self.update, 16), (self.reserved, 8)]
+
+    def point(self):
+        """Makes a register, which others don't write, an address: seldom one that is no multiple of 4."""
+        base, offset = self.place()
+        self.words.append(addi(SCRATCH, base, offset))
+        if self.random.random() < 0.98:
+            self.words.append(of_immediate(7, SCRATCH, SCRATCH, -4))
+
+    def atomic(self, funct5, source):
+        self.words.append(atomic(funct5, self.target(), SCRATCH, source, self.random.randrange(4)))
+
+    def update(self):
+        self.point()
+        for _ in range(self.random.randrange(1, 4)):
+            self.atomic(self.random.choice([*UPDATES.values()]), self.source())
+
+    def reserved(self):
+        """Up to two loads that reserve, what stores perhaps, and up to two stores on that condition, at the same address or the next."""
+        self.point()
+        for _ in range(self.random.randrange(3)):
+            self.atomic(LOAD_RESERVED, 0)
+        self.plain(self.random.randrange(3))
+        self.words.append(addi(SCRATCH, SCRATCH, self.random.choice((0, 0, 0, 4))))
+        for _ in range(self.random.randrange(1, 3)):
+            self.atomic(STORE_CONDITIONAL, self.source())

@@ -2,6 +2,9 @@
 from dataclasses import dataclass, field
 from typing import Dict, List, Optional
 
+from replaycheck.assembly import assemble
+from replaycheck.guest_files import ENTRY, elf
+
 FORMATS = ("json", "sarif", "valgrind-xml", "junit", "gcc", "github")
 EXPECTED = (4, 17, 18)  # the cases of kinds.elf whose outputs stand in examples/firmware/expected
 ADDR2LINE = ["riscv64-unknown-elf-addr2line"]
@@ -11,7 +14,21 @@ KINDS = ["kinds.elf", "--input", "kinds.input"]
 # Jumps to a multiple of 2, where an EBREAK begins: it is misaligned for rv32im.
 HALF = [0x0060006F, 0x00730000, 0x00000010]
 SHORT = ["half.elf", "--isa=rv32imc"]
-NO_SET = "*--isa: invalid choice: 'rv32imac': choose from rv32im, rv32imc*"
+# Behind an instruction of 16 bits, one is stored by LR and SC, and six more by an AMO: it exits with 7.
+COUNTS = b"\1\0" + b"".join(word.to_bytes(4, "little") for word in assemble(
+    "addi sp, sp, -16; sw x0, 0(sp); again: lr.w a0, (sp); addi a0, a0, 1; sc.w a1, a0, (sp); bne a1, x0, again; li t0, 6; "
+    "amoadd.w.aqrl a2, t0, (sp); lw a0, 0(sp); li a7, 93; ecall"))
+COUNTED = 0x7FFFFFE0  # where it counts
+ATOMIC = ["counts.elf", "--isa=rv32imac"]
+ODD = assemble("addi t0, sp, 2; amoadd.w a0, a0, (t0); nop")
+
+
+def atomic_file():
+    """The file of COUNTS."""
+    return elf([], symbols=[("main", ENTRY, len(COUNTS))], data=COUNTS)
+
+
+NO_SET = "*--isa: invalid choice: 'rv32gc': choose from rv32im, rv32imc, rv32imac*"
 SUPPRESSED = ["run", "undefined-branches.elf", "--supp=undefined-branches.supp"]
 # Tools that wait for a child, and the variables that name the child.
 SLOW = [
@@ -87,7 +104,10 @@ def talk_rows():
               given=b"hello\ngoto 1\n")
     yield Row("talk: for rv32imc", ["talk", *SHORT, "-"], 0, "> look last run 0x10006 4 0\nnone\n> goto 9\nok\n"
               "> look last run 0x10006 4 0\nstep 1\n", given=b"look last run 0x10006 4 0\ngoto 9\nlook last run 0x10006 4 0\n")
-    yield Row("talk: another instruction set", ["talk", "three-words.elf", "-", "--isa=rv32imac"], 2, "", NO_SET)
+    yield Row("talk: for rv32imac", ["talk", *ATOMIC, "-"], 0, f"> goto 9\nok\n> look last read 0x{COUNTED:x} 4 0\nstep 8\n"
+              f"> look next write 0x{COUNTED:x} 4 12\nnone\n", given=f"goto 9\nlook last read 0x{COUNTED:x} 4 0\n"
+              f"look next write 0x{COUNTED:x} 4 12\n".encode())
+    yield Row("talk: another instruction set", ["talk", "three-words.elf", "-", "--isa=rv32gc"], 2, "", NO_SET)
     yield Row("talk: a line with a return", ["talk", "three-words.elf", "-"], 0, "> goto 1\nok\n", given=b"goto 1\r\n")
     yield Row("talk: an input", ["talk", "packet.elf", "--input=packet.input", "--", "-"], 0, "> input 7 1\nok\n",
               given=b"input 7 1")
@@ -125,7 +145,9 @@ def when_rows():
     yield Row("when: no edit", ["when", *PACKET, "--line", "goto 8", "Invalid"], 2, "", "*not an edit: 'goto 8'*")
     yield Row("when: for rv32imc", ["when", *SHORT, "stopped break 0x00010006"], 0, "2\n")
     yield Row("when: for rv32im", ["when", "half.elf", "--isa", "rv32im", "stopped break"], 1)
-    yield Row("when: another instruction set", [*when, "--isa=rv32imac", "x"], 2, "", NO_SET)
+    yield Row("when: for rv32imac", ["when", *ATOMIC, "state exited 7"], 0, "12\n")
+    yield Row("when: atomic instructions for rv32imc", ["when", "counts.elf", "--isa=rv32imc", "stopped illegal 0x0001000a"], 0, "4\n")
+    yield Row("when: another instruction set", [*when, "--isa=rv32gc", "x"], 2, "", NO_SET)
     yield Row("when: an instruction set twice", ["when", *SHORT, *SHORT[1:], "x"], 2, "", "*--isa is given twice*")
     yield Row("when: no instruction set", [*when, "x", "--isa"], 2, "", "*--isa: its value is missing*")
     yield Row("when: a step that is too great", [*when, "--last", "4194305", "x"], 2, "",
@@ -144,7 +166,8 @@ def compare_rows():
     yield Row("compare: a suppression", [*compare, "--supp", "free.supp", "option redzone 32"], 0)
     yield Row("compare: for rv32imc", ["compare", *SHORT, "patch 0x10004 0"], 1,
               "*-state stopped break 0x00010006\n+state stopped illegal 0x00010006\n*")
-    yield Row("compare: another instruction set", [*compare, "--isa", "rv32imac", "input 0 8"], 2, "", NO_SET)
+    yield Row("compare: for rv32imac", ["compare", *ATOMIC, "patch 0x1001e 0x0e51262f"], 1, "*-state exited 7\n+state exited 6\n*")
+    yield Row("compare: another instruction set", [*compare, "--isa", "rv32gc", "input 0 8"], 2, "", NO_SET)
     yield Row("compare: a step that is too great", [*compare, "--step", "5000000", "input 0 8"], 2, "",
               "*not a number from 0*")
     yield Row("compare: a missing program", ["compare", "missing", "input 0 8"], 2, "",
@@ -226,7 +249,12 @@ def word_rows():
                   needs=BINUTILS)
     yield Row("word: of rv32imc, two words", [*short, "li a0,70000"], 1, "", "*2 words, not one*", needs=BINUTILS)
     yield Row("word: not of rv32imc", [*short, "c.flw fa0,0(a0)"], 1, "", "*Error*", needs=BINUTILS)
-    yield Row("word: another instruction set", ["word", "nop", "--isa=rv32imac"], 2, "", NO_SET)
+    for word, instruction in (("0x00b6252f", "amoadd.w a0,a1,(a2)"), ("0x0eb6252f", "amoswap.w.aqrl a0,a1,(a2)"),
+                              ("0x1406252f", "lr.w.aq a0,(a2)"), ("0x1ab6252f", "sc.w.rl a0,a1,(a2)"), ("0x4505", "c.li a0,1")):
+        yield Row(f"word: of rv32imac, {instruction}", ["word", "--isa=rv32imac", instruction], 0, f"{word}\n", needs=BINUTILS)
+    yield Row("word: not of rv32imac", ["word", "--isa=rv32imac", "amoadd.d a0,a1,(a2)"], 1, "", "*Error*", needs=BINUTILS)
+    yield Row("word: atomic, not of rv32imc", [*short, "amoadd.w a0,a1,(a2)"], 1, "", "*Error*", needs=BINUTILS)
+    yield Row("word: another instruction set", ["word", "nop", "--isa=rv32gc"], 2, "", NO_SET)
     yield Row("word: two lines", ["word", "nop\nnop"], 2, "", "*two lines in one argument*", needs=BINUTILS)
     yield Row("word: no assembler", ["word", "nop"], 2, "", "*cannot run missing-as*binutils*",
               environment={"AS": "missing-as"})
@@ -291,7 +319,13 @@ def run_rows():
               '*"input": null,\n "isa": "rv32imc",\n "step": 4194304*"why": "break"*"clean": true*')
     yield Row("run: for rv32im, as json", ["run", "half.elf", "--isa=rv32im", "--format=json"], 0,
               '*"input": null,\n "step": 4194304*"why": "misaligned"*')
-    yield Row("run: another instruction set", ["run", "half.elf", "--isa=rv32imac", "--format=json"], 2, "", NO_SET)
+    yield Row("run: for rv32imac", ["run", *ATOMIC], 0, "*state exited 7\n*")
+    yield Row("run: for rv32imac, as json", ["run", *ATOMIC, "--format=json"], 0, '*"input": null,\n "isa": "rv32imac",\n*"status": 7*')
+    yield Row("run: an atomic instruction at no multiple of 4", ["run", "odd.elf", "--isa=rv32imac", "--format=gcc"], 0,
+              "*stopped: an atomic instruction at an address that is no multiple of 4*", needs=ADDR2LINE)
+    yield Row("run: no atomic instruction for rv32imc", ["run", "counts.elf", "--isa=rv32imc", "--format=gcc"], 0,
+              "*stopped: no instruction of RV32IMC*", needs=ADDR2LINE)
+    yield Row("run: another instruction set", ["run", "half.elf", "--isa=rv32gc", "--format=json"], 2, "", NO_SET)
     for label, case, kinds, status in LEAKS:
         yield Row(f"run: {label}", ["run", "kinds.elf", f"--input=case-{case}", f"--errors-for-leak-kinds={kinds}",
                                     "--error-exitcode=7"], status, None)

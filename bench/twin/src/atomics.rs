@@ -1,6 +1,7 @@
 //! Atomic instructions (RISC-V Unprivileged ISA 20191213, chapter 8). With one hart each is a load, a store or both, in one step.
 
 use crate::errors::Kind;
+use crate::looks::Access;
 use crate::machine::{Bits, Machine, Status, and, field, known, or, sum, xor};
 
 const LOAD_RESERVED: u32 = 2;
@@ -84,6 +85,7 @@ impl Machine {
     }
 
     fn load_word(&mut self, at: u32) -> Bits {
+        self.note(Access::Read, at, 4);
         let loaded = self.memory.load::<4>(at);
         if let Some(bad) = loaded.bad {
             self.raise_at(Kind::Read(4), bad);
@@ -92,6 +94,7 @@ impl Machine {
     }
 
     fn store_word(&mut self, at: u32, bits: Bits) {
+        self.note(Access::Write, at, 4);
         if let Some(bad) = self.memory.store::<4>(at, bits.value, bits.undef) {
             self.raise_at(Kind::Write(4), bad);
         }

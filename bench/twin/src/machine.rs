@@ -481,6 +481,7 @@ impl Machine {
     #[inline(never)]
     fn extension(&mut self, word: u32) -> bool {
         match word & 0x7F {
+            FENCE | SYSTEM if !self.isa.has_controls() => self.illegal(),
             FENCE if field(word, 14, 12) == 1 => true,
             SYSTEM if word == WFI => true,
             SYSTEM => self.execute_control(word) || self.illegal(),

@@ -113,7 +113,7 @@ impl Session {
             return UNKNOWN.to_string();
         }
         let read = format!("input {} of {}", machine.position, self.input.len());
-        let head = format!("step {}\n{}\n{read}\noutput 0", self.step, looks::state(&machine));
+        let head = format!("step {}\n{}\n{read}\noutput {}", self.step, looks::state(&machine), machine.output);
         let lost = ["definitely lost", "indirectly lost", "possibly lost", "still reachable", "suppressed"];
         let lost = lost.map(|kind| format!("{kind}: 0 bytes in 0 blocks\n")).concat();
         format!("{head}\n{lost}ERROR SUMMARY: 0 errors from 0 contexts (suppressed: 0 from 0)")

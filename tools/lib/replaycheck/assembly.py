@@ -1,4 +1,4 @@
-"""Instructions of RV32IM: their words, and a small assembler for the programs of tests and measurements."""
+"""Instructions of RV32IM and RV32A: their words, and a small assembler for the programs of tests and measurements."""
 import re
 
 from replaycheck.guest_files import ENTRY
@@ -18,6 +18,12 @@ OF_IMMEDIATES = {"addi": 0, "slli": 1, "slti": 2, "sltiu": 3, "xori": 4, "srli":
 LOADS = {"lb": 0, "lh": 1, "lw": 2, "lbu": 4, "lhu": 5}
 STORES = {"sb": 0, "sh": 1, "sw": 2}
 PLAIN = {"nop": 0x13, "ecall": ECALL, "ebreak": EBREAK, "fence": FENCE}
+# funct5 of atomic instructions, and the bits aq and rl (RISC-V Unprivileged ISA 20191213, chapter 8).
+LOAD_RESERVED, STORE_CONDITIONAL = 2, 3
+UPDATES = {"amoadd.w": 0, "amoswap.w": 1, "amoxor.w": 4, "amoor.w": 8, "amoand.w": 12, "amomin.w": 16, "amomax.w": 20, "amominu.w": 24,
+           "amomaxu.w": 28}
+ATOMICS = {"lr.w": LOAD_RESERVED, "sc.w": STORE_CONDITIONAL, **UPDATES}
+ORDERS = {"": 0, ".rl": 1, ".aq": 2, ".aqrl": 3}
 BRANCHES = {"beq": 0, "bne": 1, "blt": 4, "bge": 5, "bltu": 6, "bgeu": 7}
 
 
@@ -59,6 +65,10 @@ def jump(to, offset):
     return high | (offset >> 12 & 0xFF) << 12 | to << 7 | 0x6F
 
 
+def atomic(funct5, to, base, source=0, order=0):
+    return funct5 << 27 | order << 25 | source << 20 | base << 15 | 2 << 12 | to << 7 | 0x2F
+
+
 # ---- text
 
 
@@ -89,6 +99,10 @@ def words_of(name, fields, away):
         return [load(0, register[0], register[2], number_of(fields[1])) | 0x64]
     if name == ".word":
         return [number_of(field) for field in fields]
+    found = re.fullmatch(r"(\w+\.w)(|\.rl|\.aq|\.aqrl)", name)
+    if found and found[1] in ATOMICS:
+        *source, base = register[1:]  # `lr.w` has no second register
+        return [atomic(ATOMICS[found[1]], register[0], base, *source or [0], ORDERS[found[2]])]
     return short_form(name, fields, register, away)
 
 

@@ -5,17 +5,12 @@ from replaycheck.allocators import is_of_allocator, is_of_library
 from replaycheck.demangling import Demangler
 from replaycheck.endings import Fault
 from replaycheck.places import NoPlaces, Place, Places
-from replaycheck.programs import ISAS
+from replaycheck.programs import ATOMIC, USUAL, unit_of
 from replaycheck.records import Record
 from replaycheck.reports import LEAK_KINDS, Address, Frame, Report
 
 RUNNING = "Running"
-STOPS = {
-    "jump": "stopped: a jump to where no memory is",
-    "break": "stopped: an EBREAK",
-    "illegal": "stopped: no instruction of RV32IM",
-    "misaligned": "stopped: a jump to an address that is no multiple of 4",
-}
+STOPS = {"jump": "a jump to where no memory is", "break": "an EBREAK"}
 RULES = {
     "Addr1": "Invalid read or write of one byte",
     "Addr2": "Invalid read or write of two bytes",
@@ -29,6 +24,23 @@ RULES = {
     "Stop": "A stop that is no exit",
     RUNNING: "A program that still runs at the last step, so that what it does later isn't checked",
 }
+
+
+def is_at_atomic(state, isa):
+    """Whether a run that has stopped `misaligned` has met an atomic instruction whose address is no multiple of 4. Any other such stop is
+    at an address at which no instruction of the set begins."""
+    return isa == ATOMIC and state.address % 2 == 0
+
+
+def stop_text(state, isa):
+    """Why a run has stopped."""
+    if state.why == "illegal":
+        return f"stopped: no instruction of {isa.upper()}"
+    if state.why != "misaligned":
+        return f"stopped: {STOPS[state.why]}"
+    if is_at_atomic(state, isa):
+        return "stopped: an atomic instruction at an address that is no multiple of 4"
+    return f"stopped: a jump to an address that is no multiple of {unit_of(isa)}"
 
 
 class Call:
@@ -80,7 +92,7 @@ class Shown:
     """A report, the files of its run, and how it is shown: where instructions stand, which leaks count as errors, which heap the file has,
     if that is known, and whether an unseen heap counts as an error."""
 
-    def __init__(self, report: Report, file: str, given: str | None, leaks_that_count, heap=None, needs_heap=False, isa=ISAS[0]):
+    def __init__(self, report: Report, file: str, given: str | None, leaks_that_count, heap=None, needs_heap=False, isa=USUAL):
         self.report, self.file, self.given, self.isa = report, file, given, isa
         self.leaks_that_count, self.heap, self.needs_heap = leaks_that_count, heap, needs_heap
         self.made, self.places, self.names, self.verdict = {}, None, None, ""
@@ -134,7 +146,7 @@ class Shown:
             yield Finding("Leak", LEAK_KINDS[leak.kind] in self.leaks_that_count, text, 1, self.calls(leak.trace))
         state = self.report.state
         if state.name == "stopped":
-            yield Finding("Stop", True, STOPS[state.why], 1, self.calls([self.frame_at(state.address)]))
+            yield Finding("Stop", True, stop_text(state, self.isa), 1, self.calls([self.frame_at(state.address)]))
         if state.name == "running":
             text = f"still running at step {self.report.step}"
             yield Finding(RUNNING, True, text, 1, self.calls([self.frame_at(state.address)]))

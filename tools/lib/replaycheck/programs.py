@@ -7,8 +7,9 @@ from replaycheck.endings import Fault
 TOP = os.path.realpath(f"{__file__}/../../../..")
 BUILT_FROM = f"{TOP}/built-from"
 PROGRAM = f"{TOP}/crates/replaycheck/out/replaycheck"
-# The instruction sets that the program has, by their names for its option `--isa`. The first one is the usual one.
-ISAS = ("rv32im", "rv32imc")
+# The instruction sets that the program has, by their names for its option `--isa`: the usual one, one with instructions of 16 bits, and one
+# that has also atomic instructions.
+ISAS = USUAL, SHORT, ATOMIC = ("rv32im", "rv32imc", "rv32imac")
 
 
 class Built:
@@ -49,7 +50,12 @@ def tool(variable, names):
 
 def isa_words(isa):
     """The option of the program for an instruction set: none for the usual one."""
-    return [] if isa == ISAS[0] else [f"--isa={isa}"]
+    return [] if isa == USUAL else [f"--isa={isa}"]
+
+
+def unit_of(isa):
+    """How many bytes the shortest instruction of a set has: each is at a multiple of that."""
+    return 4 if isa == USUAL else 2
 
 
 def path_of(path):

@@ -2,6 +2,8 @@
 import bisect
 import collections
 
+from replaycheck import programs
+
 from . import instructions as isa
 from .elf import HAS_CODE, word_at
 from .halves import expanded, is_half
@@ -54,7 +56,7 @@ class Code:
     and what is reached from the entry, from functions without a size and from mapping symbols `$x`, by each next word,
     branch and jump. What follows a function of known size isn't reached from it. Closed ranges are never run."""
 
-    unit = 4
+    unit, least = 4, programs.USUAL
 
     def __init__(self, elf, closed=()):
         self.elf = elf
@@ -143,11 +145,18 @@ class Code:
             return False
         return True
 
+    def least_set(self):
+        """The least of the program's instruction sets that has all that was found, but for what is cured; None if none has."""
+        if self.floating or self.compressed or self.unknown or not all(isa.is_atomic(it.word) for it in self.atomic):
+            return None
+        return programs.ATOMIC if self.atomic else self.least
+
 
 class CodeOfHalves(Code):
-    """The same of a file that has instructions of 16 bits too. `compressed` has those that stand for none of RV32IM."""
+    """The same of a file that has instructions of 16 bits too. `compressed` has those that stand for none of RV32IM. No instruction of
+    such a file is cured."""
 
-    unit = 2
+    unit, least = 2, programs.SHORT
 
     def line(self, address):
         stretch, elsewhere, before = self.stretch_at(address), [], 0
@@ -171,9 +180,8 @@ class CodeOfHalves(Code):
                 return elsewhere
         return elsewhere
 
-    def is_taken(self):
-        """Whether RV32IM with instructions of 16 bits has all instructions that were found."""
-        return not (self.control or self.atomic or self.floating or self.compressed or self.unknown)
+    def least_set(self):
+        return None if self.control else super().least_set()
 
 
 def unseen(stretch, start, end, unit):

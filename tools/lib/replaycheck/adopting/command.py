@@ -109,7 +109,7 @@ def answer_for_devices(findings, inputs, kept):
     for given in inputs:
         os.stat(given)
     begun = filter(can_be, answerable(findings.devices))
-    sites, findings.runs = tried(findings.elf, inputs, begun, can_be, content_for)
+    sites, findings.runs = tried(findings.elf, findings.isa, inputs, begun, can_be, content_for)
     content_for(sites)
     findings.devices = left(findings.devices, set(sites))
 

@@ -2,6 +2,8 @@
 cures."""
 import collections
 
+from replaycheck.programs import USUAL
+
 from .code import Code, CodeOfHalves, joined, replaced, stack_words, without
 from .devices import Driving
 from .elf import IS_COMPRESSED, REGIONS, ROOM, Elf, refusals
@@ -9,17 +11,16 @@ from .heaps import Plan
 from .outside import reached
 from .semihosting import Hosting, sites
 
-# What only a rebuild cures: what it is, the cure, and whether nothing of the file runs before.
-Obstacle = collections.namedtuple("Obstacle", "what cure stops_all")
+# What only a rebuild cures, or an option: what it is, the cure, whether nothing of the file runs before, and whether an option cures it.
+Obstacle = collections.namedtuple("Obstacle", "what cure stops_all by_option", defaults=(False,))
 # The refusals of files that no linker has written so.
 DAMAGED = (20, 23, 26, 28, 31)
 TARGET = "-march=rv32im -mabi=ilp32"
-SHORT = "--isa rv32imc"
 
 
 class Findings:
-    """All that is found in a file. `elf` is None where it can't be read so far. `option` is one of the program with which the file runs
-    although it is hopeless without; None if there is none."""
+    """All that is found in a file. `elf` is None where it can't be read so far. `isa` is the instruction set for which the file is to be
+    run, the usual one if no other has all that is missing in it."""
 
     def __init__(self, data, heaps, kept):
         refused = refusals(data)
@@ -27,14 +28,19 @@ class Findings:
         self.damaged = next((it for it in refused if it.number in DAMAGED), None)
         self.elf = Elf(data) if all(it.readable for it in refused) else None
         self.plan, self.control, self.stack, self.copied, self.devices = None, [], [], [], []
-        self.hosting, self.driving, self.runs, self.option = None, None, 0, None
+        self.hosting, self.driving, self.runs, self.isa = None, None, 0, USUAL
         if self.elf is None:
             return
         if self.elf.flags & IS_COMPRESSED:
-            self.option = None if self.obstacles or not has_short_code(self.elf) else SHORT
+            self.isa = USUAL if self.obstacles else set_of(CodeOfHalves(self.elf))
             self.obstacles.append(compressed(self.elf, self.option))
         if not self.hopeless():
             self.look(heaps, kept)
+
+    @property
+    def option(self):
+        """The option of the program without which the file doesn't run, or not to its end; None if there is none."""
+        return None if self.isa == USUAL else f"--isa {self.isa}"
 
     def hopeless(self):
         """Whether nothing that can be done to the file makes any of it run."""
@@ -56,10 +62,10 @@ class Findings:
                                            "name the first function to the linker: ENTRY(_start), or -Wl,-e,_start",
                                            True))
             return
-        code.follow()
+        self.isa = set_of(code)
         self.control = [replaced(code, it) for it in code.control if self.elf.function_at(it.address) not in kept]
         self.stack = [it for it in stack_words(code, self.elf.entry) if self.elf.function_at(it.address) not in kept]
-        self.obstacles += of_code(self.elf, code)
+        self.obstacles += of_code(self.elf, code, self.option)
         self.copied, unplaced = physical(self.elf)
         self.obstacles += [Obstacle(
             f"{it.filesz} bytes for 0x{it.vaddr:08x} that the linker script puts to 0x{it.paddr:08x}, where they can't "
@@ -105,11 +111,10 @@ class Findings:
         return sum(len(it.sites) for it in self.added()) + len(taken) + len(self.control) + len(self.stack) + len(self.copied)
 
 
-def has_short_code(elf):
-    """Whether all code that is found is RV32IM's with instructions of 16 bits."""
-    code = CodeOfHalves(elf)
+def set_of(code):
+    """The instruction set for code that is looked at now: the usual one if no other has all that is found."""
     code.follow()
-    return code.is_taken()
+    return code.least_set() or USUAL
 
 
 def compressed(elf, option):
@@ -117,28 +122,32 @@ def compressed(elf, option):
     code = Code(elf)
     code.follow()
     place = f", at {places(elf, code.compressed)}" if code.compressed else ""
-    how = f"give the option {option}, which takes them; or " if option else ""
     return Obstacle(f"compressed instructions, by bit 0 of e_flags{place}: at the first the run stops",
-                    f"{how}compile all of it, and link with libraries for it: {TARGET}", True)
+                    f"{by_option(option)}compile all of it, and link with libraries for it: {TARGET}", True, bool(option))
+
+
+def by_option(option):
+    """The words of a cure by an option of the program, if one takes all instructions."""
+    return f"give the option {option}, which takes them; or " if option else ""
 
 
 def places(elf, found):
     return elf.where_all([it.address for it in found])
 
 
-def of_code(elf, code):
-    """Obstacles of instructions that there aren't."""
+def of_code(elf, code, option):
+    """Obstacles of instructions that there aren't, or only with an option. Of all kinds only atomic ones have one here."""
     kinds = [
         (code.compressed, "compressed instructions", f"compile all of it, and link with libraries for it: {TARGET}"),
         (code.atomic, "atomic instructions",
-         f"compile with {TARGET}, without the letter a: then they are calls of __atomic_*, "
+         f"{by_option(option)}compile with {TARGET}, without the letter a: then they are calls of __atomic_*, "
          "which stubs.c of the firmware kit has"),
         (code.floating, "instructions for floating point",
          f"compile with {TARGET}, without the letters f and d: then the library computes"),
         (code.unknown, "words that are no instructions of RV32IM",
          f"compile with {TARGET}, without further extensions"),
     ]
-    return [Obstacle(f"{what}, at {places(elf, found)}: a run that reaches one stops there", cure, False)
+    return [Obstacle(f"{what}, at {places(elf, found)}: a run that reaches one stops there", cure, False, bool(option))
             for found, what, cure in kinds if found]
 
 

@@ -1,6 +1,8 @@
 """Words of RISC-V instructions: which of them are RV32IM's, where they go, and those that cures are made of."""
 import functools
 
+from replaycheck.assembly import ATOMICS, LOAD_RESERVED
+
 NAMES = ["zero", "ra", "sp", "gp", "tp", "t0", "t1", "t2", "s0", "s1", *(f"a{i}" for i in range(8)),
          *(f"s{i}" for i in range(2, 12)), *(f"t{i}" for i in range(3, 7))]
 NOP, UNIMP, ECALL, EBREAK = 0x00000013, 0xC0001073, 0x00000073, 0x00100073
@@ -94,6 +96,13 @@ def has_row(opcode_and_functs):
 
 def is_of_rv32im(word):
     return has_row(word & 0xFE00707F) or word in (ECALL, EBREAK)
+
+
+def is_atomic(word):
+    """Whether it is an atomic instruction of RV32A. That which reserves has no second register."""
+    funct5 = word >> 27
+    return (opcode(word) == ATOMIC and funct3(word) == 2 and funct5 in ATOMICS.values()
+            and not (funct5 == LOAD_RESERVED and word >> 20 & 31))
 
 
 def may_jump(word):

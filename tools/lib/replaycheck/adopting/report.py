@@ -109,10 +109,11 @@ def verdict(findings, name, out):
     if findings.hopeless():
         without = f" without {findings.option}" if findings.option else ""
         return f"{name} won't run{without}" + (f", and {out} wasn't written" if out else "")
+    runs = "will run" + (f" with {findings.option}" if findings.option else "")
     devices = "waits for no device" if findings.devices else ""
-    if findings.obstacles:
-        return f"{out or name} will run as far as it meets nothing that needs a rebuild" + (devices and f" and {devices}")
+    if not all(it.by_option for it in findings.obstacles):
+        return f"{out or name} {runs} as far as it meets nothing that needs a rebuild" + (devices and f" and {devices}")
     if out or not findings.cures():
-        certain = f"{out} will run" if out else f"{name} will run as it is"
-        return f"{out or name} will run as far as it {devices}" if devices else certain
-    return f"{name} will run once it is cured" + (devices and f", as far as it {devices}")
+        certain = f"{out or name} {runs}" + ("" if out or findings.option else " as it is")
+        return f"{out or name} {runs} as far as it {devices}" if devices else certain
+    return f"{name} {runs} once it is cured" + (devices and f", as far as it {devices}")

@@ -8,10 +8,10 @@ from replaycheck.options import LAST_STEP
 from .devices import spans
 
 
-def reaching(path, given, elf, known, can_be):
+def reaching(path, given, elf, isa, known, can_be):
     """Loads and stores that reach a device in a run and aren't known yet. A register that is polled hides those that come
     after it, which another run finds once the first is answered."""
-    run, found = Run(path, given, None), set()
+    run, found = Run(path, given, None, isa), set()
     for span in spans(elf):
         for kind in ("read", "write"):
             step = 0
@@ -26,8 +26,8 @@ def reaching(path, given, elf, known, can_be):
     return found
 
 
-def tried(elf, inputs, begun, can_be, content_for):
-    """Some sites, and those that runs on inputs add to them: `can_be` says of an address whether it can be one.
+def tried(elf, isa, inputs, begun, can_be, content_for):
+    """Some sites, and those that runs on inputs for an instruction set add to them: `can_be` says of an address whether it can be one.
     `content_for` makes a file in which sites are answered for. Returns the sites and how many runs there were."""
     known, runs = set(begun), 0
     with tempfile.TemporaryDirectory(prefix="adopt-") as folder:
@@ -37,7 +37,7 @@ def tried(elf, inputs, begun, can_be, content_for):
                 path = os.path.join(folder, str(runs))
                 with open(path, "wb") as file:
                     file.write(content_for(sorted(known)))
-                more = reaching(path, given, elf, known, can_be)
+                more = reaching(path, given, elf, isa, known, can_be)
                 known |= more
                 runs += 1
     return sorted(known), runs

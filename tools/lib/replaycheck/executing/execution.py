@@ -8,7 +8,7 @@ from replaycheck.executing.arguments import patches_for
 from replaycheck.executing.choices import FAILED, Choices, choices_of
 from replaycheck.executing.logs import NAME, Log, Unwritten, log_text, note
 from replaycheck.options import LAST_STEP
-from replaycheck.programs import isa_words, path_of, program
+from replaycheck.programs import USUAL, isa_words, path_of, program
 from replaycheck.reports import Lines, NoReport, read_report
 
 UNREADABLE, REFUSED = 127, 126
@@ -176,11 +176,12 @@ def rest_of(number):
     return b"".join(parts)
 
 
-def log_of_quiet_run(process, first, file):
-    """Writes the log of a run that the launcher has made, whose report is on standard input after its first byte."""
+def log_of_quiet_run(process, first, isa, file):
+    """Writes the log of a run that the launcher has made, whose report is on standard input after its first byte. `isa` is empty for the
+    usual instruction set."""
     def main():
         choices = Choices()
-        choices.file, choices.quiet = file, True
+        choices.file, choices.quiet, choices.isa = file, True, isa or USUAL
         told = first + rest_of(0).decode("utf-8", "surrogateescape")
         Log(choices).write(log_text(choices, told, parsed(told), process))
         return 0

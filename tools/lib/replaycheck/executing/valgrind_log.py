@@ -1,9 +1,12 @@
 """A log in the form of Valgrind's Memcheck, which ctest's MemCheck step reads."""
+from replaycheck.findings import is_at_atomic
+from replaycheck.programs import unit_of
 
 # The signal of which a process would have died, and what of the address.
 STOPS = {"illegal": (4, "SIGILL", "Illegal instruction at address"), "break": (5, "SIGTRAP", "EBREAK at address"),
-         "misaligned": (7, "SIGBUS", "Jump to an address that is no multiple of 4, from"),
+         "misaligned": (7, "SIGBUS", "Jump to an address that is no multiple of {unit}, from"),
          "jump": (11, "SIGSEGV", "Jump to where no memory is, to address")}
+OF_ATOMIC = "Atomic instruction whose address is no multiple of 4, at"
 # The text that Memcheck has for one of an error.
 MEMCHECKS = {"Invalid free() / realloc()": "Invalid free() / delete / delete[] / realloc()"}
 SUMS = ("definitely lost", "indirectly lost", "possibly lost", "still reachable", "suppressed")
@@ -29,6 +32,8 @@ def stop_lines(shown):
     state = shown.report.state
     if state.name == "stopped":
         number, name, what = STOPS[state.why]
+        if state.why == "misaligned":
+            what = OF_ATOMIC if is_at_atomic(state, shown.isa) else what.format(unit=unit_of(shown.isa))
         yield f"Process terminating with default action of signal {number} ({name})"
         yield f" {what} {state.address}"
     elif state.name == "running":

@@ -9,12 +9,12 @@ from dataclasses import dataclass, replace
 from replaycheck.adopting.elf import Elf, refusals
 from replaycheck.endings import Fault
 from replaycheck.options import BadValue
-from replaycheck.programs import ISAS, isa_words
+from replaycheck.programs import USUAL, isa_words, unit_of
 from replaycheck.sessions import path_of
 
 from .heads import form_of_words, told_isa
 from .lines import shown_name
-from .ranges import HALF, WORD, Code, Loaded, Range
+from .ranges import Code, Loaded, Range
 from .steps import Steps, models_fault
 from .tables import EDGES
 from .unedited import Unedited, default_step
@@ -112,9 +112,9 @@ class Request:
         self.files = [given(what, name, room) for what, name in
                       (("program", options.file), ("input", options.input), ("supp", options.supp))]
         self.program, self.input, self.supp = self.files
-        self.isa = options.isa or ISAS[0]
+        self.isa = options.isa or USUAL
         self.code = options.code
-        self.unit = WORD if self.isa == ISAS[0] else HALF  # each instruction is at a multiple of it
+        self.unit = unit_of(self.isa)
         self.instructions = {}
         self.elf = None if refusals(self.program.content) else Elf(self.program.content)
         self.ranges, self.notes = [], []

@@ -3,15 +3,15 @@ import re
 
 from replaycheck.adopting.elf import FUNCTION, Elf, refusals
 from replaycheck.adopting.halves import expanded, is_half
-from replaycheck.adopting.instructions import AUIPC, IMMEDIATE, LOAD, LUI, REGISTERS, SP, STORE, SYSTEM, opcode, rd
+from replaycheck.adopting.instructions import ATOMIC, AUIPC, IMMEDIATE, LOAD, LUI, REGISTERS, SP, STORE, SYSTEM, opcode, rd
 from replaycheck.endings import Fault
-from replaycheck.programs import ISAS
+from replaycheck.programs import USUAL
 
 LONGEST_FILE = 1 << 26
 MOST_MARKED = 1 << 20  # so many bytes one mark may have
 HEAP, STACK_TOP, STACK = 0x40000000, 0x80000000, 0x7F000000
 HEAP_FUNCTIONS = ("malloc", "free", "calloc", "realloc")
-KINDS = {STORE: "store", LOAD: "load", SYSTEM: "call"}
+KINDS = {STORE: "store", LOAD: "load", ATOMIC: "atomic", SYSTEM: "call"}
 PATCH = re.compile(r"patch(16)? (\S+) (\S+)")
 MARK = re.compile(r"mark (\S+) (\S+) (\S+) undefined")
 
@@ -19,8 +19,8 @@ MARK = re.compile(r"mark (\S+) (\S+) (\S+) undefined")
 class Image:
     """A program's file, with the words that lines of the session patch, for an instruction set."""
 
-    def __init__(self, path, lines, isa=ISAS[0]):
-        self.has_halves = isa != ISAS[0]
+    def __init__(self, path, lines, isa=USUAL):
+        self.has_halves = isa != USUAL
         with open(path, "rb") as file:
             data = file.read(LONGEST_FILE + 1)
         if any(not it.readable for it in refusals(data)):
@@ -51,11 +51,11 @@ class Image:
 
     def kind(self, address):
         """What an instruction is: the name of a function of the heap, `frame` where it moves the stack pointer,
-        `store`, `load`, `call`, or `other`."""
+        `store`, `load`, `atomic`, `call`, or `other`."""
         word = self.instruction(address)
         if address in self.heap:
             return self.heap[address]
-        writes = opcode(word) in (IMMEDIATE, REGISTERS, LUI, AUIPC, LOAD)
+        writes = opcode(word) in (IMMEDIATE, REGISTERS, LUI, AUIPC, LOAD, ATOMIC)
         return "frame" if writes and rd(word) == SP else KINDS.get(opcode(word), "other")
 
     def creates(self, address):

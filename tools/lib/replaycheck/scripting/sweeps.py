@@ -9,10 +9,9 @@ from replaycheck.children import Child, piped
 from replaycheck.endings import Fault
 from replaycheck.exploring import outcomes
 from replaycheck.exploring.lines import BadTable
-from replaycheck.exploring.ranges import HALF, WORD
 from replaycheck.exploring.tables import Table
 from replaycheck.options import USUAL_STEP
-from replaycheck.programs import ISAS, built_program, isa_words
+from replaycheck.programs import ISAS, built_program, isa_words, unit_of
 from replaycheck.refusals import Ended
 from replaycheck.scripting.errors import Error, Usage, of_end
 from replaycheck.scripting.files import Room, Source, name_of, read
@@ -93,7 +92,7 @@ def words_of(data: bytes, name: str, file: str, isa: str) -> Optional[str]:
     symbols = Symbols(data, file)
     at = symbols.address(name)
     size = max((symbols.elf.extent(it) for it in symbols.elf.functions if it.value == at), default=0)
-    unit = WORD if isa == ISAS[0] else HALF
+    unit = unit_of(isa)
     if size < unit:
         raise Usage(f"{file}: {name} is no function")
     return f"0x{at:08x}..0x{at + size // unit * unit - unit:08x}"
