@@ -1,14 +1,13 @@
 -- Effects that agree, of atomic instructions.
 use Rattle.std.proofs.Common.{◌≡◌, ℕ, ◌%◌, ◌^◌, ◌<◌, ◌==◌, ◌&&◌, Bool, true, false, cond, refl}
-use Rattle.std.proofs.Common.{sym, ap, ◌∙◌, subst, subst₂, arith, List, [], ◌++◌, Option, Some, None}
+use Rattle.std.proofs.Common.{sym, ap, subst, subst₂, arith, List, [], ◌++◌, Option, Some, None}
 use Rattle.definedness.specs.declared.Bits.{Bits}
 use Rattle.definedness.specs.Operations.{less_signed, less_unsigned}
 use Rattle.definedness.specs.Undefined.{undef_wide}
 use Rattle.definedness.proofs.Laws.{wide_law}
 use Rattle.error_events.specs.declared.event.Event.{Event}
 use Rattle.error_events.specs.declared.kind.Kind.TheVariants.{Read, Write, Value}
-use Rattle.shadow_memory.specs.Ranges.{little_word, window, byte_of}
-use Rattle.shadow_memory.specs.Shadows.{loaded_undef}
+use Rattle.shadow_memory.specs.Ranges.{window, byte_of}
 use Rattle.instructions.specs.Atomics.{chosen, updated}
 use Rattle.instructions.specs.declared.atomic.Atomic.{Atomic}
 use Rattle.instructions.specs.declared.atomic.Atomic.TheVariants.{LoadReserved, StoreConditional}
@@ -25,9 +24,9 @@ use Rattle.guest_machine.specs.State.{Core}
 use Rattle.guest_machine.specs.Registers.{known, register, set_register, tested}
 use Rattle.guest_machine.specs.Atomics.{admits, admitted, atomic_effect, atomic_reads, atomic_span, atomic_start}
 use Rattle.guest_machine.specs.Atomics.{atomic_writes, held_word, is_reserved, is_reserved_by, load_reserved}
-use Rattle.guest_machine.specs.Atomics.{not_admitted, not_stored, read_if, reserving, resulting, store_conditional}
+use Rattle.guest_machine.specs.Atomics.{not_stored, read_if, reserving, resulting, store_conditional}
 use Rattle.guest_machine.specs.Atomics.{update_word, written_if}
-use Rattle.guest_machine.specs.Effects.{Effect, load, moved_to, raising, stopped, stops, store, stored_core, target}
+use Rattle.guest_machine.specs.Effects.{Effect, moved_to, raising, stopped, stops, store, stored_core}
 use Rattle.guest_machine.specs.Errors.{access_errors, value_errors}
 use Rattle.guest_machine.specs.Exec.{taken_from}
 use Rattle.guest_machine.specs.Spans.{span_at}
@@ -35,7 +34,7 @@ use Rattle.clean_reports.specs.Agreement.{ValuesAgree, RegistersAgree, MemoriesA
 use Rattle.clean_reports.specs.Uses.{NoUse}
 use Rattle.clean_reports.proofs.Bits.{window-lt, bytes-of}
 use Rattle.clean_reports.proofs.Values.{known-agrees, computed-agree}
-use Rattle.clean_reports.proofs.Memory.{accessible-from, numbers-agree, stored-agrees, byte-lt, window-bytes, loaded-lt}
+use Rattle.clean_reports.proofs.Memory.{accessible-from, numbers-agree, stored-agrees, byte-lt, window-bytes}
 use Rattle.clean_reports.proofs.Memory.{window-past}
 use Rattle.clean_reports.proofs.Registers.{swap, set-in, set-in-agrees, register-agrees, IsKnown, other-known}
 use Rattle.clean_reports.proofs.Registers.{left-none, right-none, known-by, no-errors, tested-same}
@@ -261,7 +260,7 @@ module _ (c : Core) (qs : List Bits) (a : RegistersAgree c.registers qs) (f g : 
       (admitted (swap c qs) next atomic rd rs1 rs2 (taken_from g (read_if atomic (atomic_span (swap c qs) rs1))))
   carried-out LoadReserved rd rs1 rs2 none = reserved-loads rd rs1 none
   carried-out StoreConditional rd rs1 rs2 none =
-      conditional-stores rd rs1 rs2 (first-tested StoreConditional rd rs1 rs2 _ none) none
+      conditional-stores rd rs1 rs2 (first-tested StoreConditional rd rs1 rs2 (taken_from f None) none) none
   carried-out (Updating update) rd rs1 rs2 none = updates update rd rs1 rs2 none
 
   -- an atomic instruction, by whether there are such instructions and whether the address is a multiple of 4

@@ -464,7 +464,8 @@ module _ (b : Bool) (c : Core) (h : Stands b c) (next : ℕ) (terms : Terms) (gi
   admitted-left : (atomic : Atomic) (rd rs1 rs2 : ℕ) → LeavesHeap c (admitted c next atomic rd rs1 rs2 taken).core
   unfolding set_register
   admitted-left LoadReserved rd rs1 rs2 = let l = tests c rs1 in record { blocks = l.blocks; same = l.same }
-  admitted-left StoreConditional rd rs1 rs2 = go (is_reserved c rs1)
+  admitted-left StoreConditional rd rs1 rs2 =
+      let l = go (is_reserved c rs1) in record { blocks = l.blocks; same = l.same }
     where
       go : (p : Bool) → LeavesHeap c (cond p (resulting rd 0 (store c next Word rs1 rs2 0))
           (resulting rd 1 (not_stored c next rs1))).core

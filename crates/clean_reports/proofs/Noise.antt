@@ -1,12 +1,11 @@
 -- There are disturbed runs.
-use Rattle.std.proofs.Common.{◌≡◌, ℕ, zero, suc, ◌^◌, ◌<◌, ◌≤◌, Bool, true, false, cond, refl, sym, ap, ◌∙◌, subst}
-use Rattle.std.proofs.Common.{arith, inl, inr, List, replicate, slice_set, slice_index, slice_index_or}
+use Rattle.std.proofs.Common.{◌≡◌, ℕ, zero, suc, ◌^◌, ◌<◌, ◌≤◌, Bool, true, false, cond, refl, sym, ap, subst}
+use Rattle.std.proofs.Common.{arith, inl, inr, List, replicate, slice_index, slice_index_or}
 use Rattle.std.specs.Int.{bit_at}
 use Rattle.std.specs.Prelude.{is_some}
-use Rattle.std.proofs.lemmas.Bool.{cases_lt, cases_eq, false≢true}
+use Rattle.std.proofs.lemmas.Bool.{cases_lt, cases_eq}
 use Rattle.definedness.specs.declared.Bits.{Bits}
-use Rattle.shadow_memory.specs.Ranges.{changed_in}
-use Rattle.shadow_memory.specs.Shadows.{Shadow, made_so, shadow_of}
+use Rattle.shadow_memory.specs.Shadows.{made_so, shadow_of}
 use Rattle.shadow_memory.specs.declared.cells.RangeKind.TheVariants.{NoAccess, Defined}
 use Rattle.guest_elf.specs.Images.{loaded_at}
 use Rattle.guest_elf.specs.declared.image.Image.{Image}

@@ -1,5 +1,5 @@
 -- What a program that was read from a file loads.
-use Rattle.std.proofs.Common.{◌≡◌, ℕ, ◌+◌, ◌-◌, ◌^◌, ◌<◌, ◌≤◌, ◌||◌, max, min, Bool, true, false, cond, refl, sym, ap}
+use Rattle.std.proofs.Common.{◌≡◌, ℕ, ◌+◌, ◌-◌, ◌^◌, ◌<◌, ◌≤◌, max, min, Bool, true, false, cond, refl, sym, ap}
 use Rattle.std.proofs.Common.{◌∙◌}
 use Rattle.std.proofs.Common.{arith, subst, List, [], ◌∷◌, length, slice_index, Option, Some, None, inl, inr, nat_lt}
 use Rattle.std.proofs.Common.{le-ltb, lt-ltb}
@@ -19,10 +19,8 @@ use Rattle.guest_elf.specs.declared.fault.ElfFault.TheVariants.{NotExecutable, N
 use Rattle.guest_elf.specs.declared.fault.ElfFault.TheVariants.{BadSegment, Overlap, TooLarge, BadSymbols}
 use Rattle.guest_elf.specs.declared.image.Image.{Image}
 use Rattle.memory_map.specs.Regions.{heap_begin, heap_end}
-use Rattle.shadow_memory.specs.Ranges.{is_in, offset, changed_in, written}
 use Rattle.guest_machine.specs.Effects.{no_bytes}
 use Rattle.guest_machine.specs.Run.{image_bytes, stack_start, start_state}
-use Rattle.clean_reports.specs.Agreement.{AreBytes}
 use Rattle.clean_reports.specs.Laws.{ProgramsAreBytes}
 use Rattle.clean_reports.proofs.Memory.{written-bytes}
 

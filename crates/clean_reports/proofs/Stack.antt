@@ -14,7 +14,6 @@ use Rattle.instructions.specs.Widths.{width_len}
 use Rattle.instructions.specs.declared.width.Width.{Width}
 use Rattle.instructions.specs.declared.width.Width.TheVariants.{Byte, Half, Word}
 use Rattle.shadow_memory.specs.Shadows.{first_inaccessible}
-use Rattle.guest_elf.specs.Profiles.{is_aligned}
 use Rattle.guest_machine.specs.State.{Core}
 use Rattle.guest_machine.specs.Registers.{register}
 use Rattle.guest_machine.specs.Errors.{fetch_undef}

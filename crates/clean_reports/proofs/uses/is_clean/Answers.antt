@@ -1,4 +1,4 @@
-use Rattle.std.proofs.Common.{◌≡◌, IsTrue, ap, rules, subst, sym}
+use Rattle.std.proofs.Common.{◌≡◌, IsTrue, rules, subst, sym}
 use Rattle.std.specs.Prelude.{is_none, ◌↔◌}
 use Rattle.error_events.specs.Shown.{groups_of}
 use Rattle.clean_reports.specs.Uses.{NoUse}
