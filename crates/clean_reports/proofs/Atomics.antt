@@ -275,13 +275,13 @@ module _ (c : Core) (qs : List Bits) (a : RegistersAgree c.registers qs) (f g : 
   writes d atomic rs1 has aligned =
       cond (has && aligned) (written_if (is_reserved d rs1) atomic (atomic_span d rs1)) None
 
-  pub atomics : (atomic : Atomic) (rd rs1 rs2 : ℕ)
+  pub atomics-agree : (atomic : Atomic) (rd rs1 rs2 : ℕ)
       → NoUse (atomic_effect c next atomic rd rs1 rs2 (taken_from f (atomic_reads c atomic rs1))).raised
       → EffectsAgree f g (atomic_writes c atomic rs1) (atomic_writes (swap c qs) atomic rs1)
       (atomic_effect c next atomic rd rs1 rs2 (taken_from f (atomic_reads c atomic rs1)))
       (atomic_effect (swap c qs) next atomic rd rs1 rs2 (taken_from g (atomic_reads (swap c qs) atomic rs1)))
   unfolding atomic_effect atomic_reads atomic_writes admits
-  atomics atomic rd rs1 rs2 none =
+  atomics-agree atomic rd rs1 rs2 none =
       go (has_atomics c.isa) (atomic_start c rs1 % 4 == 0) (atomic_start (swap c qs) rs1 % 4 == 0)
       (λ one. aligned-same rs1 one) none
     where

@@ -23,7 +23,8 @@ use Rattle.instructions.specs.declared.instruction.Instruction.{Instruction}
 use Rattle.instructions.specs.declared.instruction.Instruction.TheVariants.{LoadUpper, AddUpper, Jump, JumpRegister}
 use Rattle.instructions.specs.declared.instruction.Instruction.TheVariants.{Branch, Load, Store, Immediate, Registers}
 use Rattle.instructions.specs.declared.instruction.Instruction.TheVariants.{Fence, CallEnvironment as CallRow}
-use Rattle.instructions.specs.declared.instruction.Instruction.TheVariants.{Breakpoint, Atomic as AtomicRow}
+use Rattle.instructions.specs.declared.instruction.Instruction.TheVariants.{Breakpoint}
+use Rattle.instructions.specs.declared.instruction.Instruction.TheVariants as insns
 use Rattle.instructions.specs.declared.atomic.Atomic.{Atomic}
 use Rattle.instructions.specs.declared.atomic.Atomic.TheVariants.{LoadReserved, StoreConditional}
 use Rattle.instructions.specs.declared.atomic.Atomic.TheVariants.{Update as Updating}
@@ -510,7 +511,9 @@ module _ (b : Bool) (c : Core) (h : Stands b c) (next : ℕ) (terms : Terms) (gi
   rows (Some Fence) = on b c _ (record { blocks = refl; same = λ a low high. refl }) h
   rows (Some CallRow) = calls (argument c 17)
   rows (Some Breakpoint) = on b c _ (record { blocks = refl; same = λ a low high. refl }) h
-  rows (Some (AtomicRow atomic rd rs1 rs2)) = on b c _ (atomics-left atomic rd rs1 rs2) h
+  rows (Some (insns.LoadReserved rd rs1)) = on b c _ (atomics-left LoadReserved rd rs1 0) h
+  rows (Some (insns.StoreConditional rd rs1 rs2)) = on b c _ (atomics-left StoreConditional rd rs1 rs2) h
+  rows (Some (insns.Update update rd rs1 rs2)) = on b c _ (atomics-left (Updating update) rd rs1 rs2) h
 
 none-taken : (c : Core) → LeavesHeap c (unfetched c).core
 unfolding unfetched

@@ -18,15 +18,17 @@ use Rattle.rv_compressed.specs.Table.{expansion}
 use Rattle.rv_compressed.specs.Laws.{HasOperands, IsOfLine, IsSigned}
 use Rattle.rv_compressed.proofs.Expansions.{expansion-IsOfLine}
 use Rattle.instructions.specs.Codes.{row_of_code}
-use Rattle.instructions.specs.Instructions.{if_atomic, instruction_by, instruction_of, if_row, row_of, row_of_half}
-use Rattle.instructions.specs.Instructions.{row_or}
+use Rattle.instructions.specs.Instructions.{atomic_row, if_atomic, instruction_by, instruction_of, if_row, row_of}
+use Rattle.instructions.specs.Instructions.{row_of_half, row_or}
 use Rattle.instructions.specs.declared.code.Code.{Code}
 use Rattle.instructions.specs.declared.code.Code.TheVariants.{Word, Half}
 use Rattle.instructions.specs.declared.instruction.Instruction.{Instruction}
 use Rattle.instructions.specs.declared.instruction.Instruction.TheVariants.{LoadUpper, AddUpper, Jump, JumpRegister}
 use Rattle.instructions.specs.declared.instruction.Instruction.TheVariants.{Branch, Load, Store, Immediate, Registers}
 use Rattle.instructions.specs.declared.instruction.Instruction.TheVariants.{Fence, CallEnvironment as CallRow}
-use Rattle.instructions.specs.declared.instruction.Instruction.TheVariants.{Breakpoint, Atomic}
+use Rattle.instructions.specs.declared.instruction.Instruction.TheVariants.{Breakpoint, LoadReserved}
+use Rattle.instructions.specs.declared.instruction.Instruction.TheVariants.{StoreConditional, Update}
+use Rattle.instructions.specs.declared.atomic.Atomic.TheVariants as atomics
 use Rattle.instructions.specs.Atomics.{atomic_of}
 use Rattle.instructions.specs.declared.atomic.Atomic.{Atomic as AtomicKind}
 use Rattle.rv_extensions.specs.Table.{extension}
@@ -49,7 +51,7 @@ use Rattle.clean_reports.specs.Disturbed.{HasBytes}
 use Rattle.clean_reports.proofs.Registers.{swap, IsKnown, same-argument}
 use Rattle.clean_reports.proofs.Effects.{EffectsAgree, moves, halts, computes, computes-with, uppers, adds}
 use Rattle.clean_reports.proofs.Effects.{jumps, jumps-to, branches, loads, stores}
-use Rattle.clean_reports.proofs.Atomics.{atomics}
+use Rattle.clean_reports.proofs.Atomics.{atomics-agree}
 use Rattle.clean_reports.proofs.Calls.{HasKnown, call-known, read-parameters, write-parameters, reads, writes, exits}
 use Rattle.clean_reports.proofs.Calls.{unknowns, read-first, write-first}
 use Rattle.clean_reports.proofs.HeapCalls.{heap-calls, heap-first}
@@ -94,9 +96,11 @@ atomic-small : (found : Option Extension) → IfSmall (if_atomic found)
 atomic-small None = tt
 atomic-small (Some e) = go (atomic_of e.op)
   where
-    go : (kind : Option AtomicKind) → IfSmall (option_map (λ atomic. Atomic atomic e.rd e.rs1 e.rs2) kind)
+    go : (kind : Option AtomicKind) → IfSmall (option_map (λ atomic. atomic_row atomic e.rd e.rs1 e.rs2) kind)
     go None = tt
-    go (Some atomic) = tt
+    go (Some atomics.LoadReserved) = tt
+    go (Some atomics.StoreConditional) = tt
+    go (Some (atomics.Update update)) = tt
 
 row-small : (word : ℕ) → IfSmall (row_of word)
 unfolding row_of insn instruction_of
@@ -395,7 +399,20 @@ module _ (c : Core) (qs : List Bits) (a : RegistersAgree c.registers qs) (f g : 
   row-agrees (Some Fence) small none = record
       { heap = refl; terms = refl; effects = moves c qs a f g m next fits next [] }
   row-agrees (Some CallRow) small none = row-calls none
-  row-agrees (Some (Atomic atomic rd rs1 rs2)) small none =
-      record { heap = refl; terms = refl; effects = atomics c qs a f g m next fits atomic rd rs1 rs2 none }
+  row-agrees (Some (LoadReserved rd rs1)) small none = record {
+    heap = refl;
+    terms = refl;
+    effects = atomics-agree c qs a f g m next fits atomics.LoadReserved rd rs1 0 none;
+  }
+  row-agrees (Some (StoreConditional rd rs1 rs2)) small none = record {
+    heap = refl;
+    terms = refl;
+    effects = atomics-agree c qs a f g m next fits atomics.StoreConditional rd rs1 rs2 none;
+  }
+  row-agrees (Some (Update update rd rs1 rs2)) small none = record {
+    heap = refl;
+    terms = refl;
+    effects = atomics-agree c qs a f g m next fits (atomics.Update update) rd rs1 rs2 none;
+  }
   row-agrees (Some Breakpoint) small none =
       record { heap = refl; terms = refl; effects = halts c qs a f g m next fits Break [] }

@@ -3,10 +3,10 @@ use Rattle.std.proofs.Common.{◌≡◌, ℕ, ◌%◌, ◌==◌, ◌&&◌, false
 use Rattle.std.specs.Option.{option_map}
 use Rattle.guest_elf.specs.Profiles.{has_atomics}
 use Rattle.instructions.specs.Atomics.{atomic_of}
-use Rattle.instructions.specs.Instructions.{if_atomic, if_row, row_of, row_or}
+use Rattle.instructions.specs.Instructions.{atomic_row, if_atomic, if_row, row_of, row_or}
 use Rattle.instructions.specs.declared.atomic.Atomic.{Atomic}
+use Rattle.instructions.specs.declared.atomic.Atomic.TheVariants.{LoadReserved, StoreConditional, Update}
 use Rattle.instructions.specs.declared.instruction.Instruction.{Instruction}
-use Rattle.instructions.specs.declared.instruction.Instruction.TheVariants.{Atomic as AtomicRow}
 use Rattle.rv_decode.specs.Table.{insn}
 use Rattle.rv_extensions.specs.Table.{extension}
 use Rattle.rv_extensions.specs.declared.Extension.{Extension}
@@ -17,19 +17,19 @@ use Rattle.guest_machine.specs.Atomics.{atomic_writes, is_reserved, read_if, wri
 use Rattle.guest_machine.specs.Effects.{raising, stopped, stops}
 use Rattle.guest_machine.specs.Errors.{value_errors}
 use Rattle.guest_machine.specs.Registers.{tested}
-use Rattle.guest_machine.specs.Exec.{calls_heap, row_asks, row_effect, row_uses}
+use Rattle.guest_machine.specs.Exec.{Terms, calls_heap, nothing, row_asks, row_effect, row_uses}
 use Rattle.guest_machine.specs.Laws.{HasBaseWords, LacksAtomics}
 
 module _ (core : Core) (none : has_atomics core.isa ≡ false) where
   -- what is said of a row follows where it is so of each atomic one, and of those of the first table
   rows : {R : Type 0} (of : Option Instruction → R)
-      → ((atomic : Atomic) (rd rs1 rs2 : ℕ) → of (Some (AtomicRow atomic rd rs1 rs2)) ≡ of None)
+      → ((atomic : Atomic) (rd rs1 rs2 : ℕ) → of (Some (atomic_row atomic rd rs1 rs2)) ≡ of None)
       → (word : ℕ) → of (row_of word) ≡ of (if_row (insn word))
   unfolding row_of
   rows of same word = go (if_row (insn word))
     where
       by-kind : (e : Extension) (kind : Option Atomic)
-          → of (option_map (λ atomic. AtomicRow atomic e.rd e.rs1 e.rs2) kind) ≡ of None
+          → of (option_map (λ atomic. atomic_row atomic e.rd e.rs1 e.rs2) kind) ≡ of None
       by-kind e None = refl
       by-kind e (Some atomic) = same atomic e.rd e.rs1 e.rs2
 
@@ -59,17 +59,48 @@ module _ (core : Core) (none : has_atomics core.isa ≡ false) where
       ap (λ has. cond (has && (atomic_start core rs1 % 4 == 0))
       (written_if (is_reserved core rs1) atomic (atomic_span core rs1)) None) none
 
+  -- of an atomic instruction with its operands
+
+  row-stops : (next : ℕ) (terms : Terms) (given : List ℕ) (taken : ℕ → ℕ) (atomic : Atomic) (rd rs1 rs2 : ℕ)
+      → row_effect core next (Some (atomic_row atomic rd rs1 rs2)) terms given taken
+      ≡ row_effect core next None terms given taken
+  unfolding row_effect
+  row-stops next terms given taken LoadReserved rd rs1 rs2 = effect next LoadReserved rd rs1 0 taken
+  row-stops next terms given taken StoreConditional rd rs1 rs2 = effect next StoreConditional rd rs1 rs2 taken
+  row-stops next terms given taken (Update update) rd rs1 rs2 = effect next (Update update) rd rs1 rs2 taken
+
+  none-used : (atomic : Atomic) (rs1 : ℕ)
+      → record { reads = atomic_reads core atomic rs1; writes = atomic_writes core atomic rs1 } ≡ nothing
+  none-used atomic rs1 = λ i. record { reads = reads atomic rs1 i; writes = writes atomic rs1 i }
+
+  row-uses : (terms : Terms) (atomic : Atomic) (rd rs1 rs2 : ℕ)
+      → row_uses core (Some (atomic_row atomic rd rs1 rs2)) terms ≡ row_uses core None terms
+  unfolding row_uses
+  row-uses terms LoadReserved rd rs1 rs2 = none-used LoadReserved rs1
+  row-uses terms StoreConditional rd rs1 rs2 = none-used StoreConditional rs1
+  row-uses terms (Update update) rd rs1 rs2 = none-used (Update update) rs1
+
+  row-asks : (atomic : Atomic) (rd rs1 rs2 : ℕ)
+      → row_asks core (Some (atomic_row atomic rd rs1 rs2)) ≡ row_asks core None
+  unfolding row_asks
+  row-asks LoadReserved rd rs1 rs2 = refl
+  row-asks StoreConditional rd rs1 rs2 = refl
+  row-asks (Update update) rd rs1 rs2 = refl
+
+  row-heap : (atomic : Atomic) (rd rs1 rs2 : ℕ)
+      → calls_heap core (Some (atomic_row atomic rd rs1 rs2)) ≡ calls_heap core None
+  unfolding calls_heap
+  row-heap LoadReserved rd rs1 rs2 = refl
+  row-heap StoreConditional rd rs1 rs2 = refl
+  row-heap (Update update) rd rs1 rs2 = refl
+
   words : HasBaseWords core
-  unfolding row_effect row_uses row_asks calls_heap
   words = record {
     effects = λ next word terms given taken.
-        rows (λ row. row_effect core next row terms given taken)
-        (λ atomic rd rs1 rs2. effect next atomic rd rs1 rs2 taken) word;
-    uses = λ word terms.
-        rows (λ row. row_uses core row terms)
-        (λ atomic rd rs1 rs2. (λ i. record { reads = reads atomic rs1 i; writes = writes atomic rs1 i })) word;
-    asks = rows (row_asks core) (λ atomic rd rs1 rs2. refl);
-    heap = rows (calls_heap core) (λ atomic rd rs1 rs2. refl);
+        rows (λ row. row_effect core next row terms given taken) (row-stops next terms given taken) word;
+    uses = λ word terms. rows (λ row. row_uses core row terms) (row-uses terms) word;
+    asks = rows (row_asks core) row-asks;
+    heap = rows (calls_heap core) row-heap;
   }
 
 pub lacks-atomics : LacksAtomics

@@ -23,7 +23,7 @@ use Rattle.instructions.specs.declared.instruction.Instruction.{Instruction}
 use Rattle.instructions.specs.declared.instruction.Instruction.TheVariants.{LoadUpper, AddUpper, Jump, JumpRegister}
 use Rattle.instructions.specs.declared.instruction.Instruction.TheVariants.{Branch, Load, Store, Immediate, Registers}
 use Rattle.instructions.specs.declared.instruction.Instruction.TheVariants.{Fence, CallEnvironment, Breakpoint}
-use Rattle.instructions.specs.declared.instruction.Instruction.TheVariants.{Atomic as AtomicRow}
+use Rattle.instructions.specs.declared.instruction.Instruction.TheVariants as rows
 use Rattle.instructions.specs.declared.atomic.Atomic.{Atomic}
 use Rattle.instructions.specs.declared.atomic.Atomic.TheVariants.{LoadReserved, StoreConditional}
 use Rattle.instructions.specs.declared.atomic.Atomic.TheVariants.{Update as Updating}
@@ -224,7 +224,11 @@ row-keeps c next (Some (Registers operation rd rs1 rs2)) terms given taken = ref
 row-keeps c next (Some Fence) terms given taken = refl
 row-keeps c next (Some CallEnvironment) terms given taken = calls c next (call_at c) terms given taken
 row-keeps c next (Some Breakpoint) terms given taken = refl
-row-keeps c next (Some (AtomicRow atomic rd rs1 rs2)) terms given taken = atomic-keeps c next atomic rd rs1 rs2 taken
+row-keeps c next (Some (rows.LoadReserved rd rs1)) terms given taken = atomic-keeps c next LoadReserved rd rs1 0 taken
+row-keeps c next (Some (rows.StoreConditional rd rs1 rs2)) terms given taken =
+    atomic-keeps c next StoreConditional rd rs1 rs2 taken
+row-keeps c next (Some (rows.Update update rd rs1 rs2)) terms given taken =
+    atomic-keeps c next (Updating update) rd rs1 rs2 taken
 
 fault-keeps : (c : Core) (fault : Option ℕ) → (jump_fault c fault).core.isa ≡ c.isa
 fault-keeps c None = refl

@@ -12,7 +12,7 @@ use Rattle.instructions.specs.declared.instruction.Instruction.{Instruction}
 use Rattle.instructions.specs.declared.instruction.Instruction.TheVariants.{LoadUpper, AddUpper, Jump, JumpRegister}
 use Rattle.instructions.specs.declared.instruction.Instruction.TheVariants.{Branch, Load, Store, Immediate, Registers}
 use Rattle.instructions.specs.declared.instruction.Instruction.TheVariants.{Fence, CallEnvironment, Breakpoint}
-use Rattle.instructions.specs.declared.instruction.Instruction.TheVariants.{Atomic as AtomicRow}
+use Rattle.instructions.specs.declared.instruction.Instruction.TheVariants as rows
 use Rattle.instructions.specs.declared.atomic.Atomic.{Atomic}
 use Rattle.instructions.specs.declared.atomic.Atomic.TheVariants.{LoadReserved, StoreConditional}
 use Rattle.instructions.specs.declared.atomic.Atomic.TheVariants.{Update as Updating}
@@ -103,8 +103,12 @@ silent core next (Some (Registers operation rd rs1 rs2)) terms given taken h =
 silent core next (Some Fence) terms given taken h = record { asks = refl; output = refl; fits = λ n. refl }
 silent core next (Some CallEnvironment) terms given taken h = cc
 silent core next (Some Breakpoint) terms given taken h = record { asks = refl; output = refl; fits = λ n. refl }
-silent core next (Some (AtomicRow atomic rd rs1 rs2)) terms given taken h =
-    record { asks = refl; output = atomic-silent core next atomic rd rs1 rs2 taken; fits = λ n. refl }
+silent core next (Some (rows.LoadReserved rd rs1)) terms given taken h =
+    record { asks = refl; output = atomic-silent core next LoadReserved rd rs1 0 taken; fits = λ n. refl }
+silent core next (Some (rows.StoreConditional rd rs1 rs2)) terms given taken h =
+    record { asks = refl; output = atomic-silent core next StoreConditional rd rs1 rs2 taken; fits = λ n. refl }
+silent core next (Some (rows.Update update rd rs1 rs2)) terms given taken h =
+    record { asks = refl; output = atomic-silent core next (Updating update) rd rs1 rs2 taken; fits = λ n. refl }
 
 -- ---- calls of the heap, and steps that carry nothing out
 
@@ -208,8 +212,12 @@ row-spoken core next (Some (Immediate operation rd rs1 imm)) terms given bytes =
 row-spoken core next (Some (Registers operation rd rs1 rs2)) terms given bytes = inl refl
 row-spoken core next (Some Fence) terms given bytes = inl refl
 row-spoken core next (Some Breakpoint) terms given bytes = inl refl
-row-spoken core next (Some (AtomicRow atomic rd rs1 rs2)) terms given bytes =
-    inl (atomic-silent core next atomic rd rs1 rs2 _)
+row-spoken core next (Some (rows.LoadReserved rd rs1)) terms given bytes =
+    inl (atomic-silent core next LoadReserved rd rs1 0 _)
+row-spoken core next (Some (rows.StoreConditional rd rs1 rs2)) terms given bytes =
+    inl (atomic-silent core next StoreConditional rd rs1 rs2 _)
+row-spoken core next (Some (rows.Update update rd rs1 rs2)) terms given bytes =
+    inl (atomic-silent core next (Updating update) rd rs1 rs2 _)
 
 deed-spoken : (core : Core) (deed : Deed) (terms : Terms) (given : List ℕ) (bytes : ℕ → ℕ)
     → Spoken bytes (plan core terms deed)

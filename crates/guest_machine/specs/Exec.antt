@@ -44,8 +44,10 @@ use Rattle.instructions.specs.declared.instruction.Instruction.{Instruction}
 use Rattle.instructions.specs.declared.instruction.Instruction.TheVariants.{LoadUpper, AddUpper, Jump, JumpRegister}
 use Rattle.instructions.specs.declared.instruction.Instruction.TheVariants.{Branch, Load, Store, Immediate, Registers}
 use Rattle.instructions.specs.declared.instruction.Instruction.TheVariants.{Fence, CallEnvironment as CallRow}
-use Rattle.instructions.specs.declared.instruction.Instruction.TheVariants.{Breakpoint, Atomic as AtomicRow}
+use Rattle.instructions.specs.declared.instruction.Instruction.TheVariants.{Breakpoint, LoadReserved}
+use Rattle.instructions.specs.declared.instruction.Instruction.TheVariants.{StoreConditional, Update as UpdateRow}
 use Rattle.instructions.specs.declared.atomic.Atomic.{Atomic}
+use Rattle.instructions.specs.declared.atomic.Atomic.TheVariants as atomics
 use Rattle.run_values.specs.declared.status.Status.{Status}
 use Rattle.run_values.specs.declared.status.Status.TheVariants.{Running, Exited, Stopped}
 use Rattle.run_values.specs.declared.status.Stop.TheVariants.{Jump as JumpStop, Break, Illegal, Misaligned}
@@ -245,7 +247,9 @@ unfoldable pub row_uses : Core → Option Instruction → Terms → Uses
 row_uses core (Some (Load width signed rd rs1 imm)) terms = reading (accessed core rs1 imm width)
 row_uses core (Some (Store width rs1 rs2 imm)) terms = writing (accessed core rs1 imm width)
 row_uses core (Some CallRow) terms = call_uses core (call_at core) terms
-row_uses core (Some (AtomicRow atomic rd rs1 rs2)) terms = atomic_uses core atomic rs1
+row_uses core (Some (LoadReserved rd rs1)) terms = atomic_uses core atomics.LoadReserved rs1
+row_uses core (Some (StoreConditional rd rs1 rs2)) terms = atomic_uses core atomics.StoreConditional rs1
+row_uses core (Some (UpdateRow update rd rs1 rs2)) terms = atomic_uses core (atomics.Update update) rs1
 row_uses core _ terms = nothing
 
 -- what a step leaves --
@@ -276,8 +280,12 @@ row_effect core next (Some (Registers operation rd rs1 rs2)) terms given taken =
 row_effect core next (Some Fence) terms given taken = quiet (moved_to core next)
 row_effect core next (Some CallRow) terms given taken = call_effect core next (call_at core) terms given taken
 row_effect core next (Some Breakpoint) terms given taken = stops core Break
-row_effect core next (Some (AtomicRow atomic rd rs1 rs2)) terms given taken =
-    atomic_effect core next atomic rd rs1 rs2 taken
+row_effect core next (Some (LoadReserved rd rs1)) terms given taken =
+    atomic_effect core next atomics.LoadReserved rd rs1 0 taken
+row_effect core next (Some (StoreConditional rd rs1 rs2)) terms given taken =
+    atomic_effect core next atomics.StoreConditional rd rs1 rs2 taken
+row_effect core next (Some (UpdateRow update rd rs1 rs2)) terms given taken =
+    atomic_effect core next (atomics.Update update) rd rs1 rs2 taken
 
 -- a fetch that meets an inaccessible byte
 abbrev pub jump_fault : Core → Option ℕ → Effect

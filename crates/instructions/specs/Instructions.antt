@@ -1,5 +1,5 @@
 -- The instructions in classes: each of the 48 names of the instruction table, with what distinguishes it from the
--- others of its class; and the atomic ones, which are a class.
+-- others of its class; and the atomic ones, in three classes.
 use Rattle.std.specs.Prelude.{ℕ, true, false, Option, Some, None}
 use Rattle.std.specs.Option.{option_map}
 use Rattle.rv_compressed.specs.Table.{expansion}
@@ -13,7 +13,9 @@ use Rattle.instructions.specs.declared.instruction.Instruction.{Instruction}
 use Rattle.instructions.specs.declared.instruction.Instruction.TheVariants.{LoadUpper, AddUpper, Jump, JumpRegister}
 use Rattle.instructions.specs.declared.instruction.Instruction.TheVariants.{Branch, Load, Store, Immediate, Registers}
 use Rattle.instructions.specs.declared.instruction.Instruction.TheVariants.{Fence, CallEnvironment, Breakpoint}
-use Rattle.instructions.specs.declared.instruction.Instruction.TheVariants.{Atomic}
+use Rattle.instructions.specs.declared.instruction.Instruction.TheVariants.{LoadReserved, StoreConditional, Update}
+use Rattle.instructions.specs.declared.atomic.Atomic.{Atomic}
+use Rattle.instructions.specs.declared.atomic.Atomic.TheVariants as atomics
 use Rattle.instructions.specs.declared.instruction.Comparison.TheVariants as Comparison
 use Rattle.instructions.specs.declared.instruction.Operation.TheVariants as Operation
 use Rattle.instructions.specs.declared.width.Width.TheVariants.{Byte, Half, Word}
@@ -76,10 +78,16 @@ abbrev pub if_row : Option Insn → Option Instruction
 if_row None = None
 if_row (Some i) = Some (instruction_of i)
 
+-- an atomic instruction with its operands
+abbrev pub atomic_row : Atomic → ℕ → ℕ → ℕ → Instruction
+atomic_row atomics.LoadReserved rd rs1 rs2 = LoadReserved rd rs1
+atomic_row atomics.StoreConditional rd rs1 rs2 = StoreConditional rd rs1 rs2
+atomic_row (atomics.Update update) rd rs1 rs2 = Update update rd rs1 rs2
+
 -- the instruction of a row of the table of extensions, if it is an atomic one
 abbrev pub if_atomic : Option Extension → Option Instruction
 if_atomic None = None
-if_atomic (Some e) = option_map (λ atomic. Atomic atomic e.rd e.rs1 e.rs2) (atomic_of e.op)
+if_atomic (Some e) = option_map (λ atomic. atomic_row atomic e.rd e.rs1 e.rs2) (atomic_of e.op)
 
 -- the instruction of the first table, or else of the second; no word is in both (rv_extensions, ApartFromBase)
 abbrev pub row_or : Option Instruction → Option Instruction → Option Instruction

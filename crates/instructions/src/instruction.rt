@@ -1,9 +1,9 @@
 //! The instructions in classes, and the class of each row of the instruction table.
 ghost use Rattle.std.specs.Prelude.{◌≡◌, ◌<◌};
-ghost use Rattle.instructions.specs.Instructions.{if_atomic, instruction_of, row_of, row_of_half};
+ghost use Rattle.instructions.specs.Instructions.{atomic_row, if_atomic, instruction_of, row_of, row_of_half};
 ghost use Rattle.rv_extensions.specs.Table.{extension};
 
-use crate::atomic::{Atomic, atomic_of};
+use crate::atomic::{Atomic, Update, atomic_of};
 use crate::register::Register;
 use crate::width::Width;
 use rv_compressed::expand;
@@ -97,8 +97,17 @@ pub enum Instruction {
     Fence,
     CallEnvironment,
     Breakpoint,
-    Atomic {
-        atomic: Atomic,
+    LoadReserved {
+        rd: Register,
+        rs1: Register,
+    },
+    StoreConditional {
+        rd: Register,
+        rs1: Register,
+        rs2: Register,
+    },
+    Update {
+        update: Update,
         rd: Register,
         rs1: Register,
         rs2: Register,
@@ -250,18 +259,32 @@ fn instruction_of(insn: Insn) -> Instruction
     }
 }
 
+/// Returns an atomic instruction with its operands.
+fn atomic_row(atomic: Atomic, rd: Register, rs1: Register, rs2: Register) -> Instruction
+    ensures { result ≡ atomic_row atomic rd rs1 rs2 }
+{
+    match atomic {
+        Atomic::LoadReserved => Instruction::LoadReserved { rd, rs1 },
+        Atomic::StoreConditional => Instruction::StoreConditional { rd, rs1, rs2 },
+        Atomic::Update(update) => Instruction::Update {
+            update,
+            rd,
+            rs1,
+            rs2,
+        },
+    }
+}
+
 /// Returns the atomic instruction of a word, if it is one.
 fn atomic_row_of(word: u32) -> Option<Instruction>
     ensures { result ≡ if_atomic (extension word) }
 {
     let found = rv_extensions::decode(word)?;
     let atomic = atomic_of(found.op)?;
-    Some(Instruction::Atomic {
-        atomic,
-        rd: Register::new(found.rd),
-        rs1: Register::new(found.rs1),
-        rs2: Register::new(found.rs2),
-    })
+    let rd = Register::new(found.rd);
+    let rs1 = Register::new(found.rs1);
+    let rs2 = Register::new(found.rs2);
+    Some(atomic_row(atomic, rd, rs1, rs2))
 }
 
 /// Returns the instruction of a word, if it is one.

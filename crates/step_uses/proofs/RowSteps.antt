@@ -15,7 +15,7 @@ use Rattle.instructions.specs.declared.instruction.Instruction.{Instruction}
 use Rattle.instructions.specs.declared.instruction.Instruction.TheVariants.{LoadUpper, AddUpper, Jump, JumpRegister}
 use Rattle.instructions.specs.declared.instruction.Instruction.TheVariants.{Branch, Load, Store, Immediate, Registers}
 use Rattle.instructions.specs.declared.instruction.Instruction.TheVariants.{Fence, CallEnvironment, Breakpoint}
-use Rattle.instructions.specs.declared.instruction.Instruction.TheVariants.{Atomic}
+use Rattle.instructions.specs.declared.instruction.Instruction.TheVariants.{LoadReserved, StoreConditional, Update}
 use Rattle.shadow_memory.specs.Ranges.{byte_of, little_word}
 use Rattle.guest_elf.specs.Profiles.{is_aligned}
 use Rattle.guest_machine.specs.State.{Core}
@@ -233,7 +233,9 @@ row-other core next (Some (Registers operation rd rs1 rs2)) r bits terms given t
 row-other core next (Some Fence) r bits terms given taken h w = refl
 row-other core next (Some CallEnvironment) r bits terms given taken h w = cc
 row-other core next (Some Breakpoint) r bits terms given taken h w = refl
-row-other core next (Some (Atomic atomic rd rs1 rs2)) r bits terms given taken h w = cc
+row-other core next (Some (LoadReserved rd rs1)) r bits terms given taken h w = cc
+row-other core next (Some (StoreConditional rd rs1 rs2)) r bits terms given taken h w = cc
+row-other core next (Some (Update update rd rs1 rs2)) r bits terms given taken h w = cc
 
 -- and leaves it as it is
 pub row-stays : (core : Core) (next : ℕ) (row : Option Instruction) (r : ℕ) (terms : Terms) (given : List ℕ)
@@ -260,7 +262,9 @@ row-stays core next (Some (Registers operation rd rs1 rs2)) r terms given taken 
 row-stays core next (Some Fence) r terms given taken h w = refl
 row-stays core next (Some CallEnvironment) r terms given taken h w = cc
 row-stays core next (Some Breakpoint) r terms given taken h w = refl
-row-stays core next (Some (Atomic atomic rd rs1 rs2)) r terms given taken h w = cc
+row-stays core next (Some (LoadReserved rd rs1)) r terms given taken h w = cc
+row-stays core next (Some (StoreConditional rd rs1 rs2)) r terms given taken h w = cc
+row-stays core next (Some (Update update rd rs1 rs2)) r terms given taken h w = cc
 
 -- one that overwrites it
 pub row-again : (core : Core) (next : ℕ) (row : Option Instruction) (r : ℕ) (bits : Bits) (terms : Terms)
@@ -289,7 +293,9 @@ row-again core next (Some (Registers operation rd rs1 rs2)) r bits terms given t
 row-again core next (Some Fence) r bits terms given taken one h w = cc
 row-again core next (Some CallEnvironment) r bits terms given taken one h w = cc
 row-again core next (Some Breakpoint) r bits terms given taken one h w = cc
-row-again core next (Some (Atomic atomic rd rs1 rs2)) r bits terms given taken one h w = cc
+row-again core next (Some (LoadReserved rd rs1)) r bits terms given taken one h w = cc
+row-again core next (Some (StoreConditional rd rs1 rs2)) r bits terms given taken one h w = cc
+row-again core next (Some (Update update rd rs1 rs2)) r bits terms given taken one h w = cc
 
 -- and what it reads and writes of memory is the same
 pub uses-other : (core : Core) (row : Option Instruction) (r : ℕ) (bits : Bits) (terms : Terms) → reads row r ≡ false
@@ -310,7 +316,9 @@ uses-other core (Some (Registers operation rd rs1 rs2)) r bits terms h = refl
 uses-other core (Some Fence) r bits terms h = refl
 uses-other core (Some CallEnvironment) r bits terms h = cc
 uses-other core (Some Breakpoint) r bits terms h = refl
-uses-other core (Some (Atomic atomic rd rs1 rs2)) r bits terms h = cc
+uses-other core (Some (LoadReserved rd rs1)) r bits terms h = cc
+uses-other core (Some (StoreConditional rd rs1 rs2)) r bits terms h = cc
+uses-other core (Some (Update update rd rs1 rs2)) r bits terms h = cc
 
 -- no such instruction is a call of the environment
 pub no-heap : (core : Core) (row : Option Instruction) (r : ℕ) → reads row r ≡ false → calls_heap core row ≡ false
@@ -328,7 +336,9 @@ no-heap core (Some (Registers operation rd rs1 rs2)) r h = refl
 no-heap core (Some Fence) r h = refl
 no-heap core (Some CallEnvironment) r h = cc
 no-heap core (Some Breakpoint) r h = refl
-no-heap core (Some (Atomic atomic rd rs1 rs2)) r h = cc
+no-heap core (Some (LoadReserved rd rs1)) r h = cc
+no-heap core (Some (StoreConditional rd rs1 rs2)) r h = cc
+no-heap core (Some (Update update rd rs1 rs2)) r h = cc
 
 pub asks-none : (core : Core) (row : Option Instruction) (r : ℕ) → reads row r ≡ false → row_asks core row ≡ None
 unfolding row_asks reads
@@ -345,4 +355,6 @@ asks-none core (Some (Registers operation rd rs1 rs2)) r h = refl
 asks-none core (Some Fence) r h = refl
 asks-none core (Some CallEnvironment) r h = cc
 asks-none core (Some Breakpoint) r h = refl
-asks-none core (Some (Atomic atomic rd rs1 rs2)) r h = cc
+asks-none core (Some (LoadReserved rd rs1)) r h = cc
+asks-none core (Some (StoreConditional rd rs1 rs2)) r h = cc
+asks-none core (Some (Update update rd rs1 rs2)) r h = cc

@@ -7,7 +7,8 @@ use Rattle.instructions.specs.Codes.{row_of_code}
 use Rattle.instructions.specs.declared.instruction.Instruction.{Instruction}
 use Rattle.instructions.specs.declared.instruction.Instruction.TheVariants.{LoadUpper, AddUpper, Jump, JumpRegister}
 use Rattle.instructions.specs.declared.instruction.Instruction.TheVariants.{Branch, Load, Store, Immediate, Registers}
-use Rattle.instructions.specs.declared.instruction.Instruction.TheVariants.{CallEnvironment, Atomic}
+use Rattle.instructions.specs.declared.instruction.Instruction.TheVariants.{CallEnvironment, LoadReserved}
+use Rattle.instructions.specs.declared.instruction.Instruction.TheVariants.{StoreConditional, Update}
 use Rattle.guest_elf.specs.Profiles.{is_aligned}
 use Rattle.guest_machine.specs.State.{Core, State}
 use Rattle.guest_machine.specs.Registers.{set_register}
@@ -27,7 +28,9 @@ reads (Some (Store width rs1 rs2 imm)) r = (r == rs1) || (r == rs2)
 reads (Some (Immediate operation rd rs1 imm)) r = r == rs1
 reads (Some (Registers operation rd rs1 rs2)) r = (r == rs1) || (r == rs2)
 reads (Some CallEnvironment) r = true
-reads (Some (Atomic atomic rd rs1 rs2)) r = true
+reads (Some (LoadReserved rd rs1)) r = true
+reads (Some (StoreConditional rd rs1 rs2)) r = true
+reads (Some (Update update rd rs1 rs2)) r = true
 reads _ r = false
 
 -- is it the destination of an instruction?

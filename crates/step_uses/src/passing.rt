@@ -36,7 +36,10 @@ fn reads(row: &Instruction, register: Register) -> bool
         Instruction::Store { rs1, rs2, .. } => r == rs1.number() || r == rs2.number(),
         Instruction::Immediate { rs1, .. } => r == rs1.number(),
         Instruction::Registers { rs1, rs2, .. } => r == rs1.number() || r == rs2.number(),
-        Instruction::CallEnvironment | Instruction::Atomic { .. } => true,
+        Instruction::CallEnvironment => true,
+        Instruction::LoadReserved { .. } => true,
+        Instruction::StoreConditional { .. } => true,
+        Instruction::Update { .. } => true,
         _ => false,
     }
 }

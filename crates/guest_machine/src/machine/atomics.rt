@@ -93,7 +93,7 @@ impl Guest {
         Ok(())
     }
 
-    /// A store on the condition that its address is reserved. Returns which bytes it wrote.
+    /// A store on the condition that its address is reserved.
     #[tactic(auto, unfolding(crate::specs::Atomics::atomic_reads, crate::specs::Atomics::atomic_writes))]
     fn store_conditional(
         &mut self,
@@ -101,19 +101,15 @@ impl Guest {
         rd: Register,
         rs1: Register,
         rs2: Register,
-    ) -> Result<Used, AllocError>
+    ) -> Result<(), AllocError>
         requires { admits (core_of self.old) rs1 ≡ true }
-        ensures does { OnOk result (Does self.old self.new (store_conditional (core_of self.old) next rd rs1 rs2)
+        ensures { OnOk result (Does self.old self.new (store_conditional (core_of self.old) next rd rs1 rs2)
             (atomic_uses (core_of self.old) Atomic.StoreConditional rs1) false no_intake) }
-        ensures uses { IfOk result (λ used. used ≡ used_of (atomic_uses (core_of self.old) Atomic.StoreConditional rs1)) }
     {
         if !self.is_reserved(rs1) {
-            self.pass_over(next, rd, rs1)?;
-            return Ok(NOTHING);
+            return self.pass_over(next, rd, rs1);
         }
-        let range = self.accessed(rs1, 0, Width::Word);
-        self.store_reserved(next, rd, rs1, rs2)?;
-        Ok(Used::writing(range))
+        self.store_reserved(next, rd, rs1, rs2)
     }
 
     /// An atomic memory operation.
@@ -141,7 +137,25 @@ impl Guest {
         Ok(())
     }
 
-    /// Executes an atomic instruction. Returns which bytes it read and which it wrote.
+    /// Which bytes an atomic instruction reads and which it writes. Inline, so that a step has no room for what it returns.
+    #[inline(always)]
+    #[tactic(auto, unfolding(crate::specs::Atomics::atomic_reads, crate::specs::Atomics::atomic_writes))]
+    pub(super) fn atomic_used(&self, atomic: Atomic, rs1: Register) -> Used
+        ensures { result ≡ used_of (atomic_uses (core_of self.now) atomic rs1) }
+    {
+        if !self.admits(rs1) {
+            return NOTHING;
+        }
+        let range = self.accessed(rs1, 0, Width::Word);
+        match atomic {
+            Atomic::LoadReserved => Used::reading(range),
+            Atomic::StoreConditional if self.is_reserved(rs1) => Used::writing(range),
+            Atomic::StoreConditional => NOTHING,
+            Atomic::Update(_) => Used::updating(range),
+        }
+    }
+
+    /// Executes an atomic instruction.
     #[inline(never)]
     #[tactic(auto, unfolding(crate::specs::Atomics::atomic_effect, crate::specs::Atomics::atomic_reads, crate::specs::Atomics::atomic_writes))]
     pub(super) fn atomic(
@@ -151,26 +165,17 @@ impl Guest {
         rd: Register,
         rs1: Register,
         rs2: Register,
-    ) -> Result<Used, AllocError>
-        ensures does { OnOk result (Does self.old self.new (atomic_effect (core_of self.old) next atomic rd rs1 rs2
+    ) -> Result<(), AllocError>
+        ensures { OnOk result (Does self.old self.new (atomic_effect (core_of self.old) next atomic rd rs1 rs2
             (taken_from (bytes_of self.old) (atomic_reads (core_of self.old) atomic rs1))) (atomic_uses (core_of self.old) atomic rs1) false no_intake) }
-        ensures uses { IfOk result (λ used. used ≡ used_of (atomic_uses (core_of self.old) atomic rs1)) }
     {
         if !self.admits(rs1) {
-            self.stop_at_atomic(rs1)?;
-            return Ok(NOTHING);
+            return self.stop_at_atomic(rs1);
         }
-        let range = self.accessed(rs1, 0, Width::Word);
         match atomic {
-            Atomic::LoadReserved => {
-                self.load_reserved(next, rd, rs1)?;
-                Ok(Used::reading(range))
-            }
+            Atomic::LoadReserved => self.load_reserved(next, rd, rs1),
             Atomic::StoreConditional => self.store_conditional(next, rd, rs1, rs2),
-            Atomic::Update(update) => {
-                self.update_word(next, update, rd, rs1, rs2)?;
-                Ok(Used::updating(range))
-            }
+            Atomic::Update(update) => self.update_word(next, update, rd, rs1, rs2),
         }
     }
 }

@@ -4,11 +4,12 @@ ghost use Rattle.guest_machine.specs.State.{State};
 ghost use Rattle.guest_machine.specs.Effects.{next_of};
 ghost use Rattle.guest_machine.specs.Errors.{fetch_undef};
 ghost use Rattle.instructions.specs.Codes.{len_of, row_of_code};
-ghost use Rattle.guest_machine.specs.Exec.{nothing, reading, writing, called_here, exec, touched_of};
+ghost use Rattle.guest_machine.specs.Atomics.{atomic_effect, atomic_reads};
+ghost use Rattle.guest_machine.specs.Exec.{atomic_uses, no_intake, nothing, reading, writing, called_here, exec, taken_from, touched_of};
 ghost use Rattle.guest_machine.specs.Run.{pre};
 ghost use Rattle.guest_machine.specs.Shows.{core_of, bytes_of, Holds, Shows, has_raised};
 ghost use Rattle.guest_machine.specs.Spans.{span_at, IsCodeSpan};
-ghost use Rattle.guest_machine.specs.Doing.{is_ready, touched_in, used_of, uses_by, touched_by, DoesRow, DoesRound, DoesStep, IsFetch};
+ghost use Rattle.guest_machine.specs.Doing.{is_ready, touched_in, used_of, uses_by, touched_by, Does, DoesRow, DoesRound, DoesStep, IsFetch};
 
 use crate::hooks::Hooks;
 use crate::machine::fetching::Fetch;
@@ -106,20 +107,20 @@ impl Guest {
 
     /// An atomic instruction.
     #[inline(always)]
-    #[tactic(auto, unfolding(crate::specs::Exec::row_effect, crate::specs::Exec::row_uses, crate::specs::Exec::calls_heap, crate::specs::Exec::row_asks))]
     fn access_atomically(
         &mut self,
-        setup: &Setup,
         next: u32,
         atomic: Atomic,
         rd: Register,
         rs1: Register,
         rs2: Register,
     ) -> Result<Used, AllocError>
-        ensures does { OnOk result (DoesRow self.old self.new next (Some (Instruction.Atomic atomic rd rs1 rs2)) setup.now) }
-        ensures uses { IfOk result (λ used. used ≡ used_of (uses_by self.old (Some (Instruction.Atomic atomic rd rs1 rs2)) setup.now)) }
+        ensures does { OnOk result (Does self.old self.new (atomic_effect (core_of self.old) next atomic rd rs1 rs2
+            (taken_from (bytes_of self.old) (atomic_reads (core_of self.old) atomic rs1))) (atomic_uses (core_of self.old) atomic rs1) false no_intake) }
+        ensures uses { IfOk result (λ used. used ≡ used_of (atomic_uses (core_of self.old) atomic rs1)) }
     {
-        let used = self.atomic(next, atomic, rd, rs1, rs2)?;
+        let used = self.atomic_used(atomic, rs1);
+        self.atomic(next, atomic, rd, rs1, rs2)?;
         Ok(used)
     }
 
@@ -212,12 +213,23 @@ impl Guest {
                 self.stop(Stop::Break);
                 Ok(NOTHING)
             }
-            Instruction::Atomic {
-                atomic,
+            Instruction::LoadReserved { rd, rs1 } => {
+                let next = self.pc.wrapping_add(len);
+                self.access_atomically(next, Atomic::LoadReserved, rd, rs1, Register::new(0))
+            }
+            Instruction::StoreConditional { rd, rs1, rs2 } => {
+                let next = self.pc.wrapping_add(len);
+                self.access_atomically(next, Atomic::StoreConditional, rd, rs1, rs2)
+            }
+            Instruction::Update {
+                update,
                 rd,
                 rs1,
                 rs2,
-            } => self.access_atomically(setup, self.pc.wrapping_add(len), atomic, rd, rs1, rs2),
+            } => {
+                let next = self.pc.wrapping_add(len);
+                self.access_atomically(next, Atomic::Update(update), rd, rs1, rs2)
+            }
         }
     }
 
