@@ -1,5 +1,5 @@
 -- A machine without atomic instructions takes their words for none.
-use Rattle.std.proofs.Common.{◌≡◌, ℕ, ◌%◌, ◌==◌, ◌&&◌, false, cond, refl, ap, Option, Some, None}
+use Rattle.std.proofs.Common.{◌≡◌, ℕ, ◌%◌, ◌==◌, ◌&&◌, false, cond, refl, ap, List, Option, Some, None}
 use Rattle.std.specs.Option.{option_map}
 use Rattle.guest_elf.specs.Profiles.{has_atomics}
 use Rattle.instructions.specs.Atomics.{atomic_of}
