@@ -1,9 +1,9 @@
 #!/usr/bin/env bash
 # usage: examples/firmware/build.sh [FOLDER [MARCH]]
 #
-# Builds the programs of this folder and of the one above, each beside its source, and some for rv32imc into rv32imc/; or all of them
-# into FOLDER, there perhaps for other instructions than rv32im, such as rv32imac. One version of the tools makes the same bytes each
-# time, wherever the folders lie; the section .comment says which compiler it was.
+# Builds the programs of this folder and of the one above, each beside its source, and some for rv32imc and rv32imac into the folders of
+# these names; or all of them into FOLDER, there perhaps for other instructions than rv32im, such as rv32imac. ring.elf needs atomic ones.
+# One version of the tools makes the same bytes each time, wherever the folders lie; the section .comment says which compiler it was.
 #
 # The files that are checked in hold code of this repository alone. average.elf, labels.elf and library.elf have picolibc in them,
 # and are left to who has it. Wants gcc-riscv64-unknown-elf and picolibc-riscv64-unknown-elf.
@@ -15,7 +15,7 @@ esac
 march=${2:-rv32im}
 into=${1:+$(mkdir -p "$1" && cd "$1" && pwd)}
 cd "$(dirname "$(readlink -f "$0")")"
-short=(boot boot-twice differences kinds station) # what rv32imc/ has
+declare -A also=([rv32imc]='boot boot-twice differences kinds station' [rv32imac]=ring) # what these folders have
 gcc=riscv64-unknown-elf-gcc
 command -v $gcc >/dev/null || { echo "build.sh: no $gcc" >&2; exit 2; }
 
@@ -59,15 +59,18 @@ firmware station-by-number -nostdlib station-by-number.o memory.o heap_by_number
 firmware polled -nostdlib polled.o
 firmware boot -nostdlib boot.o
 firmware boot-twice -nostdlib boot-twice.o
+[[ $march != rv32ima* ]] || firmware ring -nostdlib ring.o memory.o heap_by_name.o
 linked "${into:-.}/board.elf" board/board.ld -nostdlib board-{start,names,heap}.o system.o memory.o
 firmware average average.o console.o -DPICOLIBC_INTEGER_PRINTF_SCANF
 firmware library library.o console.o heap_by_name.o -lm
 firmware labels labels.o heap_by_name.o --picolibc-buildtype=release
 
 if [ -z "$into" ]; then
-  ./build.sh "$objects/rv32imc" rv32imc
-  mkdir -p rv32imc
-  for name in "${short[@]}"; do
-    mv "$objects/rv32imc/$name.elf" rv32imc
+  for isa in "${!also[@]}"; do
+    ./build.sh "$objects/$isa" "$isa"
+    mkdir -p "$isa"
+    for name in ${also[$isa]}; do
+      mv "$objects/$isa/$name.elf" "$isa"
+    done
   done
 fi

@@ -34,9 +34,9 @@ same_by_number() {
     <(../../tools/bin/replaycheck-talk station-by-number.elf --input station.input station.session | without_heap_places)
 }
 
-# A sweep, without source lines.
+# explored WORD..: a sweep, without source lines.
 explored() {
-  ../../tools/bin/replaycheck-explore station.elf --input station.input --svg "$room/station.svg" | sed -E 's/ \([^()]+:[0-9]+\)//'
+  ../../tools/bin/replaycheck-explore "$@" | sed -E 's/ \([^()]+:[0-9]+\)//'
 }
 
 # The picture of faults at steps, with source lines and instructions.
@@ -69,6 +69,12 @@ same_short() {
   diff <(said_without_addresses "$1" "$1.elf") <(said_without_addresses "$1" "rv32imc/$1.elf" --isa=rv32imc)
 }
 
+# same_loaded FILE FILE: whether two programs load the same bytes.
+same_loaded() {
+  riscv64-unknown-elf-objcopy -O binary "$1" "$room/loaded" && riscv64-unknown-elf-objcopy -O binary "$2" "$room/also-loaded" \
+    && cmp "$room/loaded" "$room/also-loaded"
+}
+
 # The remarks of a session are those of the cases in the program.
 same_cases() {
   diff <(sed -nE 's|^    case ([0-9]+): .* /\* (.*) \*/$|\1: \2|p' "$1.c") <(sed -nE 's/^# ([0-9]+: .*)$/\1/p' "$1.session")
@@ -88,7 +94,10 @@ kinds input 0 23
 differences patch
 ROWS
 check 'which runs are clean' same clean verdicts ../*.elf *.elf
-check 'each byte of station.input' same sweep explored
+check 'a session on rv32imac/ring.elf' \
+  same ring ../../tools/bin/replaycheck-talk rv32imac/ring.elf --isa=rv32imac --input ring.input ring.session
+check 'each byte of ring.input' same ring-sweep explored rv32imac/ring.elf --isa=rv32imac --input ring.input
+check 'each byte of station.input' same sweep explored station.elf --input station.input --svg "$room/station.svg"
 if command -v riscv64-unknown-elf-addr2line riscv64-linux-gnu-addr2line addr2line >"$room/found"; then
   check 'its picture' cmp station.svg "$room/station.svg"
 else
@@ -177,16 +186,21 @@ else
   if [ "$(compiled_by station.elf)" != "$(compiled_by "$room/station.elf")" ]; then
     left_out 'comparing the programs, and those with picolibc' "the compiler isn't that of station.elf"
   else
-    check 'building the programs for rv32imc' ./build.sh "$room/rv32imc" rv32imc
-    for program in rv32imc/*.elf; do
-      check "the same bytes of $program" cmp "$program" "$room/$program"
+    for isa in rv32imc rv32imac; do
+      check "building the programs for $isa" ./build.sh "$room/$isa" $isa
+      for program in "$isa"/*.elf; do
+        check "the same bytes of $program" cmp "$program" "$room/$program"
+      done
     done
+    check 'boot.elf loads the same for rv32imc and rv32imac' same_loaded rv32imc/boot.elf "$room/rv32imac/boot.elf"
     for program in ../*.elf {board,polled,kinds,differences,station,station-by-number,boot,boot-twice}.elf; do
       check "the same bytes of $program" cmp "$program" "$room/${program##*/}"
     done
     check 'picolibc without a false error' same library from_picolibc library
+    check 'picolibc for rv32imac without a false error' same library from_picolibc rv32imac/library --isa=rv32imac
     check 'which runs with picolibc are clean' same clean-picolibc verdicts_of_picolibc
     check 'printf and scanf' same average from_picolibc average --input average.input
+    check 'printf and scanf for rv32imac' same average from_picolibc rv32imac/average --isa=rv32imac --input average.input
     check 'fast string functions' same labels from_picolibc labels --input labels.input
     check 'fast string functions, suppressed' same labels-suppressed \
       from_picolibc labels --input labels.input --supp picolibc.supp

@@ -237,10 +237,14 @@ def named_rows(rows):
     loaded = firmware(START + POLLS, segments=[segment(0x10013000, bytes(16))])
     done = rows.adopt(rows.file(loaded))
     rows.row("memory where a UART may be", [*status(done, 0), *lacking(done.stdout, ["will run as it is"])])
-    rebuilt = firmware(START + POLLS.replace("sw a0", ".word 0x00a5252f; sw a0"))
+    rebuilt = firmware(START + POLLS.replace("sw a0", ".word 0x00052007; sw a0"))
     done = rows.adopt(rows.file(rebuilt))
-    rows.row("a device and an atomic instruction",
+    rows.row("a device and floating point",
              [*status(done, 1), *lacking(done.stdout, ["as far as it meets nothing that needs a rebuild and waits for no device"])])
+    atomic = firmware(START + POLLS.replace("sw a0", ".word 0x00a5252f; sw a0"))
+    done = rows.adopt(rows.file(atomic))
+    rows.row("a device and an atomic instruction",
+             [*status(done, 1), *lacking(done.stdout, ["will run with --isa rv32imac as far as it waits for no device"])])
     host = firmware(f"_start: {EXIT}\n", extra=[function("tohost", 0x20000, 8, OBJECT)], segments=[segment(0x20000, bytes(64))])
     done = rows.adopt(rows.file(host))
     rows.row("tohost", [*status(done, 1), *lacking(done.stdout, ["tohost at 0x00020000: a word by which a host is asked (HTIF)"])])
