@@ -167,7 +167,7 @@ def sets_in_turn(bench):
         page.run("replaycheck.use('# --isa rv32imc\\ninput 1 6')")
         check("rv32imc", short, "input 1 6")
         page.run("replaycheck.use('# --isa rv32imac\\npatch 0x10230 0x00b6252f')")
-        check("rv32imac", atomic, "patch 0x10230 0x00b6252f")
+        check("rv32imac", atomic, "patch 0x00010230 0x00b6252f")
         page.run("replaycheck.code.visit(0x10230)")
         expect("amoadd.w a0,a1,(a2)" in page.text("code-rows"), "the page doesn't show an atomic instruction")
         page.run("replaycheck.use('# --isa rv32gc')")
