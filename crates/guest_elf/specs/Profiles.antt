@@ -27,6 +27,12 @@ has_atomics Rv32im = false
 has_atomics Rv32imc = false
 has_atomics Rv32imac = true
 
+-- are there control registers, and FENCE.I and WFI? (chapters 9 and 3; Privileged Architecture 20190608, section 3.2.3)
+unfoldable pub has_controls : Isa → Bool
+has_controls Rv32im = false
+has_controls Rv32imc = true
+has_controls Rv32imac = true
+
 -- has an instruction 16 bits? With C it has if its two lowest bits aren't both set (section 1.5, figure 1.1)
 unfoldable pub is_half : Isa → ℕ → Bool
 is_half Rv32im first = false

@@ -1,13 +1,14 @@
 //! What a file is read for.
 ghost use Rattle.std.specs.Prelude.{◌≡◌};
-ghost use Rattle.guest_elf.specs.Profiles.{has_atomics, has_halves, is_aligned, is_half, unit};
+ghost use Rattle.guest_elf.specs.Profiles.{has_atomics, has_controls, has_halves, is_aligned, is_half, unit};
 
 /// An instruction set, named as the RISC-V ISA manual names it (volume I, 20191213, chapter 27).
 #[derive(Clone, Copy, PartialEq, Eq)]
 pub enum Isa {
     /// RV32I, the base, with M: products and quotients.
     Rv32im,
-    /// The same with C: instructions of 16 bits too, at each multiple of 2.
+    /// The same with C: instructions of 16 bits too, at each multiple of 2. Like the next it also has Zicsr, Zifencei and WFI, which start
+    /// files have.
     Rv32imc,
     /// The same with A too: atomic instructions.
     Rv32imac,
@@ -46,6 +47,18 @@ impl Isa {
         match self {
             Isa::Rv32im | Isa::Rv32imc => false,
             Isa::Rv32imac => true,
+        }
+    }
+
+    /// Returns whether there are control registers, and FENCE.I and WFI.
+    #[inline(always)]
+    #[tactic(auto, unfolding(crate::specs::Profiles::has_controls))]
+    pub fn has_controls(self) -> bool
+        ensures { result ≡ has_controls self }
+    {
+        match self {
+            Isa::Rv32im => false,
+            Isa::Rv32imc | Isa::Rv32imac => true,
         }
     }
 

@@ -4,7 +4,7 @@ use Rattle.instructions.specs.declared.instruction.Instruction.{Instruction}
 use Rattle.guest_machine.specs.State.{State}
 use Rattle.guest_machine.specs.Effects.{next_of}
 use Rattle.guest_machine.specs.Exec.{Deed, counted, deed_asks, deed_terms, given_at, intake_of, is_heap_deed, left_at}
-use Rattle.guest_machine.specs.Exec.{outcome, plan, rounded, row_effect, row_uses, seen_also, taken_from, terms_of}
+use Rattle.guest_machine.specs.Exec.{outcome, plan, rounded, row_effect, row_uses, seen_also, stepped, taken_from, terms_of}
 use Rattle.guest_machine.specs.Exec.{written_to}
 use Rattle.guest_machine.specs.declared.setup.Setup.{Setup}
 
@@ -17,7 +17,7 @@ by s setup deed =
     let intake = intake_of (deed_asks s.core deed) (left_at s.position setup) in
     record {
       bytes = written_to s.bytes uses.writes effect.made;
-      core = effect.core;
+      core = stepped s.core effect.core;
       position = s.position + intake.count;
       end_seen = seen_also s.end_seen intake.ends;
       output = s.output ++ effect.output;
@@ -35,7 +35,7 @@ by-row s setup len row heap asks =
     let intake = intake_of asks (left_at s.position setup) in
     record {
       bytes = written_to s.bytes uses.writes effect.made;
-      core = effect.core;
+      core = stepped s.core effect.core;
       position = s.position + intake.count;
       end_seen = seen_also s.end_seen intake.ends;
       output = s.output ++ effect.output;

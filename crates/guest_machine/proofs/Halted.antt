@@ -7,6 +7,7 @@ use Rattle.guest_elf.specs.Hooks.{hook_at}
 use Rattle.guest_elf.specs.Profiles.{is_aligned, is_half}
 use Rattle.guest_machine.specs.State.{State, Core}
 use Rattle.guest_machine.specs.Exec.{exec, touches, touched_at, uses_at, intake_at, effect_at, has_touched, Deed}
+use Rattle.guest_machine.specs.Exec.{outcome_at, stepped, steps_on}
 use Rattle.guest_machine.specs.Exec.{deed_by, deed_at, called_here, fetched, fetches}
 use Rattle.guest_machine.specs.Exec.{fetch_by, half_at, word_at, word_fault}
 use Rattle.guest_machine.specs.Exec.{fetch_span, fetch_fault, unfetched, jump_fault, is_running}
@@ -40,7 +41,7 @@ after : State → Effect → State
 after s e =
     record {
       bytes = s.bytes;
-      core = e.core;
+      core = stepped s.core e.core;
       position = s.position + 0;
       end_seen = s.end_seen;
       output = s.output ++ e.output;
@@ -48,11 +49,16 @@ after s e =
       events = s.events ++ e.raised;
     }
 
-after-quiet : (s : State) → after s (quiet s.core) ≡ s
+-- no step counts where the machine doesn't run
+uncounted : (core : Core) → is_running core.status ≡ false → stepped core core ≡ core
+uncounted core h =
+    ap (λ b. record core { steps = cond (b && is_aligned core.isa core.pc) (steps_on core) core.steps }) h
+
+after-quiet : (s : State) → is_running s.core.status ≡ false → after s (quiet s.core) ≡ s
 unfolding after
-after-quiet s = λ i. record {
+after-quiet s h = λ i. record {
   bytes = s.bytes;
-  core = s.core;
+  core = uncounted s.core h i;
   position = add-zero s.position i;
   end_seen = s.end_seen;
   output = append-nil s.output i;
@@ -61,7 +67,7 @@ after-quiet s = λ i. record {
 }
 
 halted-step : (s : State) (setup : Setup) → is_running s.core.status ≡ false → exec s setup ≡ s
-unfolding exec intake_at uses_at effect_at unfetched after
+unfolding exec intake_at uses_at effect_at outcome_at unfetched after
 halted-step s setup h =
     let n = length s.output in
     let by : Deed → State = λ deed.
@@ -72,7 +78,7 @@ halted-step s setup h =
     let intake = intake_of (deed_asks s.core deed) (left_at s.position setup) in
     record {
       bytes = written_to s.bytes uses.writes effect.made;
-      core = effect.core;
+      core = stepped s.core effect.core;
       position = s.position + intake.count;
       end_seen = seen_also s.end_seen intake.ends;
       output = s.output ++ effect.output;
@@ -82,7 +88,7 @@ halted-step s setup h =
     ap by (halts s.core s.bytes setup.hooks h)
     ∙ ap (λ b. after s (cond b (cond (is_aligned s.core.isa s.core.pc) (jump_fault s.core (fetch_fault s.core))
     (stops s.core Misaligned)) (quiet s.core))) h
-    ∙ after-quiet s
+    ∙ after-quiet s h
 
 pub stays-halted : StaysHalted
 stays-halted setup s h = (halted-step s setup h, λ a. touches-nothing s setup a h)

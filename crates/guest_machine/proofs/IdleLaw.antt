@@ -4,7 +4,7 @@ use Rattle.std.proofs.Common.{false, cond, [], ◌∷◌}
 use Rattle.std.proofs.Common.{◌++◌, append-nil, Option, Some, None, refl, ap, sym, ◌∙◌, arith}
 use Rattle.std.proofs.Common.{add-zero}
 use Rattle.std.proofs.lemmas.Bool.Decides.{nat_tests}
-use Rattle.guest_elf.specs.Profiles.{is_aligned}
+use Rattle.guest_elf.specs.Profiles.{has_controls, is_aligned}
 use Rattle.guest_elf.specs.declared.hook.Hook.{Hook}
 use Rattle.instructions.specs.Codes.{len_of, row_of_code}
 use Rattle.instructions.specs.Instructions.{instruction_of, row_of, row_of_half}
@@ -28,7 +28,7 @@ use Rattle.run_values.specs.declared.status.Stop.TheVariants.{Misaligned}
 use Rattle.guest_machine.specs.Exec.{Deed, Takes, Cut, CallsByName, Halts, deed_at, deed_by, exec}
 use Rattle.guest_machine.specs.Exec.{called_here, fetched, intake_at}
 use Rattle.guest_machine.specs.Exec.{row_asks, row_effect, row_uses, uses_at, effect_at}
-use Rattle.guest_machine.specs.Exec.{calls_heap, is_running}
+use Rattle.guest_machine.specs.Exec.{calls_heap, is_ready, is_running, outcome_at, stepped, steps_on}
 use Rattle.guest_machine.specs.Streams.{calls_out, is_defined, is_idle, is_self_jump, jumps_to_itself, row_at, row_in}
 use Rattle.guest_machine.specs.Streams.{self_jump, short_self_jump, StaysAtRest}
 use Rattle.guest_machine.specs.declared.setup.Setup.{Setup}
@@ -99,7 +99,7 @@ after : State → Effect → State
 after s e =
     record {
       bytes = s.bytes;
-      core = e.core;
+      core = stepped s.core e.core;
       position = s.position + 0;
       end_seen = s.end_seen;
       output = s.output ++ e.output;
@@ -107,20 +107,29 @@ after s e =
       events = s.events ++ e.raised;
     }
 
+-- no step counts where there are no counters
+uncounted : (ready : Bool) (core : Core) → has_controls core.isa ≡ false
+    → record core { steps = cond ready (steps_on core) core.steps } ≡ core
+uncounted true core h = ap (λ b. record core { steps = cond b ((core.steps + 1) % 2 ^ 64) core.steps }) h
+uncounted false core h = refl
+
 jumped-state : (s : State) (setup : Setup) (len : ℕ) → s.core.pc < 2 ^ 32 → is_aligned s.core.isa s.core.pc ≡ true
-    → (fetch_undef s.core len == 0) ≡ true
+    → (fetch_undef s.core len == 0) ≡ true → has_controls s.core.isa ≡ false
     → by-row s setup len (Some (Jump 0 0)) (calls_heap s.core (Some (Jump 0 0))) (row_asks s.core (Some (Jump 0 0))) ≡ s
 unfolding by-row row_asks row_uses row_effect calls_heap event_unless after
-jumped-state s setup len small aligned defined =
+jumped-state s setup len small aligned defined none =
     let there = jumps-here s.core (next_of s.core len) small aligned in
     let core : stack_ruled (register s.core 2)
     (linked_jump s.core (next_of s.core len) (jal_hint 0) 0 ((s.core.pc + 0) % 2 ^ 32)) ≡ s.core =
     ap (λ core. stack_ruled (register s.core 2) core) there ∙ stack-stands s.core in
+    let counted : stepped s.core (stack_ruled (register s.core 2)
+    (linked_jump s.core (next_of s.core len) (jal_hint 0) 0 ((s.core.pc + 0) % 2 ^ 32))) ≡ s.core =
+    ap (stepped s.core) core ∙ uncounted (is_ready s.core) s.core none in
     let raised : fetch_errors s.core len ++ [] ≡ [] =
     ap (λ b. cond b [] (event_of (here s.core) Value Absent ∷ []) ++ []) defined in
     λ i. record {
       bytes = s.bytes;
-      core = core i;
+      core = counted i;
       position = add-zero s.position i;
       end_seen = s.end_seen;
       output = append-nil s.output i;
@@ -128,9 +137,10 @@ jumped-state s setup len small aligned defined =
       events = (ap (λ es. s.events ++ es) raised ∙ append-nil s.events) i;
     }
 
-idle-step : (setup : Setup) (s : State) → s.core.pc < 2 ^ 32 → is_idle s setup ≡ true → exec s setup ≡ s
-unfolding exec intake_at uses_at effect_at is_idle by by-row
-idle-step setup s small idle =
+idle-step : (setup : Setup) (s : State) → s.core.pc < 2 ^ 32 → is_idle s setup ≡ true
+    → has_controls s.core.isa ≡ false → exec s setup ≡ s
+unfolding exec intake_at uses_at effect_at outcome_at is_idle by by-row
+idle-step setup s small idle none =
     let deed = deed_at s.core s.bytes setup.hooks in
     let parts = both (jumps_to_itself deed) (is_defined s.core deed) idle in
     let found = idle-deed deed parts.0 in
@@ -139,7 +149,7 @@ idle-step setup s small idle =
     let aligned = at_start s.core (may_fetch s.core s.bytes found.0 fetch) in
     ap (by s setup) found.1.0
     ∙ ap (λ row. by-row s setup (len_of found.0) row (calls_heap s.core row) (row_asks s.core row)) found.1.1
-    ∙ jumped-state s setup (len_of found.0) small aligned defined
+    ∙ jumped-state s setup (len_of found.0) small aligned defined none
 
 quiet-jump : (deed : Deed) → jumps_to_itself deed ≡ true → calls_out (row_in deed) ≡ false
 unfolding calls_out row_in
@@ -155,8 +165,8 @@ pub stays-at-rest : StaysAtRest
 unfolding is_idle row_at
 stays-at-rest setup s (inl halted) = ((stays-halted setup s halted).0, quiet-halt s setup halted)
 stays-at-rest setup s (inr idle) = (
-  idle-step setup s idle.0 idle.1,
+  idle-step setup s idle.within idle.idle idle.uncounted,
   quiet-jump (deed_at s.core s.bytes setup.hooks)
       (both (jumps_to_itself (deed_at s.core s.bytes setup.hooks))
-      (is_defined s.core (deed_at s.core s.bytes setup.hooks)) idle.1).0,
+      (is_defined s.core (deed_at s.core s.bytes setup.hooks)) idle.idle).0,
 )

@@ -4,7 +4,7 @@ use Rattle.std.proofs.Common.{refl, ap, sym, ◌∙◌, List, [], ◌∷◌, Opt
 use Rattle.error_events.specs.declared.parameter.Parameter.{Parameter}
 use Rattle.std.specs.Prelude.{is_none}
 use Rattle.guest_elf.specs.Hooks.{hook_at}
-use Rattle.guest_elf.specs.Profiles.{has_atomics, is_aligned, is_half, unit}
+use Rattle.guest_elf.specs.Profiles.{has_atomics, has_controls, is_aligned, is_half, unit}
 use Rattle.shadow_memory.specs.Shadows.{first_inaccessible}
 use Rattle.guest_elf.specs.declared.hook.Hook.{Hook}
 use Rattle.guest_elf.specs.declared.hook.Hook.TheVariants.{Malloc, Free, Calloc, Realloc}
@@ -27,6 +27,8 @@ use Rattle.instructions.specs.declared.instruction.Instruction.TheVariants as ro
 use Rattle.instructions.specs.declared.atomic.Atomic.{Atomic}
 use Rattle.instructions.specs.declared.atomic.Atomic.TheVariants.{LoadReserved, StoreConditional}
 use Rattle.instructions.specs.declared.atomic.Atomic.TheVariants.{Update as Updating}
+use Rattle.instructions.specs.declared.control.ControlAccess.{ControlAccess}
+use Rattle.instructions.specs.declared.control.ControlOperand.{ControlOperand}
 use Rattle.definedness.specs.declared.Bits.{Bits}
 use Rattle.run_values.specs.declared.status.Stop.TheVariants.{Illegal, Misaligned}
 use Rattle.shadow_memory.specs.declared.cells.RangeKind.{RangeKind}
@@ -36,9 +38,10 @@ use Rattle.guest_machine.specs.Registers.{defined, known, register, set_register
 use Rattle.guest_machine.specs.StackPointer.{framed, is_stack_pointer, largest_frame, ranged, stack_moved, stack_ruled}
 use Rattle.guest_machine.specs.Atomics.{admits, admitted, atomic_effect, is_reserved, not_admitted, not_stored}
 use Rattle.guest_machine.specs.Atomics.{resulting}
+use Rattle.guest_machine.specs.Controls.{barrier, control, control_effect, controls_after, has_control}
 use Rattle.guest_machine.specs.Errors.{value_errors}
 use Rattle.guest_machine.specs.Effects.{Effect, branch_tested, branched, followed, is_undefined, jumped, linked_jump}
-use Rattle.guest_machine.specs.Effects.{moved_to, next_of, quiet, raising, stopped, stops, store, target}
+use Rattle.guest_machine.specs.Effects.{moved_to, next_of, quiet, raising, results_in, stopped, stops, store, target}
 use Rattle.instructions.specs.declared.width.Width.TheVariants.{Word as Word4}
 use Rattle.guest_machine.specs.Calls.{answers, argument, call_at, call_tested, ebadf, enospc, failure, heap_parameters}
 use Rattle.guest_machine.specs.Calls.{is_output, moved_len, output_room, parameters_of, read_call, tested_from}
@@ -46,7 +49,7 @@ use Rattle.guest_machine.specs.Calls.{write_call}
 use Rattle.guest_machine.specs.HeapCalls.{Resizing, Allocates, Refuses, Frees, Keeps, Moves, block_at, freed, heap_work}
 use Rattle.guest_machine.specs.HeapCalls.{released_here, resized, resizing}
 use Rattle.guest_machine.specs.NamedCalls.{named_by, named_tested, return_address, returns}
-use Rattle.guest_machine.specs.Exec.{Deed, Takes, Cut, CallsByName, Halts, Terms, call_effect, effect_at, exec}
+use Rattle.guest_machine.specs.Exec.{Deed, Takes, Cut, CallsByName, Halts, Terms, call_effect, effect_at, exec, outcome_at}
 use Rattle.guest_machine.specs.Exec.{fetch_by}
 use Rattle.guest_machine.specs.Exec.{fetch_fault, fetched, half_at, word_at, word_fault}
 use Rattle.guest_machine.specs.Exec.{called_here, deed_at, fetches, is_running, jump_fault, outcome}
@@ -205,6 +208,19 @@ unfolding branch_tested set_register
 branch-tests c test rs1 rs2 =
     either (is_undefined c test rs1 rs2) c.isa (defined (defined c rs1) rs2) c refl refl
 
+control-keeps : (c : Core) (next : ℕ) (access : ControlAccess) (rd number : ℕ) (operand : ControlOperand)
+    → (control_effect c next access rd number operand).core.isa ≡ c.isa
+unfolding control_effect set_register
+control-keeps c next access rd number operand =
+    either-effect (has_control c access number operand) c.isa
+    (results_in (record c { controls = controls_after c access number operand }) next rd (control c number))
+    (stops c Illegal) refl refl
+
+barrier-keeps : (c : Core) (next : ℕ) → (barrier c next).core.isa ≡ c.isa
+unfolding barrier
+barrier-keeps c next =
+    either-effect (has_controls c.isa) c.isa (quiet (moved_to c next)) (stops c Illegal) refl refl
+
 row-keeps : (c : Core) (next : ℕ) (row : Option Instruction) (terms : Terms) (given : List ℕ) (taken : ℕ → ℕ)
     → (row_effect c next row terms given taken).core.isa ≡ c.isa
 unfolding row_effect set_register
@@ -229,6 +245,9 @@ row-keeps c next (Some (rows.StoreConditional rd rs1 rs2)) terms given taken =
     atomic-keeps c next StoreConditional rd rs1 rs2 taken
 row-keeps c next (Some (rows.Update update rd rs1 rs2)) terms given taken =
     atomic-keeps c next (Updating update) rd rs1 rs2 taken
+row-keeps c next (Some (rows.Control access rd number operand)) terms given taken =
+    control-keeps c next access rd number operand
+row-keeps c next (Some rows.Barrier) terms given taken = barrier-keeps c next
 
 fault-keeps : (c : Core) (fault : Option ℕ) → (jump_fault c fault).core.isa ≡ c.isa
 fault-keeps c None = refl
@@ -253,7 +272,7 @@ deed-keeps c terms (CallsByName function) given taken =
 deed-keeps c terms Halts given taken = none-taken c
 
 pub keeps-isa : KeepsIsa
-unfolding exec effect_at
+unfolding exec effect_at outcome_at
 keeps-isa setup s = deed-keeps s.core _ (deed_at s.core s.bytes setup.hooks) _ _
 
 -- ---- where an instruction may begin

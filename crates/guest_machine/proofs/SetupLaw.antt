@@ -6,7 +6,7 @@ use Rattle.std.proofs.lemmas.Bool.Decides.{nat_tests}
 use Rattle.std.specs.Prelude.{slice_get}
 use Rattle.guest_machine.specs.State.{State}
 use Rattle.guest_machine.specs.Exec.{Deed, Terms, Intake, exec, plan, outcome, intake_of, intake_at, left_at, seen_also}
-use Rattle.guest_machine.specs.Exec.{uses_at, effect_at, touches, touched_at}
+use Rattle.guest_machine.specs.Exec.{uses_at, effect_at, outcome_at, stepped, touches, touched_at}
 use Rattle.guest_machine.specs.Exec.{has_touched, deed_at, deed_asks, deed_terms, is_heap_deed, given_at, taken_from}
 use Rattle.guest_machine.specs.Exec.{written_to, counted, fetch_span}
 use Rattle.guest_machine.specs.Laws.{KeepsInput, KeepsHeap, KeepsEnd, EndStays, is_heap_step}
@@ -27,7 +27,7 @@ taken-under s setup = intake_at s.core s.bytes s.position setup
 same-step : (one other : Setup) (s : State) → one.hooks ≡ other.hooks → seen s one ≡ seen s other
     → given_at s.position (taken-under s one).count one ≡ given_at s.position (taken-under s one).count other
     → (touches s one ≡ touches s other) × (exec s one ≡ exec s other)
-unfolding seen taken-under exec intake_at touches touched_at uses_at effect_at
+unfolding seen taken-under exec intake_at touches touched_at uses_at effect_at outcome_at
 same-step one other s k t g =
     let d : Deed = deed_at s.core s.bytes one.hooks in
     let same : d ≡ deed_at s.core s.bytes other.hooks = ap (λ hooks. deed_at s.core s.bytes hooks) k in (
@@ -47,7 +47,7 @@ same-step one other s k t g =
         let effect = outcome s.core x d given (taken_from s.bytes uses.reads) in
         record {
           bytes = written_to s.bytes uses.writes effect.made;
-          core = effect.core;
+          core = stepped s.core effect.core;
           position = s.position + x.intake.count;
           end_seen = seen_also s.end_seen x.intake.ends;
           output = s.output ++ effect.output;

@@ -10,6 +10,8 @@ use Rattle.guest_machine.specs.Calls.{bytes_taken}
 use Rattle.shadow_memory.specs.Ranges.{written, byte_of}
 use Rattle.shadow_memory.specs.Memories.{bytes_in, shadows_in}
 use Rattle.guest_heap.specs.Heaps.{blocks_of}
+use Rattle.control_registers.specs.Written.{registers_in}
+use Rattle.guest_elf.specs.Profiles.{has_controls}
 use Rattle.guest_machine.specs.Exec.{exec, uses_at, effect_at, touched_at, touched_of, written_to, counted}
 use Rattle.guest_machine.specs.Exec.{is_heap_deed, deed_at}
 use Rattle.guest_machine.specs.Exec.{seen_also, intake_at}
@@ -178,6 +180,8 @@ holds-poked m memory addr code b c zero s h =
             blocks = blocks_of m.heap;
             isa = m.isa;
             reserved = m.reserved;
+            controls = registers_in m.controls;
+            steps = cond (has_controls m.isa) m.steps 0;
           }) ∙ h.core;
       position = h.position;
       end_seen = h.end_seen;

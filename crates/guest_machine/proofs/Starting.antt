@@ -1,6 +1,10 @@
 -- The machine at the start shows the start.
-use Rattle.std.proofs.Common.{false, ◌≡◌, ℕ, refl, ap, ap₂, ◌∙◌, List, [], None, slice_index, slice_index_or, replicate}
+use Rattle.std.proofs.Common.{Bool, true, cond, false, ◌≡◌, ℕ, refl, ap, ap₂, ◌∙◌, List, [], None, slice_index, slice_index_or, replicate}
 use Rattle.std.specs.Prelude.{slice_set}
+use Rattle.control_registers.specs.Registers.{no_registers}
+use Rattle.control_registers.specs.Written.{registers_in}
+use Rattle.control_registers.specs.declared.registers.ControlRegisters.{ControlRegisters}
+use Rattle.guest_elf.specs.Profiles.{has_controls}
 use Rattle.std.proofs.Math.Path.{fun_ext}
 use Rattle.definedness.specs.declared.Bits.{Bits}
 use Rattle.guest_elf.specs.declared.image.Image.{Image}
@@ -26,8 +30,13 @@ use Rattle.shadow_memory.specs.declared.memory.Memory.{Memory}
 use Rattle.error_events.specs.declared.groups.Groups.{Groups}
 use Rattle.run_values.specs.declared.status.Status.TheVariants.{Running}
 
+none-made : (b : Bool) → cond b 0 0 ≡ 0
+none-made true = refl
+none-made false = refl
+
 pub holds-start : (alloc : Global) (image : Image) (fresh loaded memory : Memory) (groups : Groups)
-    (frames : List Frame) (heap : Heap) (segments : List Segment) (pc : ℕ) (isa : Isa) (zeros top : Bits)
+    (frames : List Frame) (heap : Heap) (controls : ControlRegisters) (segments : List Segment) (pc : ℕ) (isa : Isa)
+    (zeros top : Bits)
     → bytes_in fresh ≡ (λ a. 0) → shadows_in fresh ≡ (λ a. shadow_of NoAccess)
     → bytes_in loaded ≡ loaded_bytes segments (bytes_in fresh)
     → shadows_in loaded ≡ loaded_shadows segments (shadows_in fresh)
@@ -35,7 +44,7 @@ pub holds-start : (alloc : Global) (image : Image) (fresh loaded memory : Memory
     → shadows_in memory ≡ made_so (shadows_in loaded) stack_start 16 Defined
     → segments ≡ segments_of image → pc ≡ entry_of image → isa ≡ (profile_of image).isa → zeros ≡ known 0
     → top ≡ known stack_start
-    → groups_of groups ≡ [] → frames ≡ [] → blocks_of heap ≡ no_blocks
+    → groups_of groups ≡ [] → frames ≡ [] → blocks_of heap ≡ no_blocks → registers_in controls ≡ no_registers
     → (zero : slice_index_or (slice_set (replicate 32 zeros) 2 top) 0 (known 0) ≡ known 0)
     → Holds (record {
       alloc = alloc;
@@ -49,12 +58,14 @@ pub holds-start : (alloc : Global) (image : Image) (fresh loaded memory : Memory
       noted = record { groups = groups; raised = false };
       isa = isa;
       reserved = None;
+      controls = controls;
+      steps = 0;
       zero = zero;
     })
     (start_state image)
 unfolding start_state loaded_bytes loaded_shadows loaded_at grouped firsts_after
-holds-start alloc image fresh loaded memory groups frames heap segments pc isa zeros top b0 s0 b1 s1 b2 s2 same at set
-    z t g calls none zero =
+holds-start alloc image fresh loaded memory groups frames heap controls segments pc isa zeros top b0 s0 b1 s1 b2 s2 same at set
+    z t g calls none untouched zero =
     record {
       bytes = b2 ∙ ap₂ (λ f m. written f stack_start 16 m) (b1 ∙ ap₂ loaded_bytes same b0) (fun_ext (λ i. refl));
       core = λ i. record {
@@ -66,6 +77,8 @@ holds-start alloc image fresh loaded memory groups frames heap segments pc isa z
         blocks = none i;
         isa = set i;
         reserved = None;
+        controls = untouched i;
+        steps = none-made (has_controls isa) i;
       };
       position = refl;
       end_seen = refl;

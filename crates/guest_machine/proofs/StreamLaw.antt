@@ -21,6 +21,11 @@ use Rattle.guest_machine.specs.State.{Core, State}
 use Rattle.std.specs.Prelude.{slice_index}
 use Rattle.error_events.specs.declared.parameter.Parameter.TheVariants.{ReadBuffer, WriteBuffer}
 use Rattle.run_values.specs.declared.status.Stop.TheVariants.{Illegal, Misaligned}
+use Rattle.instructions.specs.declared.control.ControlAccess.{ControlAccess}
+use Rattle.instructions.specs.declared.control.ControlOperand.{ControlOperand}
+use Rattle.guest_elf.specs.Profiles.{has_controls}
+use Rattle.guest_machine.specs.Effects.{results_in}
+use Rattle.guest_machine.specs.Controls.{barrier, control, control_effect, controls_after, has_control}
 use Rattle.guest_machine.specs.Atomics.{admits, admitted, atomic_effect, is_reserved, not_admitted, not_stored}
 use Rattle.guest_machine.specs.Atomics.{resulting}
 use Rattle.guest_machine.specs.Errors.{buffer_errors, value_errors}
@@ -35,7 +40,7 @@ use Rattle.guest_machine.specs.HeapCalls.{heap_work}
 use Rattle.guest_machine.specs.NamedCalls.{named_by, returns}
 use Rattle.guest_machine.specs.Exec.{Deed, Takes, Cut, CallsByName, Halts, Terms, Uses, word_fault}
 use Rattle.guest_machine.specs.Exec.{call_effect, call_uses, row_asks, row_effect, row_uses, exec}
-use Rattle.guest_machine.specs.Exec.{deed_at, deed_asks, deed_terms, effect_at, uses_at, intake_at, intake_of, left_at}
+use Rattle.guest_machine.specs.Exec.{deed_at, deed_asks, deed_terms, effect_at, outcome_at, uses_at, intake_at, intake_of, left_at}
 use Rattle.guest_machine.specs.Exec.{given_at, outcome, plan, taken_from, written_to, touched_at, unfetched}
 use Rattle.guest_machine.specs.Exec.{fetch_fault, is_running}
 use Rattle.guest_machine.specs.Exec.{jump_fault, seen_also}
@@ -48,7 +53,7 @@ use Rattle.guest_machine.specs.declared.environment_call.EnvironmentCall.TheVari
 use Rattle.guest_machine.specs.declared.setup.Setup.{Setup}
 use Rattle.guest_machine.proofs.Running.{one-more}
 
--- ---- atomic instructions
+-- ---- atomic instructions, and those of control registers
 
 -- of two effects that write nothing out either does so
 of-two : (b : Bool) (one other : Effect) → one.output ≡ [] → other.output ≡ [] → (cond b one other).output ≡ []
@@ -71,6 +76,19 @@ atomic-silent core next atomic rd rs1 rs2 taken =
     (admitted-silent core next atomic rd rs1 rs2 taken)
     (of-two (has_atomics core.isa) (raising (stopped (tested core rs1) Misaligned) (value_errors core rs1))
     (stops core Illegal) refl refl)
+
+control-silent : (core : Core) (next : ℕ) (access : ControlAccess) (rd number : ℕ) (operand : ControlOperand)
+    → (control_effect core next access rd number operand).output ≡ []
+unfolding control_effect
+control-silent core next access rd number operand =
+    of-two (has_control core access number operand)
+    (results_in (record core { controls = controls_after core access number operand }) next rd (control core number))
+    (stops core Illegal) refl refl
+
+barrier-silent : (core : Core) (next : ℕ) → (barrier core next).output ≡ []
+unfolding barrier
+barrier-silent core next =
+    of-two (has_controls core.isa) (quiet (moved_to core next)) (stops core Illegal) refl refl
 
 -- ---- instructions that are no ECALL
 
@@ -109,6 +127,10 @@ silent core next (Some (rows.StoreConditional rd rs1 rs2)) terms given taken h =
     record { asks = refl; output = atomic-silent core next StoreConditional rd rs1 rs2 taken; fits = λ n. refl }
 silent core next (Some (rows.Update update rd rs1 rs2)) terms given taken h =
     record { asks = refl; output = atomic-silent core next (Updating update) rd rs1 rs2 taken; fits = λ n. refl }
+silent core next (Some (rows.Control access rd number operand)) terms given taken h =
+    record { asks = refl; output = control-silent core next access rd number operand; fits = λ n. refl }
+silent core next (Some rows.Barrier) terms given taken h =
+    record { asks = refl; output = barrier-silent core next; fits = λ n. refl }
 
 -- ---- calls of the heap, and steps that carry nothing out
 
@@ -218,6 +240,9 @@ row-spoken core next (Some (rows.StoreConditional rd rs1 rs2)) terms given bytes
     inl (atomic-silent core next StoreConditional rd rs1 rs2 _)
 row-spoken core next (Some (rows.Update update rd rs1 rs2)) terms given bytes =
     inl (atomic-silent core next (Updating update) rd rs1 rs2 _)
+row-spoken core next (Some (rows.Control access rd number operand)) terms given bytes =
+    inl (control-silent core next access rd number operand)
+row-spoken core next (Some rows.Barrier) terms given bytes = inl (barrier-silent core next)
 
 deed-spoken : (core : Core) (deed : Deed) (terms : Terms) (given : List ℕ) (bytes : ℕ → ℕ)
     → Spoken bytes (plan core terms deed)
@@ -231,7 +256,7 @@ deed-spoken core (CallsByName function) terms given bytes =
 deed-spoken core Halts terms given bytes = inl (halt-silent core)
 
 pub writes-what-it-reads : WritesWhatItReads
-unfolding Spoken exec uses_at effect_at touched_at
+unfolding Spoken exec uses_at effect_at outcome_at touched_at
 writes-what-it-reads setup s =
     let deed = deed_at s.core s.bytes setup.hooks in
     let terms = deed_terms s.core deed s.position (length s.output) setup in
@@ -257,7 +282,7 @@ deed-quiet core (CallsByName function) terms given taken h =
 deed-quiet core Halts terms given taken h = (refl, halt-silent core, λ n. refl)
 
 pub only-calls-speak : OnlyCallsSpeak
-unfolding exec uses_at effect_at intake_at row_at refuses_write
+unfolding exec uses_at effect_at outcome_at intake_at row_at refuses_write
 only-calls-speak setup s h =
     let deed = deed_at s.core s.bytes setup.hooks in
     let terms = deed_terms s.core deed s.position (length s.output) setup in

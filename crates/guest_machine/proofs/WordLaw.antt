@@ -7,7 +7,7 @@ use Rattle.std.proofs.lemmas.Bool.Decides.{nat_tests}
 use Rattle.shadow_memory.specs.Ranges.{above, offset, is_in, window, written, changed_in, little_word}
 use Rattle.guest_machine.specs.Spans.{covers}
 use Rattle.guest_machine.specs.State.{Core, State}
-use Rattle.guest_machine.specs.Exec.{exec, Takes, plan, outcome, uses_at, effect_at, touches, touched_at}
+use Rattle.guest_machine.specs.Exec.{exec, Takes, counting, plan, outcome, outcome_at, uses_at, effect_at, touches, touched_at}
 use Rattle.guest_machine.specs.Exec.{has_touched}
 use Rattle.guest_machine.specs.Exec.{called_here, deed_by, deed_at, deed_terms}
 use Rattle.guest_machine.specs.Exec.{is_heap_deed, given_at, taken_from, written_to, counted, fetched, fetches}
@@ -132,9 +132,9 @@ module _ (W : ℕ → Type 0) (core : Core) (position output : ℕ) (setup : Set
   unfolding touched_at Avoids
   reads-avoid a w = left-false _ _ (right-false (covers (fetch_span core (deed_at core f setup.hooks)) a) _ (h a w))
 
-  effect-same : effect_at core f position output setup ≡ effect_at core g position output setup
-  unfolding effect_at uses_at
-  effect-same =
+  outcome-same : outcome_at core f position output setup ≡ outcome_at core g position output setup
+  unfolding outcome_at uses_at
+  outcome-same =
       ap (λ t. outcome core (deed_terms core (deed_at core f setup.hooks) position output setup)
       (deed_at core f setup.hooks)
       (given_at position (deed_terms core (deed_at core f setup.hooks) position output setup).intake.count setup) t)
@@ -142,6 +142,10 @@ module _ (W : ℕ → Type 0) (core : Core) (position output : ℕ) (setup : Set
       ∙ ap (λ d. let terms = deed_terms core d position output setup in
       outcome core terms d (given_at position terms.intake.count setup) (taken_from g (plan core terms d).reads))
       deed-same
+
+  effect-same : effect_at core f position output setup ≡ effect_at core g position output setup
+  unfolding effect_at
+  effect-same = ap (counting core) outcome-same
 
   touched-same : touched_at core f position output setup ≡ touched_at core g position output setup
   unfolding touched_at

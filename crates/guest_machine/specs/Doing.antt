@@ -1,5 +1,5 @@
 -- What the machine's private functions do to the parts that it shows.
-use Rattle.std.specs.Prelude.{◌≡◌, ℕ, ◌+◌, ◌&&◌, true, false, Bool, length, List, [], ◌∷◌, Option, Some, None}
+use Rattle.std.specs.Prelude.{◌≡◌, ℕ, ◌+◌, true, false, Bool, length, List, [], ◌∷◌, Option, Some, None}
 use Rattle.guest_machine.specs.State.{Core}
 use Rattle.guest_machine.specs.Effects.{Effect, moved_to, next_of, stored_core}
 use Rattle.run_values.specs.declared.span.Span.{Span}
@@ -9,9 +9,8 @@ use Rattle.guest_machine.specs.NamedCalls.{returns, named_call}
 use Rattle.guest_machine.specs.Exec.{Uses, Terms, Intake, no_intake, intake_of, intake_at, seen_also, left_at, row_asks}
 use Rattle.guest_machine.specs.Exec.{call_asks, counted, written_to, row_uses, row_effect, rounded, calls_heap}
 use Rattle.guest_machine.specs.Exec.{read_uses, write_uses, work_uses, heap_uses, named_uses, moved_from, moved_into}
-use Rattle.guest_machine.specs.Exec.{terms_of, given_at, taken_from, is_heap_deed, deed_at, uses_at, effect_at}
-use Rattle.guest_machine.specs.Exec.{Takes, Cut, Halts, fetched, is_running, touched_at}
-use Rattle.guest_elf.specs.Profiles.{is_aligned}
+use Rattle.guest_machine.specs.Exec.{terms_of, given_at, taken_from, is_heap_deed, deed_at, uses_at, effect_at, outcome_at}
+use Rattle.guest_machine.specs.Exec.{Takes, Cut, Halts, fetched, touched_at}
 use Rattle.guest_machine.specs.Errors.{fetch_undef}
 use Rattle.instructions.specs.Codes.{code_of, len_of, row_of_code}
 use Rattle.shadow_memory.specs.Ranges.{byte_of, little_word, window}
@@ -85,10 +84,6 @@ pub record Does (old new : Guest) (effect : Effect) (uses : Uses) (heap : Bool) 
   pub heap_calls : new.progress.heap_calls ≡ counted old.progress.heap_calls heap
   pub noted : Raises old new effect.raised
 
--- it runs, and an instruction may begin at pc
-abbrev pub is_ready : Core → Bool
-is_ready core = is_running core.status && is_aligned core.isa core.pc
-
 -- this is what may be fetched at pc, with its undefined bits
 abbrev pub IsFetch : Core → (ℕ → ℕ) → Fetch → Type 0
 IsFetch core bytes (Whole code undef) =
@@ -154,6 +149,16 @@ DoesRound old new len row setup =
     row_effect (core_of old) (next_of (core_of old) len) row (row_terms old row setup) given
     (taken_from (bytes_of old) uses.reads) in
     Does old new (rounded (core_of old) len effect) uses (calls_heap (core_of old) row) intake
+
+-- a step of a machine but for the number of steps
+abbrev pub DoesDeed : Guest → Guest → Setup → Type 0
+DoesDeed old new setup =
+    let progress = old.progress in
+    Does old new
+    (outcome_at (core_of old) (bytes_of old) progress.position progress.output_len setup)
+    (uses_at (core_of old) (bytes_of old) progress.position progress.output_len setup)
+    (is_heap_deed (core_of old) (deed_at (core_of old) (bytes_of old) setup.hooks))
+    (intake_at (core_of old) (bytes_of old) progress.position setup)
 
 -- a whole step of a machine, and what it touches
 abbrev pub DoesStep : Guest → Guest → Setup → Type 0

@@ -1,7 +1,7 @@
 -- One step, in three parts: what it does, by the code at pc and the functions that are called by name; what it uses, by
 -- this and what decides the step; and what it leaves, by these, the input that it gets and the bytes that it reads. It
 -- depends on no other byte value and no other part of the setup.
-use Rattle.std.specs.Prelude.{nat_lt, ℕ, ◌+◌, ◌-◌, ◌*◌, ◌==◌, ◌&&◌, ◌||◌, Bool, true, false, if◌then◌else◌}
+use Rattle.std.specs.Prelude.{nat_lt, ℕ, ◌+◌, ◌-◌, ◌*◌, ◌%◌, ◌^◌, ◌==◌, ◌&&◌, ◌||◌, Bool, true, false, if◌then◌else◌}
 use Rattle.std.specs.Prelude.{List, ◌++◌, take, drop, length, min, Option, Some, None, is_none}
 use Rattle.shadow_memory.specs.Ranges.{window, little_word, written}
 use Rattle.guest_machine.specs.Spans.{span_at, covers}
@@ -13,10 +13,11 @@ use Rattle.guest_machine.specs.Effects.{Effect, no_bytes, quiet, raising, moved_
 use Rattle.guest_machine.specs.Effects.{add_upper, compute_immediate, compute, load, store, branch, jump, jump_register}
 use Rattle.guest_machine.specs.Effects.{next_of, stops}
 use Rattle.guest_machine.specs.Atomics.{atomic_effect, atomic_reads, atomic_writes}
+use Rattle.guest_machine.specs.Controls.{barrier, control_effect}
 use Rattle.guest_machine.specs.Calls.{argument, call_at, is_heap, moved_len, appends, read_call, write_call, exit_call}
 use Rattle.guest_machine.specs.Calls.{unknown_call}
 use Rattle.guest_elf.specs.Hooks.{hook_at}
-use Rattle.guest_elf.specs.Profiles.{is_aligned, is_half, unit}
+use Rattle.guest_elf.specs.Profiles.{has_controls, is_aligned, is_half, unit}
 use Rattle.guest_machine.specs.NamedCalls.{returns, named_call}
 use Rattle.guest_machine.specs.Errors.{here, event_about, fetch_errors}
 use Rattle.guest_machine.specs.StackPointer.{stack_ruled}
@@ -46,6 +47,7 @@ use Rattle.instructions.specs.declared.instruction.Instruction.TheVariants.{Bran
 use Rattle.instructions.specs.declared.instruction.Instruction.TheVariants.{Fence, CallEnvironment as CallRow}
 use Rattle.instructions.specs.declared.instruction.Instruction.TheVariants.{Breakpoint, LoadReserved}
 use Rattle.instructions.specs.declared.instruction.Instruction.TheVariants.{StoreConditional, Update as UpdateRow}
+use Rattle.instructions.specs.declared.instruction.Instruction.TheVariants.{Control, Barrier}
 use Rattle.instructions.specs.declared.atomic.Atomic.{Atomic}
 use Rattle.instructions.specs.declared.atomic.Atomic.TheVariants as atomics
 use Rattle.run_values.specs.declared.status.Status.{Status}
@@ -59,6 +61,10 @@ abbrev pub is_running : Status → Bool
 is_running Running = true
 is_running (Exited code) = false
 is_running (Stopped stop) = false
+
+-- it runs, and an instruction may begin at pc
+abbrev pub is_ready : Core → Bool
+is_ready core = is_running core.status && is_aligned core.isa core.pc
 
 -- the number in the first two bytes at pc, and in the first four
 abbrev pub half_at : Core → (ℕ → ℕ) → ℕ
@@ -103,7 +109,7 @@ fetched core bytes =
 
 -- the function that is called by name: the one that begins at pc
 unfoldable pub called_here : Core → List (ℕ × Hook) → Option Hook
-called_here core hooks = if is_running core.status && is_aligned core.isa core.pc then hook_at hooks core.pc else None
+called_here core hooks = if is_ready core then hook_at hooks core.pc else None
 
 -- a function is called before its code is looked at
 abbrev pub deed_by : Option Hook → Deed → Deed
@@ -286,6 +292,9 @@ row_effect core next (Some (StoreConditional rd rs1 rs2)) terms given taken =
     atomic_effect core next atomics.StoreConditional rd rs1 rs2 taken
 row_effect core next (Some (UpdateRow update rd rs1 rs2)) terms given taken =
     atomic_effect core next (atomics.Update update) rd rs1 rs2 taken
+row_effect core next (Some (Control access rd number operand)) terms given taken =
+    control_effect core next access rd number operand
+row_effect core next (Some Barrier) terms given taken = barrier core next
 
 -- a fetch that meets an inaccessible byte
 abbrev pub jump_fault : Core → Option ℕ → Effect
@@ -389,12 +398,27 @@ unfoldable pub intake_at : Core → (ℕ → ℕ) → ℕ → Setup → Intake
 intake_at core bytes position setup =
     intake_of (deed_asks core (deed_at core bytes setup.hooks)) (left_at position setup)
 
--- and what it leaves
-unfoldable pub effect_at : Core → (ℕ → ℕ) → ℕ → ℕ → Setup → Effect
-effect_at core bytes position written setup =
+-- what it leaves but for the number of steps
+unfoldable pub outcome_at : Core → (ℕ → ℕ) → ℕ → ℕ → Setup → Effect
+outcome_at core bytes position written setup =
     let deed = deed_at core bytes setup.hooks in
     let terms = deed_terms core deed position written setup in
     outcome core terms deed (given_at position terms.intake.count setup) (taken_from bytes (plan core terms deed).reads)
+
+-- the number of steps after another one, if there are counters, which have 64 bits; and after a step, which counts where
+-- an instruction may begin
+abbrev pub steps_on : Core → ℕ
+steps_on core = if has_controls core.isa then (core.steps + 1) % 2 ^ 64 else core.steps
+
+abbrev pub stepped : Core → Core → Core
+stepped core after = record after { steps = if is_ready core then steps_on after else after.steps }
+
+abbrev pub counting : Core → Effect → Effect
+counting core e = record { core = stepped core e.core; raised = e.raised; made = e.made; output = e.output }
+
+-- and what it leaves
+unfoldable pub effect_at : Core → (ℕ → ℕ) → ℕ → ℕ → Setup → Effect
+effect_at core bytes position written setup = counting core (outcome_at core bytes position written setup)
 
 -- a count with another item; it stops at the greatest 64-bit number
 abbrev pub counted : ℕ → Bool → ℕ

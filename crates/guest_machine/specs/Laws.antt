@@ -6,7 +6,7 @@ use Rattle.guest_elf.specs.declared.hook.Hook.{Hook}
 use Rattle.guest_elf.specs.declared.profile.Isa.TheVariants.{Rv32im}
 use Rattle.instructions.specs.declared.hint.StackHint.{StackHint}
 use Rattle.run_values.specs.declared.alteration.Act.TheVariants.{Skip}
-use Rattle.run_values.specs.declared.status.Stop.TheVariants.{Misaligned}
+use Rattle.run_values.specs.declared.status.Stop.TheVariants.{Illegal, Misaligned}
 use Rattle.guest_machine.specs.State.{Core, State}
 use Rattle.guest_machine.specs.Registers.{known, set_register}
 use Rattle.guest_machine.specs.Effects.{followed, jumped, linked_jump, moved_to, next_of, quiet, stopped, stops}
@@ -20,10 +20,12 @@ use Rattle.run_values.specs.Alterations.{alteration_of}
 use Rattle.run_values.specs.declared.mark.Mark.{Mark}
 use Rattle.guest_machine.specs.Exec.{exec, touches, counted, is_heap_deed, is_running, deed_at}
 use Rattle.guest_machine.specs.Exec.{Takes, Halts, called_here, fetched, fetches, jump_fault, unfetched, word_at}
-use Rattle.guest_machine.specs.Exec.{word_fault, Terms, calls_heap, row_asks, row_effect, row_uses}
-use Rattle.guest_elf.specs.Profiles.{has_atomics}
+use Rattle.guest_machine.specs.Exec.{word_fault, Terms, atomic_uses, calls_heap, nothing, row_asks, row_effect, row_uses}
 use Rattle.instructions.specs.Instructions.{if_row, row_of}
 use Rattle.rv_decode.specs.Table.{insn}
+use Rattle.guest_elf.specs.Profiles.{has_atomics}
+use Rattle.guest_machine.specs.Atomics.{atomic_effect}
+use Rattle.instructions.specs.declared.atomic.Atomic.{Atomic}
 use Rattle.instructions.specs.Codes.{len_of}
 use Rattle.instructions.specs.declared.code.Code.{Code}
 use Rattle.instructions.specs.declared.code.Code.TheVariants.{Word}
@@ -156,9 +158,19 @@ pub record HasBaseWords (core : Core) : Type 0 where
   pub asks : (word : ℕ) → row_asks core (row_of word) ≡ row_asks core (if_row (insn word))
   pub heap : (word : ℕ) → calls_heap core (row_of word) ≡ calls_heap core (if_row (insn word))
 
+-- a core whose instruction set is RV32IM is one
+abbrev pub LacksExtensions : Type 0
+LacksExtensions = (core : Core) → core.isa ≡ Rv32im → HasBaseWords core
+
+-- a core at which an atomic instruction is none
+pub record HasNoAtomics (core : Core) : Type 0 where
+  pub effects : (next : ℕ) (atomic : Atomic) (rd rs1 rs2 : ℕ) (taken : ℕ → ℕ)
+      → atomic_effect core next atomic rd rs1 rs2 taken ≡ stops core Illegal
+  pub uses : (atomic : Atomic) (rs1 : ℕ) → atomic_uses core atomic rs1 ≡ nothing
+
 -- a core whose instruction set has no atomic instructions is one
 abbrev pub LacksAtomics : Type 0
-LacksAtomics = (core : Core) → has_atomics core.isa ≡ false → HasBaseWords core
+LacksAtomics = (core : Core) → has_atomics core.isa ≡ false → HasNoAtomics core
 
 -- ---- marks as alterations
 

@@ -5,6 +5,7 @@ pub mod Errors
 pub mod StackPointer
 pub mod Effects
 pub mod Atomics
+pub mod Controls
 pub mod Sieve
 pub mod Calls
 pub mod HeapCalls

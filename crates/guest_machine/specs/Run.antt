@@ -1,6 +1,7 @@
 -- A run from step zero, with alterations between steps.
 use Rattle.std.specs.Prelude.{ℕ, false, zero, suc, ◌==◌, List, filter, fold, unwrap_or, is_some, if◌then◌else◌}
 use Rattle.std.specs.Prelude.{replicate, slice_set, [], None}
+use Rattle.control_registers.specs.Registers.{no_registers}
 use Rattle.guest_elf.specs.declared.image.Image.{Image}
 use Rattle.guest_heap.specs.Blocks.{no_blocks}
 use Rattle.guest_elf.specs.Images.{loaded_at, entry_of, profile_of}
@@ -32,8 +33,8 @@ image_shadows image a = if is_some (loaded_at image a) then shadow_of Defined el
 abbrev pub stack_start : ℕ
 stack_start = 0x7FFFFFF0
 
--- the start of a program: pc at its entry, x2 at the stack, the other registers 0, all registers defined, no address
--- reserved
+-- the start of a program: pc at its entry, x2 at the stack, the other registers 0, all registers defined, the control
+-- registers too, which are 0, and no address reserved
 unfoldable pub start_state : Image → State
 start_state image =
     record {
@@ -47,6 +48,8 @@ start_state image =
         blocks = no_blocks;
         isa = (profile_of image).isa;
         reserved = None;
+        controls = no_registers;
+        steps = 0;
       };
       position = 0;
       end_seen = false;

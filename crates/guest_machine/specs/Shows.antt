@@ -1,5 +1,7 @@
 -- The state that a machine shows.
-use Rattle.std.specs.Prelude.{◌≡◌, ℕ, Bool, length}
+use Rattle.std.specs.Prelude.{◌≡◌, ℕ, Bool, if◌then◌else◌, length}
+use Rattle.control_registers.specs.Written.{registers_in}
+use Rattle.guest_elf.specs.Profiles.{has_controls}
 use Rattle.shadow_memory.specs.Memories.{bytes_in, shadows_in}
 use Rattle.guest_heap.specs.Heaps.{blocks_of}
 use Rattle.guest_machine.specs.State.{Core, State}
@@ -8,7 +10,7 @@ use Rattle.error_events.specs.Shown.{groups_of}
 use Rattle.guest_machine.specs.declared.machine.Guest.{Guest}
 use Rattle.guest_machine.specs.declared.machine.Machine.{Machine}
 
--- what decides a step, besides the byte values
+-- what decides a step, besides the byte values. Steps count only where there are counters of them
 abbrev pub core_of : Guest → Core
 core_of g = record {
   shadow = shadows_in g.memory;
@@ -19,6 +21,8 @@ core_of g = record {
   blocks = blocks_of g.heap;
   isa = g.isa;
   reserved = g.reserved;
+  controls = registers_in g.controls;
+  steps = if has_controls g.isa then g.steps else 0;
 }
 
 -- the byte values

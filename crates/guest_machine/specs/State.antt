@@ -10,8 +10,9 @@ use Rattle.error_events.specs.declared.event.Event.{Event}
 
 -- what decides a step, besides the byte values: for each address whether it may be accessed and its undefined bits, the
 -- 32 registers with their undefined bits, pc, whether the machine runs, the calls that it is in, newest first,
--- the blocks of the heap, the instruction set, which no step changes, and the address that is reserved, if one is
--- (RISC-V Unprivileged ISA 20191213, section 8.2)
+-- the blocks of the heap, the instruction set, which no step changes, the address that is reserved, if one is (RISC-V
+-- Unprivileged ISA 20191213, section 8.2), the control registers by their numbers (chapter 9), and how many steps were
+-- made, which is counted where there are counters of them (chapter 10)
 pub record Core : Type 0 where
   pub shadow : ℕ → Shadow
   pub registers : List Bits
@@ -21,6 +22,8 @@ pub record Core : Type 0 where
   pub blocks : Blocks
   pub isa : Isa
   pub reserved : Option ℕ
+  pub controls : ℕ → Bits
+  pub steps : ℕ
 
 -- a state: besides the core, the byte at each address, the number of bytes of input read, whether some read asked for
 -- more than was left of it, the bytes that were written, the number of heap calls, and all errors so far

@@ -8,6 +8,7 @@ use Rattle.guest_machine.specs.Errors.{fetch_undef}
 use Rattle.guest_machine.specs.Exec.{Deed, Takes, Cut, CallsByName, Halts, deed_at, exec, intake_at, is_running}
 use Rattle.guest_machine.specs.Exec.{touched_of}
 use Rattle.guest_machine.specs.Run.{pre}
+use Rattle.guest_elf.specs.Profiles.{has_controls}
 use Rattle.instructions.specs.Codes.{len_of, row_of_code}
 use Rattle.instructions.specs.declared.code.Code.{Code}
 use Rattle.instructions.specs.declared.code.Code.TheVariants.{Word, Half}
@@ -140,9 +141,14 @@ KeepsFront =
     (one other : Setup) (more : List ℕ) (start : State) (n : ℕ) → HasMore one other more
     → (pre start one [] n).end_seen ≡ false → pre start one [] n ≡ pre start other [] n
 
--- a state rests: it doesn't run, or it is in a jump to itself
+-- a state rests: it doesn't run, or it is in a jump to itself and no steps are counted
+pub record IsIdleFor (s : State) (setup : Setup) : Type 0 where
+  pub within : s.core.pc < 2 ^ 32
+  pub idle : is_idle s setup ≡ true
+  pub uncounted : has_controls s.core.isa ≡ false
+
 abbrev pub Rests : State → Setup → Type 0
-Rests s setup = (is_running s.core.status ≡ false) ⊎ ((s.core.pc < 2 ^ 32) × (is_idle s setup ≡ true))
+Rests s setup = (is_running s.core.status ≡ false) ⊎ IsIdleFor s setup
 
 -- a state that rests stays as it is, and its step is no ECALL
 abbrev pub StaysAtRest : Type 0

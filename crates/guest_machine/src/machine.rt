@@ -9,6 +9,7 @@ mod calls;
 mod checks;
 mod comparing;
 mod control;
+mod controls;
 mod execute;
 mod fetching;
 mod heap_calls;
@@ -21,6 +22,7 @@ mod streams;
 
 use crate::cached_memory::CachedMemory;
 use call_stacks::CallStack;
+use control_registers::ControlRegisters;
 use definedness::Bits;
 use error_events::{Event, Groups};
 use guest_elf::Isa;
@@ -105,8 +107,9 @@ pub struct Machine {
     guest: Box<Guest>,
 }
 
-/// What a machine holds: memory, registers, pc, status, calls, heap, progress, its errors, its instruction set and the address that is
-/// reserved, if one is.
+/// What a machine holds: memory, registers, pc, status, calls, heap, progress, its errors, its instruction set, the address that is
+/// reserved, if one is, its control registers and the number of steps. Each step counts, in each instruction set, as that costs less than
+/// to ask; it shows only where there are counters.
 #[derive(Drop)]
 pub(crate) struct Guest {
     alloc: Global,
@@ -120,6 +123,8 @@ pub(crate) struct Guest {
     noted: Noted,
     isa: Isa,
     reserved: Option<u32>,
+    controls: ControlRegisters,
+    steps: u64,
     // x0 is 0, so that a read tests nothing.
     ghost zero: { slice_index_or registers 0 (known 0) ≡ known 0 },
 }

@@ -1,21 +1,23 @@
 -- The instructions in classes: each of the 48 names of the instruction table, with what distinguishes it from the
--- others of its class; and the atomic ones, in three classes.
+-- others of its class; and the 19 of the table of extensions.
 use Rattle.std.specs.Prelude.{ℕ, true, false, Option, Some, None}
-use Rattle.std.specs.Option.{option_map}
 use Rattle.rv_compressed.specs.Table.{expansion}
 use Rattle.rv_decode.specs.Table.{insn}
 use Rattle.rv_decode.specs.declared.Insn.{Insn}
 use Rattle.rv_decode.specs.declared.Op.{Op}
 use Rattle.rv_extensions.specs.Table.{extension}
 use Rattle.rv_extensions.specs.declared.Extension.{Extension}
-use Rattle.instructions.specs.Atomics.{atomic_of}
+use Rattle.rv_extensions.specs.declared.ExtensionOp.{ExtensionOp}
+use Rattle.rv_extensions.specs.declared.ExtensionOp.TheVariants as extensions
 use Rattle.instructions.specs.declared.instruction.Instruction.{Instruction}
 use Rattle.instructions.specs.declared.instruction.Instruction.TheVariants.{LoadUpper, AddUpper, Jump, JumpRegister}
 use Rattle.instructions.specs.declared.instruction.Instruction.TheVariants.{Branch, Load, Store, Immediate, Registers}
 use Rattle.instructions.specs.declared.instruction.Instruction.TheVariants.{Fence, CallEnvironment, Breakpoint}
 use Rattle.instructions.specs.declared.instruction.Instruction.TheVariants.{LoadReserved, StoreConditional, Update}
-use Rattle.instructions.specs.declared.atomic.Atomic.{Atomic}
-use Rattle.instructions.specs.declared.atomic.Atomic.TheVariants as atomics
+use Rattle.instructions.specs.declared.instruction.Instruction.TheVariants.{Control, Barrier}
+use Rattle.instructions.specs.declared.atomic.Update.TheVariants as updates
+use Rattle.instructions.specs.declared.control.ControlAccess.TheVariants.{Write, Set, Clear}
+use Rattle.instructions.specs.declared.control.ControlOperand.TheVariants as operands
 use Rattle.instructions.specs.declared.instruction.Comparison.TheVariants as Comparison
 use Rattle.instructions.specs.declared.instruction.Operation.TheVariants as Operation
 use Rattle.instructions.specs.declared.width.Width.TheVariants.{Byte, Half, Word}
@@ -78,16 +80,34 @@ abbrev pub if_row : Option Insn → Option Instruction
 if_row None = None
 if_row (Some i) = Some (instruction_of i)
 
--- an atomic instruction with its operands
-abbrev pub atomic_row : Atomic → ℕ → ℕ → ℕ → Instruction
-atomic_row atomics.LoadReserved rd rs1 rs2 = LoadReserved rd rs1
-atomic_row atomics.StoreConditional rd rs1 rs2 = StoreConditional rd rs1 rs2
-atomic_row (atomics.Update update) rd rs1 rs2 = Update update rd rs1 rs2
+-- the same of the table of extensions
+abbrev pub extension_by : ExtensionOp → ℕ → ℕ → ℕ → ℕ → ℕ → Instruction
+extension_by extensions.LrW csr rd rs1 rs2 uimm = LoadReserved rd rs1
+extension_by extensions.ScW csr rd rs1 rs2 uimm = StoreConditional rd rs1 rs2
+extension_by extensions.AmoswapW csr rd rs1 rs2 uimm = Update updates.Swap rd rs1 rs2
+extension_by extensions.AmoaddW csr rd rs1 rs2 uimm = Update updates.Add rd rs1 rs2
+extension_by extensions.AmoxorW csr rd rs1 rs2 uimm = Update updates.Xor rd rs1 rs2
+extension_by extensions.AmoandW csr rd rs1 rs2 uimm = Update updates.And rd rs1 rs2
+extension_by extensions.AmoorW csr rd rs1 rs2 uimm = Update updates.Or rd rs1 rs2
+extension_by extensions.AmominW csr rd rs1 rs2 uimm = Update updates.Min rd rs1 rs2
+extension_by extensions.AmomaxW csr rd rs1 rs2 uimm = Update updates.Max rd rs1 rs2
+extension_by extensions.AmominuW csr rd rs1 rs2 uimm = Update updates.MinUnsigned rd rs1 rs2
+extension_by extensions.AmomaxuW csr rd rs1 rs2 uimm = Update updates.MaxUnsigned rd rs1 rs2
+extension_by extensions.Csrrw csr rd rs1 rs2 uimm = Control Write rd csr (operands.Register rs1)
+extension_by extensions.Csrrs csr rd rs1 rs2 uimm = Control Set rd csr (operands.Register rs1)
+extension_by extensions.Csrrc csr rd rs1 rs2 uimm = Control Clear rd csr (operands.Register rs1)
+extension_by extensions.Csrrwi csr rd rs1 rs2 uimm = Control Write rd csr (operands.Immediate uimm)
+extension_by extensions.Csrrsi csr rd rs1 rs2 uimm = Control Set rd csr (operands.Immediate uimm)
+extension_by extensions.Csrrci csr rd rs1 rs2 uimm = Control Clear rd csr (operands.Immediate uimm)
+extension_by extensions.FenceI csr rd rs1 rs2 uimm = Barrier
+extension_by extensions.Wfi csr rd rs1 rs2 uimm = Barrier
 
--- the instruction of a row of the table of extensions, if it is an atomic one
-abbrev pub if_atomic : Option Extension → Option Instruction
-if_atomic None = None
-if_atomic (Some e) = option_map (λ atomic. atomic_row atomic e.rd e.rs1 e.rs2) (atomic_of e.op)
+unfoldable pub extension_of : Extension → Instruction
+extension_of e = extension_by e.op e.csr e.rd e.rs1 e.rs2 e.uimm
+
+abbrev pub if_extension : Option Extension → Option Instruction
+if_extension None = None
+if_extension (Some e) = Some (extension_of e)
 
 -- the instruction of the first table, or else of the second; no word is in both (rv_extensions, ApartFromBase)
 abbrev pub row_or : Option Instruction → Option Instruction → Option Instruction
@@ -96,7 +116,7 @@ row_or None other = other
 
 -- the instruction of a word, if it is one
 unfoldable pub row_of : ℕ → Option Instruction
-row_of word = row_or (if_row (insn word)) (if_atomic (extension word))
+row_of word = row_or (if_row (insn word)) (if_extension (extension word))
 
 -- the instruction of a half, if it is one: that of the row that it stands for
 unfoldable pub row_of_half : ℕ → Option Instruction

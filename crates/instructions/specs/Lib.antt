@@ -4,3 +4,4 @@ pub mod Instructions
 pub mod CallStack
 pub mod Alu
 pub mod Atomics
+pub mod Controls

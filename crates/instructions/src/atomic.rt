@@ -1,11 +1,10 @@
 //! Atomic instructions, and what an atomic memory operation stores.
 ghost use Rattle.std.specs.Prelude.{◌≡◌};
-ghost use Rattle.instructions.specs.Atomics.{atomic_of, chosen, updated};
+ghost use Rattle.instructions.specs.Atomics.{chosen, updated};
 
 use crate::alu::{computed, less_signed};
 use crate::instruction::Operation;
 use definedness::{Bits, undef_wide};
-use rv_extensions::ExtensionOp;
 
 /// What an atomic memory operation stores, of the word in memory and that in rs2 (RISC-V Unprivileged ISA 20191213, section 8.4).
 #[derive(Clone, Copy)]
@@ -30,34 +29,6 @@ pub enum Atomic {
     StoreConditional,
     /// An AMO loads it, and stores another one.
     Update(Update),
-}
-
-/// Returns the atomic instruction of an operation, if it is one.
-#[tactic(auto, unfolding(crate::specs::Atomics::atomic_of))]
-pub(crate) fn atomic_of(op: ExtensionOp) -> Option<Atomic>
-    ensures { result ≡ atomic_of op }
-{
-    match op {
-        ExtensionOp::LrW => Some(Atomic::LoadReserved),
-        ExtensionOp::ScW => Some(Atomic::StoreConditional),
-        ExtensionOp::AmoswapW => Some(Atomic::Update(Update::Swap)),
-        ExtensionOp::AmoaddW => Some(Atomic::Update(Update::Add)),
-        ExtensionOp::AmoxorW => Some(Atomic::Update(Update::Xor)),
-        ExtensionOp::AmoandW => Some(Atomic::Update(Update::And)),
-        ExtensionOp::AmoorW => Some(Atomic::Update(Update::Or)),
-        ExtensionOp::AmominW => Some(Atomic::Update(Update::Min)),
-        ExtensionOp::AmomaxW => Some(Atomic::Update(Update::Max)),
-        ExtensionOp::AmominuW => Some(Atomic::Update(Update::MinUnsigned)),
-        ExtensionOp::AmomaxuW => Some(Atomic::Update(Update::MaxUnsigned)),
-        ExtensionOp::Csrrw
-        | ExtensionOp::Csrrs
-        | ExtensionOp::Csrrc
-        | ExtensionOp::Csrrwi
-        | ExtensionOp::Csrrsi
-        | ExtensionOp::Csrrci
-        | ExtensionOp::FenceI
-        | ExtensionOp::Wfi => None,
-    }
 }
 
 /// Returns the first of two words, or the second, with no bit defined if any bit of either is undefined.

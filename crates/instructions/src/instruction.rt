@@ -1,13 +1,15 @@
 //! The instructions in classes, and the class of each row of the instruction table.
 ghost use Rattle.std.specs.Prelude.{◌≡◌, ◌<◌};
-ghost use Rattle.instructions.specs.Instructions.{atomic_row, if_atomic, instruction_of, row_of, row_of_half};
+ghost use Rattle.instructions.specs.Instructions.{extension_of, if_extension, instruction_of, row_of, row_of_half};
 ghost use Rattle.rv_extensions.specs.Table.{extension};
 
-use crate::atomic::{Atomic, Update, atomic_of};
+use crate::atomic::Update;
+use crate::control::{ControlAccess, ControlOperand};
 use crate::register::Register;
 use crate::width::Width;
 use rv_compressed::expand;
 use rv_decode::{Insn, Op, decode};
+use rv_extensions::{Extension, ExtensionOp};
 
 /// What a branch compares (RISC-V Unprivileged ISA 20191213, section 2.5).
 #[derive(Clone, Copy)]
@@ -112,6 +114,15 @@ pub enum Instruction {
         rs1: Register,
         rs2: Register,
     },
+    /// One of a control register, by its number.
+    Control {
+        access: ControlAccess,
+        rd: Register,
+        number: u16,
+        operand: ControlOperand,
+    },
+    /// FENCE.I or WFI: one hart without interrupts goes on.
+    Barrier,
 }
 
 /// The operands of a row of the table, from which instructions are made.
@@ -259,32 +270,108 @@ fn instruction_of(insn: Insn) -> Instruction
     }
 }
 
-/// Returns an atomic instruction with its operands.
-fn atomic_row(atomic: Atomic, rd: Register, rs1: Register, rs2: Register) -> Instruction
-    ensures { result ≡ atomic_row atomic rd rs1 rs2 }
-{
-    match atomic {
-        Atomic::LoadReserved => Instruction::LoadReserved { rd, rs1 },
-        Atomic::StoreConditional => Instruction::StoreConditional { rd, rs1, rs2 },
-        Atomic::Update(update) => Instruction::Update {
+/// The operands of a row of the table of extensions, from which instructions are made.
+#[derive(Clone, Copy)]
+struct Fields {
+    rd: Register,
+    rs1: Register,
+    rs2: Register,
+    number: u16,
+    imm: u8,
+}
+
+impl Fields {
+    ghost use Rattle.std.specs.Prelude.{◌≡◌};
+
+    #[inline(always)]
+    fn update(self, update: Update) -> Instruction
+        ensures { result ≡ Instruction.Update update self.rd self.rs1 self.rs2 }
+    {
+        let Fields { rd, rs1, rs2, .. } = self;
+        Instruction::Update {
             update,
             rd,
             rs1,
             rs2,
-        },
+        }
+    }
+
+    #[inline(always)]
+    fn control(self, access: ControlAccess) -> Instruction
+        ensures { result ≡ Instruction.Control access self.rd self.number (ControlOperand.Register self.rs1) }
+    {
+        let Fields {
+            rd, rs1, number, ..
+        } = self;
+        Instruction::Control {
+            access,
+            rd,
+            number,
+            operand: ControlOperand::Register(rs1),
+        }
+    }
+
+    #[inline(always)]
+    fn immediate(self, access: ControlAccess) -> Instruction
+        ensures { result ≡ Instruction.Control access self.rd self.number (ControlOperand.Immediate self.imm) }
+    {
+        let Fields {
+            rd, number, imm, ..
+        } = self;
+        Instruction::Control {
+            access,
+            rd,
+            number,
+            operand: ControlOperand::Immediate(imm),
+        }
     }
 }
 
-/// Returns the atomic instruction of a word, if it is one.
-fn atomic_row_of(word: u32) -> Option<Instruction>
-    ensures { result ≡ if_atomic (extension word) }
+/// Returns the instruction of a row of the table of extensions.
+#[tactic(auto, unfolding(crate::specs::Instructions::extension_of))]
+fn extension_of(found: Extension) -> Instruction
+    requires rd { found.rd < 32 }
+    requires rs1 { found.rs1 < 32 }
+    requires rs2 { found.rs2 < 32 }
+    ensures { result ≡ extension_of found }
 {
-    let found = rv_extensions::decode(word)?;
-    let atomic = atomic_of(found.op)?;
     let rd = Register::new(found.rd);
     let rs1 = Register::new(found.rs1);
     let rs2 = Register::new(found.rs2);
-    Some(atomic_row(atomic, rd, rs1, rs2))
+    let fields = Fields {
+        rd,
+        rs1,
+        rs2,
+        number: found.csr,
+        imm: found.uimm,
+    };
+    match found.op {
+        ExtensionOp::LrW => Instruction::LoadReserved { rd, rs1 },
+        ExtensionOp::ScW => Instruction::StoreConditional { rd, rs1, rs2 },
+        ExtensionOp::AmoswapW => fields.update(Update::Swap),
+        ExtensionOp::AmoaddW => fields.update(Update::Add),
+        ExtensionOp::AmoxorW => fields.update(Update::Xor),
+        ExtensionOp::AmoandW => fields.update(Update::And),
+        ExtensionOp::AmoorW => fields.update(Update::Or),
+        ExtensionOp::AmominW => fields.update(Update::Min),
+        ExtensionOp::AmomaxW => fields.update(Update::Max),
+        ExtensionOp::AmominuW => fields.update(Update::MinUnsigned),
+        ExtensionOp::AmomaxuW => fields.update(Update::MaxUnsigned),
+        ExtensionOp::Csrrw => fields.control(ControlAccess::Write),
+        ExtensionOp::Csrrs => fields.control(ControlAccess::Set),
+        ExtensionOp::Csrrc => fields.control(ControlAccess::Clear),
+        ExtensionOp::Csrrwi => fields.immediate(ControlAccess::Write),
+        ExtensionOp::Csrrsi => fields.immediate(ControlAccess::Set),
+        ExtensionOp::Csrrci => fields.immediate(ControlAccess::Clear),
+        ExtensionOp::FenceI | ExtensionOp::Wfi => Instruction::Barrier,
+    }
+}
+
+/// Returns the instruction of a word in the table of extensions, if it is one.
+fn extension_row_of(word: u32) -> Option<Instruction>
+    ensures { result ≡ if_extension (extension word) }
+{
+    Some(extension_of(rv_extensions::decode(word)?))
 }
 
 /// Returns the instruction of a word, if it is one.
@@ -294,7 +381,7 @@ pub fn row_of(word: u32) -> Option<Instruction>
 {
     match decode(word) {
         Some(insn) => Some(instruction_of(insn)),
-        None => atomic_row_of(word),
+        None => extension_row_of(word),
     }
 }
 

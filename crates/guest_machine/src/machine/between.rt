@@ -12,6 +12,7 @@ use crate::cached_memory::CachedMemory;
 use crate::machine::registers::known;
 use crate::machine::{Guest, Machine, Noted, Progress};
 use call_stacks::CallStack;
+use control_registers::ControlRegisters;
 use error_events::Groups;
 use guest_elf::{Image, Segment};
 use guest_heap::Heap;
@@ -55,6 +56,8 @@ impl Guest {
             },
             isa: image.profile().isa,
             reserved: None,
+            controls: ControlRegisters::new(alloc),
+            steps: 0,
         })
     }
 
@@ -132,6 +135,8 @@ impl Guest {
             },
             isa: self.isa,
             reserved: self.reserved,
+            controls: self.controls.share()?,
+            steps: self.steps,
         })
     }
 }

@@ -1,6 +1,7 @@
 //! Machines that show the same.
 ghost use Rattle.std.specs.Prelude.{◌≡◌, IsTrue};
-ghost use Rattle.guest_machine.specs.Shows.{Holds, Shows};
+ghost use Rattle.control_registers.specs.Written.{registers_in};
+ghost use Rattle.guest_machine.specs.Shows.{core_of, Holds, Shows};
 ghost use Rattle.guest_machine.specs.State.{State};
 
 use crate::machine::{Guest, Machine, Progress};
@@ -26,12 +27,22 @@ impl Progress {
 }
 
 impl Guest {
+    /// Returns whether another guest shows the same number of steps.
+    fn shows_steps_of(&self, other: &Guest) -> bool
+        requires { self.now.isa ≡ other.now.isa }
+        ensures { IsTrue result → (core_of self.now).steps ≡ (core_of other.now).steps }
+    {
+        !self.isa.has_controls() || self.steps == other.steps
+    }
+
     /// Returns whether another guest has the same registers, pc, status, instruction set and reservation, and is as far.
     fn has_core_of(&self, other: &Guest) -> bool
         ensures pc { IsTrue result → self.now.pc ≡ other.now.pc }
         ensures status { IsTrue result → self.now.status ≡ other.now.status }
         ensures isa { IsTrue result → self.now.isa ≡ other.now.isa }
         ensures reserved { IsTrue result → self.now.reserved ≡ other.now.reserved }
+        ensures controls { IsTrue result → registers_in self.now.controls ≡ registers_in other.now.controls }
+        ensures steps { IsTrue result → (core_of self.now).steps ≡ (core_of other.now).steps }
         ensures registers { IsTrue result → self.now.registers ≡ other.now.registers }
         ensures progress { IsTrue result → self.now.progress ≡ other.now.progress }
     {
@@ -39,8 +50,10 @@ impl Guest {
             && self.status == other.status
             && self.isa == other.isa
             && self.reserved == other.reserved
+            && self.shows_steps_of(other)
             && self.progress.is_same(&other.progress)
             && are_same(&self.registers, &other.registers)
+            && self.controls.is_same(&other.controls)
     }
 
     /// Returns whether another guest holds the same. What costs least is compared first.

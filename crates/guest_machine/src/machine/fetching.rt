@@ -1,10 +1,10 @@
 //! The code at pc: what can be fetched, and which instruction it is.
 ghost use Rattle.std.specs.Prelude.{◌≡◌, Option, Some, None, IfSome, OnOk, false, true};
 ghost use Rattle.guest_machine.specs.Errors.{fetch_undef};
-ghost use Rattle.guest_machine.specs.Exec.{code_in, cut, fetched, is_running, jump_fault, no_intake, nothing, unfetched, Takes};
+ghost use Rattle.guest_machine.specs.Exec.{code_in, cut, fetched, is_ready, is_running, jump_fault, no_intake, nothing, unfetched, Takes};
 ghost use Rattle.guest_machine.specs.Shows.{core_of, bytes_of, Shows};
 ghost use Rattle.guest_machine.specs.State.{State};
-ghost use Rattle.guest_machine.specs.Doing.{is_ready, Does, IsDecoded, IsFetch};
+ghost use Rattle.guest_machine.specs.Doing.{Does, IsDecoded, IsFetch};
 ghost use Rattle.instructions.specs.Codes.{len_of, row_of_code};
 
 use crate::machine::{Guest, Machine};

@@ -5,11 +5,11 @@ ghost use Rattle.guest_machine.specs.Effects.{next_of};
 ghost use Rattle.guest_machine.specs.Errors.{fetch_undef};
 ghost use Rattle.instructions.specs.Codes.{len_of, row_of_code};
 ghost use Rattle.guest_machine.specs.Atomics.{atomic_effect, atomic_reads};
-ghost use Rattle.guest_machine.specs.Exec.{atomic_uses, no_intake, nothing, reading, writing, called_here, exec, taken_from, touched_of};
+ghost use Rattle.guest_machine.specs.Exec.{atomic_uses, no_intake, nothing, reading, writing, called_here, exec, is_ready, steps_on, taken_from, touched_of};
 ghost use Rattle.guest_machine.specs.Run.{pre};
 ghost use Rattle.guest_machine.specs.Shows.{core_of, bytes_of, Holds, Shows, has_raised};
 ghost use Rattle.guest_machine.specs.Spans.{span_at, IsCodeSpan};
-ghost use Rattle.guest_machine.specs.Doing.{is_ready, touched_in, used_of, uses_by, touched_by, Does, DoesRow, DoesRound, DoesStep, IsFetch};
+ghost use Rattle.guest_machine.specs.Doing.{touched_in, used_of, uses_by, touched_by, Does, DoesDeed, DoesRow, DoesRound, DoesStep, IsFetch, Sets};
 
 use crate::hooks::Hooks;
 use crate::machine::fetching::Fetch;
@@ -230,6 +230,19 @@ impl Guest {
                 let next = self.pc.wrapping_add(len);
                 self.access_atomically(next, Atomic::Update(update), rd, rs1, rs2)
             }
+            Instruction::Control {
+                access,
+                rd,
+                number,
+                operand,
+            } => {
+                self.access_control(self.pc.wrapping_add(len), access, rd, number, operand)?;
+                Ok(NOTHING)
+            }
+            Instruction::Barrier => {
+                self.pass_barrier(self.pc.wrapping_add(len));
+                Ok(NOTHING)
+            }
         }
     }
 
@@ -316,10 +329,10 @@ impl Guest {
 
     /// The step if no function of the heap begins at pc, and the code there is still to be decoded, or can't be fetched.
     #[inline(never)]
-    #[tactic(auto, unfolding(instructions::specs::Codes::code_of, crate::specs::Exec::uses_at, crate::specs::Exec::intake_at, crate::specs::Exec::effect_at, crate::specs::Exec::touched_at))]
+    #[tactic(auto, unfolding(instructions::specs::Codes::code_of, crate::specs::Exec::uses_at, crate::specs::Exec::intake_at, crate::specs::Exec::outcome_at, crate::specs::Exec::touched_at))]
     fn perform_fetched(&mut self, setup: &Setup) -> Result<Touched, AllocError>
         requires { called_here (core_of self.old) setup.now.hooks ≡ None }
-        ensures does { OnOk result (DoesStep self.old self.new setup.now) }
+        ensures does { OnOk result (DoesDeed self.old self.new setup.now) }
         ensures touched { IfOk result (λ touched. touched ≡ touched_by self.old setup.now) }
         ensures code { IfOk result (λ touched. IfSome touched.fetch IsCodeSpan) }
     {
@@ -342,10 +355,10 @@ impl Guest {
 
     /// The step if no function of the heap begins at pc, and no word there was decoded recently.
     #[inline(never)]
-    #[tactic(auto, unfolding(instructions::specs::Codes::code_of, crate::specs::Exec::uses_at, crate::specs::Exec::intake_at, crate::specs::Exec::effect_at, crate::specs::Exec::touched_at))]
+    #[tactic(auto, unfolding(instructions::specs::Codes::code_of, crate::specs::Exec::uses_at, crate::specs::Exec::intake_at, crate::specs::Exec::outcome_at, crate::specs::Exec::touched_at))]
     fn perform_anew(&mut self, setup: &Setup) -> Result<Touched, AllocError>
         requires { called_here (core_of self.old) setup.now.hooks ≡ None }
-        ensures does { OnOk result (DoesStep self.old self.new setup.now) }
+        ensures does { OnOk result (DoesDeed self.old self.new setup.now) }
         ensures touched { IfOk result (λ touched. touched ≡ touched_by self.old setup.now) }
         ensures code { IfOk result (λ touched. IfSome touched.fetch IsCodeSpan) }
     {
@@ -363,7 +376,7 @@ impl Guest {
     #[inline(always)]
     fn begin_anew(&mut self, setup: &Setup) -> Result<Touched, AllocError>
         requires { called_here (core_of self.old) setup.now.hooks ≡ None }
-        ensures does { OnOk result (DoesStep self.old self.new setup.now) }
+        ensures does { OnOk result (DoesDeed self.old self.new setup.now) }
         ensures touched { IfOk result (λ touched. touched ≡ touched_by self.old setup.now) }
         ensures code { IfOk result (λ touched. IfSome touched.fetch IsCodeSpan) }
     {
@@ -373,10 +386,10 @@ impl Guest {
 
     /// Calls the function of the heap that begins at pc.
     #[inline(always)]
-    #[tactic(auto, unfolding(instructions::specs::Codes::code_of, crate::specs::Exec::uses_at, crate::specs::Exec::intake_at, crate::specs::Exec::effect_at, crate::specs::Exec::touched_at))]
+    #[tactic(auto, unfolding(instructions::specs::Codes::code_of, crate::specs::Exec::uses_at, crate::specs::Exec::intake_at, crate::specs::Exec::outcome_at, crate::specs::Exec::touched_at))]
     fn perform_by_name(&mut self, function: Hook, setup: &Setup) -> Result<Touched, AllocError>
         requires { called_here (core_of self.old) setup.now.hooks ≡ Some function }
-        ensures does { OnOk result (DoesStep self.old self.new setup.now) }
+        ensures does { OnOk result (DoesDeed self.old self.new setup.now) }
         ensures touched { IfOk result (λ touched. touched ≡ touched_by self.old setup.now) }
         ensures code { IfOk result (λ touched. IfSome touched.fetch IsCodeSpan) }
     {
@@ -384,9 +397,9 @@ impl Guest {
         Ok(used.touched(None))
     }
 
-    /// The step if no instruction may begin at pc, or the machine doesn't run.
+    /// The step if no instruction may begin at pc, or the machine doesn't run: none that counts.
     #[inline(always)]
-    #[tactic(auto, unfolding(crate::specs::Exec::called_here))]
+    #[tactic(auto, unfolding(crate::specs::Exec::called_here, crate::specs::Exec::effect_at))]
     fn perform_unready(&mut self, setup: &Setup) -> Result<Touched, AllocError>
         requires { is_ready (core_of self.old) ≡ false }
         ensures does { OnOk result (DoesStep self.old self.new setup.now) }
@@ -396,18 +409,15 @@ impl Guest {
         self.begin_anew(setup)
     }
 
-    /// Calls the function of the heap that begins at pc, executes the code there, or halts. Returns which bytes that read or wrote. Asks only
-    /// once whether an instruction may begin at pc.
+    /// Calls the function of the heap that begins at pc, or executes or fetches the code there. Returns which bytes that read or wrote.
     #[inline(always)]
-    #[tactic(auto, unfolding(instructions::specs::Codes::code_of, crate::specs::Exec::uses_at, crate::specs::Exec::intake_at, crate::specs::Exec::effect_at, crate::specs::Exec::touched_at))]
-    fn perform(&mut self, setup: &Setup) -> Result<Touched, AllocError>
-        ensures does { OnOk result (DoesStep self.old self.new setup.now) }
+    #[tactic(auto, unfolding(instructions::specs::Codes::code_of, crate::specs::Exec::uses_at, crate::specs::Exec::intake_at, crate::specs::Exec::outcome_at, crate::specs::Exec::touched_at))]
+    fn perform_ready(&mut self, setup: &Setup) -> Result<Touched, AllocError>
+        requires { is_ready (core_of self.old) ≡ true }
+        ensures does { OnOk result (DoesDeed self.old self.new setup.now) }
         ensures touched { IfOk result (λ touched. touched ≡ touched_by self.old setup.now) }
         ensures code { IfOk result (λ touched. IfSome touched.fetch IsCodeSpan) }
     {
-        if !self.is_ready() {
-            return self.perform_unready(setup);
-        }
         if let Some(function) = self.named_here(&setup.hooks) {
             return self.perform_by_name(function, setup);
         }
@@ -419,6 +429,30 @@ impl Guest {
                 Ok(used.touched_at(pc, 4))
             }
         }
+    }
+
+    /// Counts a step.
+    #[inline(always)]
+    fn count_step(&mut self)
+        ensures { Sets self.old self.new (record (core_of self.old) { steps = steps_on (core_of self.old) }) }
+    {
+        self.steps = self.steps.wrapping_add(1);
+    }
+
+    /// Makes a step, or halts. Returns which bytes that read or wrote. Asks only once whether an instruction may begin at pc.
+    #[inline(always)]
+    #[tactic(auto, unfolding(crate::specs::Exec::effect_at))]
+    fn perform(&mut self, setup: &Setup) -> Result<Touched, AllocError>
+        ensures does { OnOk result (DoesStep self.old self.new setup.now) }
+        ensures touched { IfOk result (λ touched. touched ≡ touched_by self.old setup.now) }
+        ensures code { IfOk result (λ touched. IfSome touched.fetch IsCodeSpan) }
+    {
+        if !self.is_ready() {
+            return self.perform_unready(setup);
+        }
+        let touched = self.perform_ready(setup)?;
+        self.count_step();
+        Ok(touched)
     }
 
     /// Forgets that the step before raised an error.

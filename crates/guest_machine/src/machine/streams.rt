@@ -200,14 +200,14 @@ impl Machine {
         self.guest.is_idle(&setup.hooks)
     }
 
-    /// Whether the machine has halted or is in a jump to itself: a step leaves it as it is then
+    /// Whether the machine has halted, or is in a jump to itself and counts no steps: a step leaves it as it is then
     /// ([`laws::stays_at_rest`](crate::laws::stays_at_rest)).
     #[tactic(auto, unfolding(crate::specs::Shows::Shows))]
     pub fn rests(&self, setup: &Setup) -> bool
         ensures { IsTrue result → (s : State) → Shows self.now s → Rests s setup.now }
     {
         let _pc = self.pc();
-        !self.guest.runs() || self.is_idle(setup)
+        !self.guest.runs() || (!self.guest.isa.has_controls() && self.is_idle(setup))
     }
 
     /// Makes steps up to the first that may be an ECALL, `steps` at most, and returns how many. A halted machine makes none. A machine for

@@ -1,6 +1,6 @@
 use Rattle.guest_machine.specs.Shows.{bytes_of, core_of}
 use Rattle.guest_machine.proofs.Fetching.{at_code}
-use Rattle.guest_machine.proofs.machine.Guest.perform.Goals as goal
+use Rattle.guest_machine.proofs.machine.Guest.perform_ready.Goals as goal
 
 pub touched_at-requires-clause-even : goal.touched_at-requires-clause-even
 touched_at-requires-clause-even c =
