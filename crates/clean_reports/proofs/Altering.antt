@@ -19,7 +19,7 @@ use Rattle.guest_machine.specs.State.{Core, State}
 use Rattle.clean_reports.specs.Agreement.{AreBytes, BytesAgree, MemoriesAgree, ValuesAgree, StatesAgree}
 use Rattle.clean_reports.proofs.Bits.{byte-bit}
 use Rattle.clean_reports.proofs.Memory.{byte-lt, window-bytes, written-bytes}
-use Rattle.clean_reports.proofs.Registers.{set-in-agrees, register-agrees}
+use Rattle.clean_reports.proofs.Registers.{HeldAgree, held-of, set-in-agrees, register-agrees}
 
 -- two states with other bytes and cores
 abbrev pub with : State → (ℕ → ℕ) → Core → State
@@ -54,6 +54,8 @@ moved-both s t to there same d = record {
   blocks = d.blocks;
   isa = d.isa;
   reserved = d.reserved;
+  controls = d.controls;
+  steps = d.steps;
   position = d.position;
   end_seen = d.end_seen;
   output = d.output;
@@ -63,12 +65,15 @@ moved-both s t to there same d = record {
 
 -- registers --
 
+pub helds-agree : (s t : State) → StatesAgree s t → HeldAgree (held-of s.core) (held-of t.core)
+helds-agree s t d = record { registers = d.registers; controls = d.controls }
+
 pub set-both : (s t : State) (r : ℕ) (x y : Bits) → ValuesAgree x y → StatesAgree s t
     → StatesAgree (with s s.bytes (set_register s.core r x)) (with t t.bytes (set_register t.core r y))
 unfolding set_register
 set-both s t r x y v d = record {
   memory = d.memory;
-  registers = set-in-agrees s.core.registers t.core.registers d.registers r x y v;
+  registers = (set-in-agrees (held-of s.core) (held-of t.core) (helds-agree s t d) r x y v).registers;
   shadow = d.shadow;
   pc = d.pc;
   status = d.status;
@@ -76,6 +81,8 @@ set-both s t r x y v d = record {
   blocks = d.blocks;
   isa = d.isa;
   reserved = d.reserved;
+  controls = d.controls;
+  steps = d.steps;
   position = d.position;
   end_seen = d.end_seen;
   output = d.output;
@@ -109,7 +116,7 @@ pub flip-both : (s t : State) (r mask : ℕ) → mask < 2 ^ 32 → StatesAgree s
 unfolding register
 flip-both s t r mask small d =
     set-both s t r _ _
-    (turned-agrees _ _ mask small (register-agrees s.core t.core.registers d.registers r)) d
+    (turned-agrees _ _ mask small (register-agrees s.core (held-of t.core) (helds-agree s t d) r)) d
 
 -- memory --
 
@@ -174,6 +181,8 @@ turn-both s t addr mask low d = record {
   blocks = d.blocks;
   isa = d.isa;
   reserved = d.reserved;
+  controls = d.controls;
+  steps = d.steps;
   position = d.position;
   end_seen = d.end_seen;
   output = d.output;

@@ -36,7 +36,7 @@ use Rattle.clean_reports.proofs.Bits.{window-lt, bytes-of}
 use Rattle.clean_reports.proofs.Values.{known-agrees, computed-agree}
 use Rattle.clean_reports.proofs.Memory.{accessible-from, numbers-agree, stored-agrees, byte-lt, window-bytes}
 use Rattle.clean_reports.proofs.Memory.{window-past}
-use Rattle.clean_reports.proofs.Registers.{swap, set-in, set-in-agrees, register-agrees, IsKnown, other-known}
+use Rattle.clean_reports.proofs.Registers.{Held, HeldAgree, held-of, swap, set-in, set-in-agrees, register-agrees, IsKnown, other-known}
 use Rattle.clean_reports.proofs.Registers.{left-none, right-none, known-by, no-errors, tested-same}
 use Rattle.clean_reports.proofs.Effects.{EffectsAgree, NoneBad, none-about, halts, loads, moves, same-target, stores}
 
@@ -98,7 +98,7 @@ module _ {f g : ℕ → ℕ} {u v : Option Span} {e h : Effect} (x : EffectsAgre
   leaves-number rd n small = record {
     registers = set-in x.registers rd (known n);
     core = ap (λ k. set_register k rd (known n)) x.core;
-    agree = set-in-agrees e.core.registers x.registers x.agree rd (known n) (known n) (known-agrees n small);
+    agree = set-in-agrees (held-of e.core) x.registers x.agree rd (known n) (known n) (known-agrees n small);
     raised = x.raised;
     output = x.output;
     memory = x.memory;
@@ -118,7 +118,7 @@ update-by now next es start update rd rs2 taken =
       output = [];
     }
 
-module _ (c : Core) (qs : List Bits) (a : RegistersAgree c.registers qs) (f g : ℕ → ℕ)
+module _ (c : Core) (qs : Held) (a : HeldAgree (held-of c) qs) (f g : ℕ → ℕ)
     (m : MemoriesAgree c.shadow f g) (next : ℕ) (fits : next < 2 ^ 32) where
   held-agree : (start : ℕ) → NoneBad c start 4
       → ValuesAgree (held_word c start (window f start 4)) (held_word (swap c qs) start (window g start 4))
@@ -145,7 +145,7 @@ module _ (c : Core) (qs : List Bits) (a : RegistersAgree c.registers qs) (f g : 
       record {
         registers = set-in qs rd held';
         core = λ i. moved_to (set_register (stored_core (swap c qs) start 4 (sym news.undef i)) rd held') next;
-        agree = set-in-agrees c.registers qs a rd held held' holds;
+        agree = set-in-agrees (held-of c) qs a rd held held' holds;
         raised = refl;
         output = refl;
         memory = stored-agrees c.shadow f g m start 4 new.undef (byte_of new.value) (byte_of new'.value)

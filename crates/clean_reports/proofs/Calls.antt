@@ -29,7 +29,7 @@ use Rattle.clean_reports.specs.Agreement.{AreBytes, RegistersAgree, MemoriesAgre
 use Rattle.clean_reports.specs.Uses.{NoUse, is_use}
 use Rattle.clean_reports.proofs.Values.{known-agrees}
 use Rattle.clean_reports.proofs.Memory.{good-from, good-byte, stored-agrees}
-use Rattle.clean_reports.proofs.Registers.{swap, set-in, set-in-agrees, IsKnown, AreKnown, same-argument, other-known}
+use Rattle.clean_reports.proofs.Registers.{Held, HeldAgree, held-of, swap, set-in, set-in-agrees, IsKnown, AreKnown, same-argument, other-known}
 use Rattle.clean_reports.proofs.Registers.{others-known}
 use Rattle.clean_reports.proofs.Registers.{left-none, right-none, known-by, no-errors, tested-same, all-known}
 use Rattle.clean_reports.proofs.Registers.{all-tested}
@@ -71,7 +71,7 @@ call-raises c ps known =
     ∙ ap (λ now. errors_from now 10 ps) (tested-same c 17 known.0)
     ∙ none-raised c 10 ps known.1
 
-pub call-others : (c : Core) (qs : List Bits) → RegistersAgree c.registers qs → (ps : List Parameter)
+pub call-others : (c : Core) (qs : Held) → HeldAgree (held-of c) qs → (ps : List Parameter)
     → HasKnown c ps → HasKnown (swap c qs) ps
 call-others c qs a ps known = (other-known c qs a 17 known.0, others-known c qs a 10 ps known.1)
 
@@ -181,7 +181,7 @@ none-bad c start n none = go (first_bad c.shadow start n true) none
 small-failure : (n : ℕ) → 0 < n → failure n < 2 ^ 32
 small-failure n h = omega arith
 
-module _ (c : Core) (qs : List Bits) (a : RegistersAgree c.registers qs) (f g : ℕ → ℕ)
+module _ (c : Core) (qs : Held) (a : HeldAgree (held-of c) qs) (f g : ℕ → ℕ)
     (m : MemoriesAgree c.shadow f g) (next : ℕ) where
   answers-by : (n : ℕ) → n < 2 ^ 32
       → EffectsAgree f g None None (answer-by c next [] n) (answer-by (swap c qs) next [] n)
@@ -189,7 +189,7 @@ module _ (c : Core) (qs : List Bits) (a : RegistersAgree c.registers qs) (f g : 
   answers-by n small = record {
     registers = set-in qs 10 (known n);
     core = refl;
-    agree = set-in-agrees c.registers qs a 10 _ _ (known-agrees n small);
+    agree = set-in-agrees (held-of c) qs a 10 _ _ (known-agrees n small);
     raised = refl;
     output = refl;
     memory = m;
@@ -224,7 +224,7 @@ module _ (c : Core) (qs : List Bits) (a : RegistersAgree c.registers qs) (f g : 
       go true = record {
         registers = set-in qs 10 (known n);
         core = refl;
-        agree = set-in-agrees c.registers qs a 10 _ _ (known-agrees n small);
+        agree = set-in-agrees (held-of c) qs a 10 _ _ (known-agrees n small);
         raised = refl;
         output = refl;
         memory = stored-agrees c.shadow f g m buffer n 0 (slice_index given) (slice_index given)
@@ -282,7 +282,7 @@ module _ (c : Core) (qs : List Bits) (a : RegistersAgree c.registers qs) (f g : 
           record {
             registers = set-in qs 10 (known len);
             core = refl;
-            agree = set-in-agrees c.registers qs a 10 _ _ (known-agrees len small);
+            agree = set-in-agrees (held-of c) qs a 10 _ _ (known-agrees len small);
             raised = refl;
             output = ap (λ taken. bytes_taken taken len) same;
             memory = m;

@@ -35,16 +35,16 @@ use Rattle.clean_reports.proofs.Bits.{extended-agree, extended-lt, window-lt, by
 use Rattle.clean_reports.proofs.Values.{known-agrees, computed-agree, undecided-agree, passes-agree}
 use Rattle.clean_reports.proofs.Memory.{accessible-from, numbers-agree, stored-agrees, byte-lt, window-bytes, loaded-lt}
 use Rattle.clean_reports.proofs.Memory.{window-past}
-use Rattle.clean_reports.proofs.Registers.{swap, set-in, set-in-agrees, register-agrees, IsKnown, same-argument}
+use Rattle.clean_reports.proofs.Registers.{Held, HeldAgree, held-of, swap, set-in, set-in-agrees, register-agrees, IsKnown, same-argument}
 use Rattle.clean_reports.proofs.Registers.{other-known}
 use Rattle.clean_reports.proofs.Registers.{no-event, left-none, right-none, known-by, no-errors, tested-same}
 
 -- after two effects the cores differ only in registers, which agree; the memories agree after the writes; errors and
 -- output are the same
 pub record EffectsAgree (f g : ℕ → ℕ) (u v : Option Span) (e h : Effect) : Type 0 where
-  pub registers : List Bits
+  pub registers : Held
   pub core : h.core ≡ swap e.core registers
-  pub agree : RegistersAgree e.core.registers registers
+  pub agree : HeldAgree (held-of e.core) registers
   pub raised : e.raised ≡ h.raised
   pub output : e.output ≡ h.output
   pub memory : MemoriesAgree e.core.shadow (written_to f u e.made) (written_to g v h.made)
@@ -61,7 +61,7 @@ none-about c n start len none = go (first_inaccessible c.shadow start len) none
     go None none = refl
     go (Some a) none = absurd (false≢true (sym none.0))
 
-module _ (c : Core) (qs : List Bits) (a : RegistersAgree c.registers qs) (f g : ℕ → ℕ)
+module _ (c : Core) (qs : Held) (a : HeldAgree (held-of c) qs) (f g : ℕ → ℕ)
     (m : MemoriesAgree c.shadow f g) (next : ℕ) (fits : next < 2 ^ 32) where
   -- an effect that only changes the core
   pub still : (e : Effect) → e ≡ quiet c → EffectsAgree f g None None e (quiet (swap c qs))
@@ -88,7 +88,7 @@ module _ (c : Core) (qs : List Bits) (a : RegistersAgree c.registers qs) (f g : 
   results rd x y v = record {
     registers = set-in qs rd y;
     core = refl;
-    agree = set-in-agrees c.registers qs a rd x y v;
+    agree = set-in-agrees (held-of c) qs a rd x y v;
     raised = refl;
     output = refl;
     memory = m;
@@ -131,7 +131,7 @@ module _ (c : Core) (qs : List Bits) (a : RegistersAgree c.registers qs) (f g : 
       go true = record {
         registers = set-in qs rd (known next);
         core = refl;
-        agree = set-in-agrees c.registers qs a rd _ _ (known-agrees next fits);
+        agree = set-in-agrees (held-of c) qs a rd _ _ (known-agrees next fits);
         raised = refl;
         output = refl;
         memory = m;
@@ -229,7 +229,7 @@ module _ (c : Core) (qs : List Bits) (a : RegistersAgree c.registers qs) (f g : 
           undef = extended width signed (taken_undef c start n);
         });
         core = refl;
-        agree = set-in-agrees c.registers qs a rd _ _ (record {
+        agree = set-in-agrees (held-of c) qs a rd _ _ (record {
           undef = refl;
           value = extended-agree width signed (taken_undef c start n) (little_word (window f start n))
               (little_word (window g start n)) lu lf lg

@@ -47,7 +47,7 @@ use Rattle.clean_reports.proofs.Bits.{Under}
 use Rattle.clean_reports.proofs.Values.{known-agrees}
 use Rattle.clean_reports.proofs.Memory.{made-agrees, filled-agrees, range-agrees, window-bytes, stored-bytes}
 use Rattle.clean_reports.proofs.Memory.{stored-bits, loaded-lt}
-use Rattle.clean_reports.proofs.Registers.{swap, set-in, set-in-agrees, IsKnown, AreKnown, same-argument, other-known}
+use Rattle.clean_reports.proofs.Registers.{Held, HeldAgree, held-of, swap, set-in, set-in-agrees, IsKnown, AreKnown, same-argument, other-known}
 use Rattle.clean_reports.proofs.Registers.{others-known}
 use Rattle.clean_reports.proofs.Registers.{left-none, right-none, known-by, no-errors, tested-same, all-known}
 use Rattle.clean_reports.proofs.Registers.{all-tested}
@@ -139,7 +139,7 @@ apart-from blocks x y redzone b q begins is kept i h =
     ]
 
 -- free
-frees : (c : Core) (qs : List Bits) → RegistersAgree c.registers qs → (f g : ℕ → ℕ) → MemoriesAgree c.shadow f g
+frees : (c : Core) (qs : Held) → HeldAgree (held-of c) qs → (f g : ℕ → ℕ) → MemoriesAgree c.shadow f g
     → (released : Released) (n : ℕ) (es others : List Event) (volume : ℕ) → n < 2 ^ 32 → es ≡ others
     → EffectsAgree f g None None (raising (answered (freed c released volume) n) es)
     (raising (answered (freed (swap c qs) released volume) n) others)
@@ -147,7 +147,7 @@ unfolding freed set_register
 frees c qs a f g m (Done b) n es others volume small same = record {
   registers = set-in qs 10 (known n);
   core = refl;
-  agree = set-in-agrees c.registers qs a 10 _ _ (known-agrees n small);
+  agree = set-in-agrees (held-of c) qs a 10 _ _ (known-agrees n small);
   raised = same;
   output = refl;
   memory = made-agrees c.shadow f g m b.start b.size NoAccess not-no;
@@ -155,7 +155,7 @@ frees c qs a f g m (Done b) n es others volume small same = record {
 frees c qs a f g m Nothing n es others volume small same = record {
   registers = set-in qs 10 (known n);
   core = refl;
-  agree = set-in-agrees c.registers qs a 10 _ _ (known-agrees n small);
+  agree = set-in-agrees (held-of c) qs a 10 _ _ (known-agrees n small);
   raised = same;
   output = refl;
   memory = m;
@@ -163,13 +163,13 @@ frees c qs a f g m Nothing n es others volume small same = record {
 frees c qs a f g m Invalid n es others volume small same = record {
   registers = set-in qs 10 (known n);
   core = refl;
-  agree = set-in-agrees c.registers qs a 10 _ _ (known-agrees n small);
+  agree = set-in-agrees (held-of c) qs a 10 _ _ (known-agrees n small);
   raised = same;
   output = refl;
   memory = m;
 }
 
-module _ (c : Core) (qs : List Bits) (a : RegistersAgree c.registers qs) (f g : ℕ → ℕ)
+module _ (c : Core) (qs : Held) (a : HeldAgree (held-of c) qs) (f g : ℕ → ℕ)
     (m : MemoriesAgree c.shadow f g) where
   -- malloc
   gives : (size redzone : ℕ) (kind : RangeKind) → (kind ≡ Defined → ⊥) → (o : Option ℕ)
@@ -180,7 +180,7 @@ module _ (c : Core) (qs : List Bits) (a : RegistersAgree c.registers qs) (f g : 
   gives size redzone kind loose None e = record {
     registers = set-in qs 10 (known 0);
     core = refl;
-    agree = set-in-agrees c.registers qs a 10 _ _ (known-agrees 0 (omega arith));
+    agree = set-in-agrees (held-of c) qs a 10 _ _ (known-agrees 0 (omega arith));
     raised = refl;
     output = refl;
     memory = m;
@@ -188,7 +188,7 @@ module _ (c : Core) (qs : List Bits) (a : RegistersAgree c.registers qs) (f g : 
   gives size redzone kind loose (Some p) e = record {
     registers = set-in qs 10 (known p);
     core = refl;
-    agree = set-in-agrees c.registers qs a 10 _ _ (known-agrees p (place-lt c.blocks size redzone p e));
+    agree = set-in-agrees (held-of c) qs a 10 _ _ (known-agrees p (place-lt c.blocks size redzone p e));
     raised = refl;
     output = refl;
     memory = made-agrees _ f g
@@ -204,7 +204,7 @@ module _ (c : Core) (qs : List Bits) (a : RegistersAgree c.registers qs) (f g : 
   zeroes size redzone None e = record {
     registers = set-in qs 10 (known 0);
     core = refl;
-    agree = set-in-agrees c.registers qs a 10 _ _ (known-agrees 0 (omega arith));
+    agree = set-in-agrees (held-of c) qs a 10 _ _ (known-agrees 0 (omega arith));
     raised = refl;
     output = refl;
     memory = m;
@@ -212,7 +212,7 @@ module _ (c : Core) (qs : List Bits) (a : RegistersAgree c.registers qs) (f g : 
   zeroes size redzone (Some p) e = record {
     registers = set-in qs 10 (known p);
     core = refl;
-    agree = set-in-agrees c.registers qs a 10 _ _ (known-agrees p (place-lt c.blocks size redzone p e));
+    agree = set-in-agrees (held-of c) qs a 10 _ _ (known-agrees p (place-lt c.blocks size redzone p e));
     raised = refl;
     output = refl;
     memory = filled-agrees _ f g
@@ -295,7 +295,7 @@ module _ (c : Core) (qs : List Bits) (a : RegistersAgree c.registers qs) (f g : 
   resizes opened x y redzone volume Refuses e = record {
     registers = set-in qs 10 (known 0);
     core = refl;
-    agree = set-in-agrees c.registers qs a 10 _ _ (known-agrees 0 (omega arith));
+    agree = set-in-agrees (held-of c) qs a 10 _ _ (known-agrees 0 (omega arith));
     raised = refl;
     output = refl;
     memory = m;
@@ -304,7 +304,7 @@ module _ (c : Core) (qs : List Bits) (a : RegistersAgree c.registers qs) (f g : 
   resizes opened x y redzone volume Keeps e = record {
     registers = set-in qs 10 (known 0);
     core = refl;
-    agree = set-in-agrees c.registers qs a 10 _ _ (known-agrees 0 (omega arith));
+    agree = set-in-agrees (held-of c) qs a 10 _ _ (known-agrees 0 (omega arith));
     raised = refl;
     output = refl;
     memory = m;
@@ -379,7 +379,7 @@ pub record SameWork (function : Hook) (x y v w : ℕ) : Type 0 where
   pub work : (d : Core) (redzone volume : ℕ) (taken : ℕ → ℕ)
       → heap_work function d x y redzone volume taken ≡ heap_work function d v w redzone volume taken
 
-same-work : (c : Core) (qs : List Bits) → RegistersAgree c.registers qs → (function : Hook)
+same-work : (c : Core) (qs : Held) → HeldAgree (held-of c) qs → (function : Hook)
     → AreKnown c 10 (heap_parameters function)
     → SameWork function (argument c 10) (argument c 11) (argument (swap c qs) 10) (argument (swap c qs) 11)
 unfolding heap_parameters heap_work work_uses
@@ -410,7 +410,7 @@ same-work c qs a Realloc known =
       work = λ d redzone volume taken. (λ i. heap_work Realloc d (p i) (q i) redzone volume taken);
     }
 
-module _ (c : Core) (qs : List Bits) (a : RegistersAgree c.registers qs) (f g : ℕ → ℕ)
+module _ (c : Core) (qs : Held) (a : HeldAgree (held-of c) qs) (f g : ℕ → ℕ)
     (m : MemoriesAgree c.shadow f g) (opened : BlocksAreOpen c) (function : Hook) (redzone volume : ℕ) where
   -- each core's work has its own arguments
   abbrev own-work : Core → (ℕ → ℕ) → Effect
@@ -477,11 +477,11 @@ named-raises c function one known =
     ∙ ap (λ now. errors_from now 10 (heap_parameters function)) (tested-same c 1 one)
     ∙ none-raised c 10 (heap_parameters function) known
 
-pub same-return : (c : Core) (qs : List Bits) → RegistersAgree c.registers qs → IsKnown c 1
+pub same-return : (c : Core) (qs : Held) → HeldAgree (held-of c) qs → IsKnown c 1
     → return_address c ≡ return_address (swap c qs)
 same-return c qs a one = ap (λ n. n / 2 * 2) (same-argument c qs a 1 one)
 
-module _ (c : Core) (qs : List Bits) (a : RegistersAgree c.registers qs) (f g : ℕ → ℕ)
+module _ (c : Core) (qs : Held) (a : HeldAgree (held-of c) qs) (f g : ℕ → ℕ)
     (m : MemoriesAgree c.shadow f g) (opened : BlocksAreOpen c) (function : Hook) (redzone volume : ℕ) where
   -- the effect of a call by name, by whether x1 is a place to return to
   abbrev named-leaves : Bool → Core → (ℕ → ℕ) → Effect

@@ -1,6 +1,6 @@
 -- Each step keeps the heap open and closed.
 use Rattle.std.proofs.Common.{◌≡◌, ℕ, ◌+◌, ◌-◌, ◌*◌, ◌/◌, ◌%◌, ◌^◌, ◌<◌, ◌≤◌, ◌&&◌, min, Bool, true, false}
-use Rattle.std.proofs.Common.{cond, refl, sym, ap, ◌∙◌, subst, inl, inr, arith, List, [], ◌∷◌, ◌++◌, Option, Some, None}
+use Rattle.std.proofs.Common.{cond, length, refl, sym, ap, ◌∙◌, subst, inl, inr, arith, List, [], ◌∷◌, ◌++◌, Option, Some, None}
 use Rattle.std.proofs.Common.{◌==◌, nat_lt, nat_le, leb-true, slice_index}
 use Rattle.std.proofs.lemmas.Bool.{false≢true, cases_eq, and_parts, ltb-true}
 use Rattle.definedness.specs.declared.Bits.{Bits}
@@ -29,14 +29,17 @@ use Rattle.instructions.specs.declared.atomic.Atomic.{Atomic}
 use Rattle.instructions.specs.declared.atomic.Atomic.TheVariants.{LoadReserved, StoreConditional}
 use Rattle.instructions.specs.declared.atomic.Atomic.TheVariants.{Update as Updating}
 use Rattle.run_values.specs.declared.status.Stop.TheVariants.{Illegal, Misaligned}
-use Rattle.guest_elf.specs.Profiles.{has_atomics, is_aligned}
+use Rattle.guest_elf.specs.Profiles.{has_atomics, has_controls, is_aligned}
 use Rattle.guest_machine.specs.State.{Core, State}
 use Rattle.guest_machine.specs.Registers.{known, register, set_register, tested, defined}
 use Rattle.guest_machine.specs.Errors.{here, value_errors}
 use Rattle.guest_machine.specs.Effects.{next_of, moved_to, stopped, exited, stored_core, target}
-use Rattle.guest_machine.specs.Effects.{jumped, branch_tested, raising, store}
+use Rattle.guest_machine.specs.Effects.{jumped, branch_tested, raising, results_in, store}
 use Rattle.guest_machine.specs.Atomics.{admits, admitted, atomic_effect, atomic_start, is_reserved, not_stored}
 use Rattle.guest_machine.specs.Atomics.{resulting}
+use Rattle.guest_machine.specs.Controls.{barrier, control, control_effect, controls_after, has_control}
+use Rattle.instructions.specs.declared.control.ControlAccess.{ControlAccess}
+use Rattle.instructions.specs.declared.control.ControlOperand.{ControlOperand}
 use Rattle.guest_machine.specs.Effects.{is_undefined, branched, followed, linked_jump, quiet, stops}
 use Rattle.guest_machine.specs.StackPointer.{stack_ruled, stack_moved, framed, ranged, is_stack_pointer, is_in_stack}
 use Rattle.guest_machine.specs.StackPointer.{largest_frame}
@@ -57,7 +60,7 @@ use Rattle.guest_machine.specs.HeapCalls.{heap_work, heap_call}
 use Rattle.guest_machine.specs.NamedCalls.{named_by, returns, returned_to, return_address}
 use Rattle.guest_machine.specs.Exec.{Deed, Takes, Cut, CallsByName, Halts, Terms, outcome, row_effect, word_fault}
 use Rattle.guest_machine.specs.Exec.{call_effect, unfetched, jump_fault, is_running}
-use Rattle.guest_machine.specs.Exec.{fetch_fault, deed_at, exec, effect_at}
+use Rattle.guest_machine.specs.Exec.{fetch_fault, deed_at, exec, effect_at, outcome_at}
 use Rattle.guest_machine.specs.declared.setup.Setup.{Setup}
 use Rattle.clean_reports.specs.Heap.{HeapIsOpen, HeapIsClosed}
 use Rattle.clean_reports.proofs.Blocks.{is-outside, allocated-open, allocated-closed, released-open}
@@ -488,6 +491,26 @@ module _ (b : Bool) (c : Core) (h : Stands b c) (next : ℕ) (terms : Terms) (gi
       go false true = let l = tests c rs1 in record { blocks = l.blocks; same = l.same }
       go false false = record { blocks = refl; same = λ a low high. refl }
 
+  -- one of a control register, a fence of fetches, or a wait for an interrupt
+  controls-left : (access : ControlAccess) (rd number : ℕ) (operand : ControlOperand)
+      → LeavesHeap c (control_effect c next access rd number operand).core
+  unfolding control_effect set_register
+  controls-left access rd number operand = go (has_control c access number operand)
+    where
+      go : (p : Bool) → LeavesHeap c (cond p (results_in (record c {
+            controls = controls_after c access number operand;
+          }) next rd (control c number)) (stops c Illegal)).core
+      go true = record { blocks = refl; same = λ a low high. refl }
+      go false = record { blocks = refl; same = λ a low high. refl }
+
+  barrier-left : LeavesHeap c (barrier c next).core
+  unfolding barrier
+  barrier-left = go (has_controls c.isa)
+    where
+      go : (p : Bool) → LeavesHeap c (cond p (quiet (moved_to c next)) (stops c Illegal)).core
+      go true = record { blocks = refl; same = λ a low high. refl }
+      go false = record { blocks = refl; same = λ a low high. refl }
+
   -- each row
   pub rows : (row : Option Instruction) → Stands b (row_effect c next row terms given taken).core
   unfolding row_effect set_register call_at branch_tested
@@ -514,6 +537,8 @@ module _ (b : Bool) (c : Core) (h : Stands b c) (next : ℕ) (terms : Terms) (gi
   rows (Some (insns.LoadReserved rd rs1)) = on b c _ (atomics-left LoadReserved rd rs1 0) h
   rows (Some (insns.StoreConditional rd rs1 rs2)) = on b c _ (atomics-left StoreConditional rd rs1 rs2) h
   rows (Some (insns.Update update rd rs1 rs2)) = on b c _ (atomics-left (Updating update) rd rs1 rs2) h
+  rows (Some (insns.Control access rd number operand)) = on b c _ (controls-left access rd number operand) h
+  rows (Some insns.Barrier) = on b c _ barrier-left h
 
 none-taken : (c : Core) → LeavesHeap c (unfetched c).core
 unfolding unfetched
@@ -543,5 +568,8 @@ deeds b c h terms (CallsByName function) given taken =
 deeds b c h terms Halts given taken = on b c _ (none-taken c) h
 
 pub steps : (b : Bool) (setup : Setup) (s : State) → Stands b s.core → Stands b (exec s setup).core
-unfolding exec effect_at
-steps b setup s h = deeds b s.core h _ (deed_at s.core s.bytes setup.hooks) _ _
+unfolding exec effect_at outcome_at
+steps b setup s h =
+    let effect = outcome_at s.core s.bytes s.position (length s.output) setup in
+    on b effect.core _ (record { blocks = refl; same = λ a low high. refl })
+    (deeds b s.core h _ (deed_at s.core s.bytes setup.hooks) _ _)

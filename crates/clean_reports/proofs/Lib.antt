@@ -7,6 +7,7 @@ pub mod Altering
 pub mod Registers
 pub mod Effects
 pub mod Atomics
+pub mod Controls
 pub mod Calls
 pub mod HeapCalls
 pub mod Stack

@@ -62,7 +62,8 @@ shadows-small image =
     go false = kind-bits NoAccess
 
 core-agrees : (image : Image) (core : Core) (bytes : ℕ → ℕ) → core ≡ (start_state image).core → AreBytes bytes
-    → MemoriesAgree core.shadow bytes bytes × RegistersAgree core.registers core.registers
+    → MemoriesAgree core.shadow bytes bytes
+    × (RegistersAgree core.registers core.registers × ControlsAgree core.controls core.controls)
 unfolding start_state
 core-agrees image core bytes is small = (
   record {
@@ -71,10 +72,13 @@ core-agrees image core bytes is small = (
     one = small;
     other = small;
   },
-  subst (λ (c : Core). RegistersAgree c.registers c.registers) (sym is)
-      (set-agrees (replicate 32 (known 0)) (replicate 32 (known 0)) zeros-agree 2 (known stack_start)
-      (known stack_start)
-      (known-agrees stack_start (omega arith))),
+  (
+    subst (λ (c : Core). RegistersAgree c.registers c.registers) (sym is)
+        (set-agrees (replicate 32 (known 0)) (replicate 32 (known 0)) zeros-agree 2 (known stack_start)
+        (known stack_start)
+        (known-agrees stack_start (omega arith))),
+    subst (λ (c : Core). ControlsAgree c.controls c.controls) (sym is) (λ number. known-agrees 0 (omega arith)),
+  ),
 )
 
 start-itself : (image : Image) (start : State) → IsStartOf image start → AreBytes start.bytes → StatesAgree start start
@@ -82,7 +86,7 @@ start-itself image start begins small =
     let parts = core-agrees image start.core start.bytes begins.core small in
     record {
       memory = parts.0;
-      registers = parts.1;
+      registers = parts.1.0;
       shadow = refl;
       pc = refl;
       status = refl;
@@ -90,6 +94,8 @@ start-itself image start begins small =
       blocks = refl;
       isa = refl;
       reserved = refl;
+      controls = parts.1.1;
+      steps = refl;
       position = refl;
       end_seen = refl;
       output = refl;
@@ -117,6 +123,8 @@ noise-agrees s noise d small = record {
   blocks = refl;
   isa = refl;
   reserved = refl;
+  controls = d.controls;
+  steps = refl;
   position = refl;
   end_seen = refl;
   output = refl;

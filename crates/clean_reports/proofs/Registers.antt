@@ -1,4 +1,4 @@
--- Two cores that differ only in their registers, which agree: registers, and tests of them.
+-- Two cores that differ only in their registers and control registers, which agree: registers, and tests of them.
 use Rattle.std.proofs.Common.{◌≡◌, ℕ, ◌+◌, ◌<◌, ◌≤◌, Bool, true, false, cond, refl, sym, ap, ◌∙◌}
 use Rattle.std.proofs.Common.{subst, inl, inr, arith, List, [], ◌∷◌, ◌++◌, length, slice_set, slice_index_or, ◌==◌}
 use Rattle.std.proofs.lemmas.Bool.{cases_lt, cases_eq, eqb-true, eq-eqb, false≢true}
@@ -14,17 +14,30 @@ use Rattle.guest_machine.specs.State.{Core}
 use Rattle.guest_machine.specs.Registers.{known, register, set_register, tested}
 use Rattle.guest_machine.specs.Errors.{event_unless, event_of, here, register_errors, parameter_errors}
 use Rattle.guest_machine.specs.Calls.{tested_from, errors_from, argument}
-use Rattle.clean_reports.specs.Agreement.{ValuesAgree, RegistersAgree}
+use Rattle.clean_reports.specs.Agreement.{ControlsAgree, ValuesAgree, RegistersAgree}
 use Rattle.clean_reports.specs.Uses.{NoUse, is_use}
 use Rattle.clean_reports.proofs.Values.{known-agrees, same-value}
 
--- the core with these registers in place of its own
-abbrev pub swap : Core → List Bits → Core
-swap core qs = record core { registers = qs }
+-- what two cores may hold otherwise: registers, and control registers
+pub record Held : Type 0 where
+  pub registers : List Bits
+  pub controls : ℕ → Bits
 
--- the registers after one is set; x0 stays
-abbrev pub set-in : List Bits → ℕ → Bits → List Bits
-set-in qs r bits = cond (r == 0) qs (slice_set qs r bits)
+abbrev pub held-of : Core → Held
+held-of core = record { registers = core.registers; controls = core.controls }
+
+pub record HeldAgree (x y : Held) : Type 0 where
+  pub registers : RegistersAgree x.registers y.registers
+  pub controls : ControlsAgree x.controls y.controls
+
+-- the core with these in place of its own
+abbrev pub swap : Core → Held → Core
+swap core qs = record core { registers = qs.registers; controls = qs.controls }
+
+-- what is held after a register is set; x0 stays
+abbrev pub set-in : Held → ℕ → Bits → Held
+set-in qs r bits =
+    record { registers = cond (r == 0) qs.registers (slice_set qs.registers r bits); controls = qs.controls }
 
 pub set-agrees : (xs ys : List Bits) → RegistersAgree xs ys → (r : ℕ) (x y : Bits) → ValuesAgree x y
     → RegistersAgree (slice_set xs r x) (slice_set ys r y)
@@ -56,30 +69,31 @@ set-agrees xs ys a r x y v = record {
   ];
 }
 
-pub set-in-agrees : (xs ys : List Bits) → RegistersAgree xs ys → (r : ℕ) (x y : Bits) → ValuesAgree x y
-    → RegistersAgree (set-in xs r x) (set-in ys r y)
-set-in-agrees xs ys a r x y v = go (r == 0)
+pub set-in-agrees : (xs ys : Held) → HeldAgree xs ys → (r : ℕ) (x y : Bits) → ValuesAgree x y
+    → HeldAgree (set-in xs r x) (set-in ys r y)
+set-in-agrees xs ys a r x y v = record { registers = go (r == 0); controls = a.controls }
   where
-    go : (b : Bool) → RegistersAgree (cond b xs (slice_set xs r x)) (cond b ys (slice_set ys r y))
-    go true = a
-    go false = set-agrees xs ys a r x y v
+    go : (b : Bool) → RegistersAgree (cond b xs.registers (slice_set xs.registers r x))
+        (cond b ys.registers (slice_set ys.registers r y))
+    go true = a.registers
+    go false = set-agrees xs.registers ys.registers a.registers r x y v
 
-pub register-agrees : (c : Core) (qs : List Bits) → RegistersAgree c.registers qs → (r : ℕ)
+pub register-agrees : (c : Core) (qs : Held) → HeldAgree (held-of c) qs → (r : ℕ)
     → ValuesAgree (register c r) (register (swap c qs) r)
 unfolding register
 register-agrees c qs a r = go (r == 0)
   where
     go : (b : Bool) → ValuesAgree (cond b (known 0) (slice_index_or c.registers r (known 0)))
-        (cond b (known 0) (slice_index_or qs r (known 0)))
+        (cond b (known 0) (slice_index_or qs.registers r (known 0)))
     go true = known-agrees 0 (omega arith)
-    go false = a.each r
+    go false = a.registers.each r
 
 -- registers with no undefined bit --
 
 abbrev pub IsKnown : Core → ℕ → Type 0
 IsKnown c r = (register c r).undef ≡ 0
 
-module _ (c : Core) (qs : List Bits) (a : RegistersAgree c.registers qs) (r : ℕ) (known : IsKnown c r) where
+module _ (c : Core) (qs : Held) (a : HeldAgree (held-of c) qs) (r : ℕ) (known : IsKnown c r) where
   pub same-argument : argument c r ≡ argument (swap c qs) r
   same-argument = same-value (register c r) (register (swap c qs) r) (register-agrees c qs a r) known
 
@@ -148,7 +162,7 @@ none-raised c r (p ∷ ps) known =
     ap (λ es. es ++ errors_from (tested c r) (r + 1) ps) (no-errors c r (Param p Contains) known.0)
     ∙ ap (λ now. errors_from now (r + 1) ps) (tested-same c r known.0) ∙ none-raised c (r + 1) ps known.1
 
-pub others-known : (c : Core) (qs : List Bits) → RegistersAgree c.registers qs → (r : ℕ) (parameters : List Parameter)
+pub others-known : (c : Core) (qs : Held) → HeldAgree (held-of c) qs → (r : ℕ) (parameters : List Parameter)
     → AreKnown c r parameters → AreKnown (swap c qs) r parameters
 others-known c qs a r [] known = tt
 others-known c qs a r (p ∷ ps) known =

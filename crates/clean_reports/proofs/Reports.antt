@@ -32,7 +32,7 @@ use Rattle.clean_reports.specs.Agreement.{ValuesAgree, StatesAgree}
 use Rattle.clean_reports.specs.Laws.{ReportsAgree}
 use Rattle.clean_reports.proofs.Values.{same-value}
 use Rattle.clean_reports.proofs.Memory.{not-bad, good-byte}
-use Rattle.clean_reports.proofs.Registers.{register-agrees}
+use Rattle.clean_reports.proofs.Registers.{held-of, register-agrees}
 
 -- links with the same roots and edges give the same leak kinds --
 
@@ -125,7 +125,8 @@ module _ (s t : State) (d : StatesAgree s t) where
 
   registers-agree : (r : ℕ) → ValuesAgree (register s.core r) (register t.core r)
   unfolding register
-  registers-agree r = register-agrees s.core t.core.registers d.registers r
+  registers-agree r =
+      register-agrees s.core (held-of t.core) (record { registers = d.registers; controls = d.controls }) r
 
   register-root : (value : ℕ) → IsRegisterRoot (register s.core) value → IsRegisterRoot (register t.core) value
   register-root value (r, low, high, undef, is) =

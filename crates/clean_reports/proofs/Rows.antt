@@ -18,7 +18,7 @@ use Rattle.rv_compressed.specs.Table.{expansion}
 use Rattle.rv_compressed.specs.Laws.{HasOperands, IsOfLine, IsSigned}
 use Rattle.rv_compressed.proofs.Expansions.{expansion-IsOfLine}
 use Rattle.instructions.specs.Codes.{row_of_code}
-use Rattle.instructions.specs.Instructions.{atomic_row, if_atomic, instruction_by, instruction_of, if_row, row_of}
+use Rattle.instructions.specs.Instructions.{extension_by, extension_of, if_extension, instruction_by, instruction_of, if_row, row_of}
 use Rattle.instructions.specs.Instructions.{row_of_half, row_or}
 use Rattle.instructions.specs.declared.code.Code.{Code}
 use Rattle.instructions.specs.declared.code.Code.TheVariants.{Word, Half}
@@ -27,12 +27,12 @@ use Rattle.instructions.specs.declared.instruction.Instruction.TheVariants.{Load
 use Rattle.instructions.specs.declared.instruction.Instruction.TheVariants.{Branch, Load, Store, Immediate, Registers}
 use Rattle.instructions.specs.declared.instruction.Instruction.TheVariants.{Fence, CallEnvironment as CallRow}
 use Rattle.instructions.specs.declared.instruction.Instruction.TheVariants.{Breakpoint, LoadReserved}
-use Rattle.instructions.specs.declared.instruction.Instruction.TheVariants.{StoreConditional, Update}
+use Rattle.instructions.specs.declared.instruction.Instruction.TheVariants.{StoreConditional, Update, Control, Barrier}
 use Rattle.instructions.specs.declared.atomic.Atomic.TheVariants as atomics
-use Rattle.instructions.specs.Atomics.{atomic_of}
-use Rattle.instructions.specs.declared.atomic.Atomic.{Atomic as AtomicKind}
+use Rattle.rv_extensions.specs.Table as Fields
 use Rattle.rv_extensions.specs.Table.{extension}
-use Rattle.rv_extensions.specs.declared.Extension.{Extension}
+use Rattle.rv_extensions.specs.declared.ExtensionOp.{ExtensionOp}
+use Rattle.rv_extensions.specs.declared.ExtensionOp.TheVariants as extensions
 use Rattle.guest_elf.specs.declared.hook.Hook.TheVariants.{Malloc, Free, Calloc, Realloc}
 use Rattle.error_events.specs.declared.parameter.Parameter.TheVariants.{ExitStatus, ExitGroupStatus}
 use Rattle.run_values.specs.declared.span.Span.{Span}
@@ -48,10 +48,11 @@ use Rattle.clean_reports.specs.Agreement.{AreBytes, RegistersAgree, MemoriesAgre
 use Rattle.clean_reports.specs.Uses.{NoUse}
 use Rattle.clean_reports.specs.Heap.{BlocksAreOpen}
 use Rattle.clean_reports.specs.Disturbed.{HasBytes}
-use Rattle.clean_reports.proofs.Registers.{swap, IsKnown, same-argument}
+use Rattle.clean_reports.proofs.Registers.{Held, HeldAgree, held-of, swap, IsKnown, same-argument}
 use Rattle.clean_reports.proofs.Effects.{EffectsAgree, moves, halts, computes, computes-with, uppers, adds}
 use Rattle.clean_reports.proofs.Effects.{jumps, jumps-to, branches, loads, stores}
 use Rattle.clean_reports.proofs.Atomics.{atomics-agree}
+use Rattle.clean_reports.proofs.Controls.{IsSmallOperand, barriers-agree, controls-agree}
 use Rattle.clean_reports.proofs.Calls.{HasKnown, call-known, read-parameters, write-parameters, reads, writes, exits}
 use Rattle.clean_reports.proofs.Calls.{unknowns, read-first, write-first}
 use Rattle.clean_reports.proofs.HeapCalls.{heap-calls, heap-first}
@@ -62,6 +63,7 @@ use Rattle.clean_reports.proofs.HeapCalls.{heap-calls, heap-first}
 abbrev pub IsSmall : Instruction → Type 0
 IsSmall (LoadUpper rd imm) = imm < 2 ^ 32
 IsSmall (Immediate operation rd rs1 imm) = imm < 2 ^ 32
+IsSmall (Control access rd number operand) = IsSmallOperand operand
 IsSmall _ = Unit {0}
 
 abbrev pub IfSmall : Option Instruction → Type 0
@@ -91,24 +93,39 @@ small-by Op.Srli rd rs1 rs2 imm h = h
 small-by Op.Srai rd rs1 rs2 imm h = h
 small-by _ rd rs1 rs2 imm h = tt
 
--- an atomic instruction has none
-atomic-small : (found : Option Extension) → IfSmall (if_atomic found)
-atomic-small None = tt
-atomic-small (Some e) = go (atomic_of e.op)
+-- and of the table of extensions
+small-uimm : (form : Fields.Form) (op : ExtensionOp) (word : ℕ) → (Fields.with_fields form op word).uimm < 2 ^ 32
+small-uimm Fields.Load op word = omega arith
+small-uimm Fields.Update op word = omega arith
+small-uimm Fields.Control op word = omega arith
+small-uimm Fields.Immediate op word = omega arith
+small-uimm Fields.Bare op word = omega arith
+
+extension-by-small : (op : ExtensionOp) (csr rd rs1 rs2 uimm : ℕ) → uimm < 2 ^ 32
+    → IsSmall (extension_by op csr rd rs1 rs2 uimm)
+extension-by-small extensions.Csrrwi csr rd rs1 rs2 uimm h = h
+extension-by-small extensions.Csrrsi csr rd rs1 rs2 uimm h = h
+extension-by-small extensions.Csrrci csr rd rs1 rs2 uimm h = h
+extension-by-small _ csr rd rs1 rs2 uimm h = tt
+
+extension-small : (word : ℕ) → IfSmall (if_extension (extension word))
+unfolding extension extension_of
+extension-small word = go (find (Fields.has_fixed_bits word) Fields.rows)
   where
-    go : (kind : Option AtomicKind) → IfSmall (option_map (λ atomic. atomic_row atomic e.rd e.rs1 e.rs2) kind)
+    go : (found : Option Fields.Row)
+        → IfSmall (if_extension (option_map (λ row. Fields.extension_of row word) found))
     go None = tt
-    go (Some atomics.LoadReserved) = tt
-    go (Some atomics.StoreConditional) = tt
-    go (Some (atomics.Update update)) = tt
+    go (Some row) =
+        let e = Fields.extension_of row word in
+        extension-by-small e.op e.csr e.rd e.rs1 e.rs2 e.uimm (small-uimm row.form row.op word)
 
 row-small : (word : ℕ) → IfSmall (row_of word)
 unfolding row_of insn instruction_of
 row-small word = go (find (has_fixed_bits word) rows)
   where
     go : (found : Option Row)
-        → IfSmall (row_or (if_row (option_map (λ row. insn_of row word) found)) (if_atomic (extension word)))
-    go None = atomic-small (extension word)
+        → IfSmall (row_or (if_row (option_map (λ row. insn_of row word) found)) (if_extension (extension word)))
+    go None = extension-small word
     go (Some row) =
         let i = insn_of row word in small-by i.op i.rd i.rs1 i.rs2 i.imm (small-fields row.form row.op word)
 
@@ -177,7 +194,7 @@ pub record BothAgree (f g : ℕ → ℕ) (p q : Bool) (x y : Terms) (u v : Optio
   pub terms : x ≡ y
   pub effects : EffectsAgree f g u v e h
 
-module _ (c : Core) (qs : List Bits) (a : RegistersAgree c.registers qs) (f g : ℕ → ℕ)
+module _ (c : Core) (qs : Held) (a : HeldAgree (held-of c) qs) (f g : ℕ → ℕ)
     (m : MemoriesAgree c.shadow f g) (opened : BlocksAreOpen c) (position written : ℕ) (setup : Setup)
     (bytes : HasBytes setup) (next : ℕ) (fits : next < 2 ^ 32) where
   -- the terms and the effect of the call of a number
@@ -414,5 +431,12 @@ module _ (c : Core) (qs : List Bits) (a : RegistersAgree c.registers qs) (f g : 
     terms = refl;
     effects = atomics-agree c qs a f g m next fits (atomics.Update update) rd rs1 rs2 none;
   }
+  row-agrees (Some (Control access rd number operand)) small none = record {
+    heap = refl;
+    terms = refl;
+    effects = controls-agree c qs a f g m next fits access rd number operand small;
+  }
+  row-agrees (Some Barrier) small none =
+      record { heap = refl; terms = refl; effects = barriers-agree c qs a f g m next fits }
   row-agrees (Some Breakpoint) small none =
       record { heap = refl; terms = refl; effects = halts c qs a f g m next fits Break [] }

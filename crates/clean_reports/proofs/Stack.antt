@@ -26,13 +26,13 @@ use Rattle.clean_reports.proofs.Bits.{window-lt}
 use Rattle.clean_reports.proofs.Values.{same-bits}
 use Rattle.clean_reports.proofs.Memory.{accessible-from, numbers-agree, made-agrees, window-bytes}
 use Rattle.clean_reports.proofs.Memory.{window-past}
-use Rattle.clean_reports.proofs.Registers.{swap, register-agrees}
+use Rattle.clean_reports.proofs.Registers.{Held, HeldAgree, held-of, swap, register-agrees}
 use Rattle.clean_reports.proofs.HeapCalls.{not-no, not-un}
 
 -- a change of shadows, the same in both cores
-pub record Reshades (c : Core) (qs : List Bits) (f g : ℕ → ℕ) (e h : Core) : Type 0 where
+pub record Reshades (c : Core) (qs : Held) (f g : ℕ → ℕ) (e h : Core) : Type 0 where
   pub core : h ≡ swap e qs
-  pub registers : e.registers ≡ c.registers
+  pub registers : held-of e ≡ held-of c
   pub memory : MemoriesAgree e.shadow f g
 
 pointer-same : (x y : Bits) → ValuesAgree x y → is_stack_pointer x ≡ is_stack_pointer y
@@ -56,7 +56,7 @@ few-bits Byte i h = omega arith
 few-bits Half i h = omega arith
 few-bits Word i h = omega arith
 
-module _ (c : Core) (qs : List Bits) (a : RegistersAgree c.registers qs) (f g : ℕ → ℕ)
+module _ (c : Core) (qs : Held) (a : HeldAgree (held-of c) qs) (f g : ℕ → ℕ)
     (m : MemoriesAgree c.shadow f g) where
   unshaded : Reshades c qs f g c (swap c qs)
   unshaded = record { core = refl; registers = refl; memory = m }

@@ -24,19 +24,20 @@ use Rattle.guest_machine.specs.Exec.{is_heap_deed, given_at, taken_from, written
 use Rattle.guest_machine.specs.Exec.{jump_fault, is_running, fetch_fault, fetches, fetched, called_here}
 use Rattle.guest_machine.specs.Exec.{deed_by, fetch_by, half_at, word_at, word_fault}
 use Rattle.guest_machine.proofs.Fetching.{half-by-word, two_there}
-use Rattle.guest_machine.specs.Exec.{deed_at, exec, intake_at, uses_at, effect_at, seen_also, counted}
+use Rattle.guest_machine.specs.Exec.{deed_at, exec, intake_at, uses_at, effect_at, outcome_at, seen_also, counted}
+use Rattle.guest_machine.specs.Exec.{stepped}
 use Rattle.guest_machine.specs.declared.setup.Setup.{Setup}
-use Rattle.clean_reports.specs.Agreement.{RegistersAgree, MemoriesAgree, StatesAgree}
+use Rattle.clean_reports.specs.Agreement.{ControlsAgree, RegistersAgree, MemoriesAgree, StatesAgree}
 use Rattle.clean_reports.specs.Uses.{NoUse}
 use Rattle.clean_reports.specs.Heap.{BlocksAreOpen}
 use Rattle.clean_reports.specs.Disturbed.{HasBytes}
-use Rattle.clean_reports.proofs.Registers.{swap, register-agrees, left-none, right-none, no-event}
+use Rattle.clean_reports.proofs.Registers.{Held, HeldAgree, held-of, swap, register-agrees, left-none, right-none, no-event}
 use Rattle.clean_reports.proofs.Effects.{EffectsAgree}
 use Rattle.clean_reports.proofs.HeapCalls.{named-first, named-calls, same-return}
 use Rattle.clean_reports.proofs.Stack.{half-same, rules, word-same}
 use Rattle.clean_reports.proofs.Rows.{BothAgree, code-small, row-agrees}
 
-module _ (c : Core) (qs : List Bits) (a : RegistersAgree c.registers qs) (f g : ℕ → ℕ)
+module _ (c : Core) (qs : Held) (a : HeldAgree (held-of c) qs) (f g : ℕ → ℕ)
     (m : MemoriesAgree c.shadow f g) (opened : BlocksAreOpen c) (position written : ℕ) (setup : Setup)
     (bytes : HasBytes setup) where
   -- the stack pointer rule keeps agreement
@@ -48,7 +49,7 @@ module _ (c : Core) (qs : List Bits) (a : RegistersAgree c.registers qs) (f g : 
       record {
         registers = x.registers;
         core = ap (stack_ruled (register (swap c qs) 2)) x.core ∙ rule.core;
-        agree = subst (λ rs. RegistersAgree rs x.registers) (sym rule.registers) x.agree;
+        agree = subst (λ rs. HeldAgree rs x.registers) (sym rule.registers) x.agree;
         raised = ap (λ r. fetch_errors c len ++ r) x.raised;
         output = x.output;
         memory = rule.memory;
@@ -164,15 +165,15 @@ module _ (c : Core) (qs : List Bits) (a : RegistersAgree c.registers qs) (f g : 
       go None none = fetched-same none
 
 -- the state after a step, by what it does
-abbrev stepped : State → Setup → Deed → State
-stepped s setup deed =
+abbrev after : State → Setup → Deed → State
+after s setup deed =
     let terms = deed_terms s.core deed s.position (length s.output) setup in
     let uses = plan s.core terms deed in
     let effect = outcome s.core terms deed (given_at s.position terms.intake.count setup)
     (taken_from s.bytes uses.reads) in
     record {
       bytes = written_to s.bytes uses.writes effect.made;
-      core = effect.core;
+      core = stepped s.core effect.core;
       position = s.position + terms.intake.count;
       end_seen = seen_also s.end_seen terms.intake.ends;
       output = s.output ++ effect.output;
@@ -180,19 +181,19 @@ stepped s setup deed =
       events = s.events ++ effect.raised;
     }
 
-exec-is : (s : State) (setup : Setup) → exec s setup ≡ stepped s setup (deed_at s.core s.bytes setup.hooks)
-unfolding exec intake_at uses_at effect_at
+exec-is : (s : State) (setup : Setup) → exec s setup ≡ after s setup (deed_at s.core s.bytes setup.hooks)
+unfolding exec intake_at uses_at effect_at outcome_at
 exec-is s setup = refl
 
-module _ (setup : Setup) (s : State) (qs : List Bits) (g : ℕ → ℕ) (bytes : HasBytes setup)
+module _ (setup : Setup) (s : State) (qs : Held) (g : ℕ → ℕ) (bytes : HasBytes setup)
     (opened : BlocksAreOpen s.core)
-    (a : RegistersAgree s.core.registers qs) (m : MemoriesAgree s.core.shadow s.bytes g) where
+    (a : HeldAgree (held-of s.core) qs) (m : MemoriesAgree s.core.shadow s.bytes g) where
   -- the state with the other registers and bytes
   abbrev other : State
   other = record s { bytes = g; core = swap s.core qs }
 
-  agree-after : (deed : Deed) → NoUse (stepped s setup deed).events
-      → StatesAgree (stepped s setup deed) (stepped other setup deed)
+  agree-after : (deed : Deed) → NoUse (after s setup deed).events
+      → StatesAgree (after s setup deed) (after other setup deed)
   agree-after deed none =
       let d = deeds-agree s.core qs a s.bytes g m opened s.position (length s.output) setup bytes deed
       (right-none s.events _ none) in
@@ -200,7 +201,7 @@ module _ (setup : Setup) (s : State) (qs : List Bits) (g : ℕ → ℕ) (bytes :
       record {
         memory = x.memory;
         registers = subst (λ (k : Core). RegistersAgree
-            (stepped s setup deed).core.registers k.registers) (sym x.core) x.agree;
+            (after s setup deed).core.registers k.registers) (sym x.core) x.agree.registers;
         shadow = ap (λ (k : Core). k.shadow) (sym x.core);
         pc = ap (λ (k : Core). k.pc) (sym x.core);
         status = ap (λ (k : Core). k.status) (sym x.core);
@@ -208,6 +209,9 @@ module _ (setup : Setup) (s : State) (qs : List Bits) (g : ℕ → ℕ) (bytes :
         blocks = ap (λ (k : Core). k.blocks) (sym x.core);
         isa = ap (λ (k : Core). k.isa) (sym x.core);
         reserved = ap (λ (k : Core). k.reserved) (sym x.core);
+        controls = subst (λ (k : Core). ControlsAgree
+            (after s setup deed).core.controls k.controls) (sym x.core) x.agree.controls;
+        steps = ap (λ (k : Core). (stepped s.core k).steps) (sym x.core);
         position = ap (λ (t : Terms). s.position + t.intake.count) d.terms;
         end_seen = ap (λ (t : Terms). seen_also s.end_seen t.intake.ends) d.terms;
         output = ap (λ o. s.output ++ o) x.output;
@@ -221,7 +225,7 @@ module _ (setup : Setup) (s : State) (qs : List Bits) (g : ℕ → ℕ) (bytes :
       let same = deed-same s.core qs a s.bytes g m opened s.position (length s.output) setup bytes
       (right-none s.events _ none') in
       subst₂ StatesAgree (sym (exec-is s setup))
-      (ap (stepped other setup) same ∙ sym (exec-is other setup))
+      (ap (after other setup) same ∙ sym (exec-is other setup))
       (agree-after (deed_at s.core s.bytes setup.hooks) none')
 
 -- the law of a step under one setup
@@ -232,7 +236,7 @@ StepAgrees setup =
 
 pub step-agrees : (setup : Setup) → HasBytes setup → StepAgrees setup
 step-agrees setup bytes s t opened d none =
-    let same : record s { bytes = t.bytes; core = swap s.core t.core.registers } ≡ t =
+    let same : record s { bytes = t.bytes; core = swap s.core (held-of t.core) } ≡ t =
     λ i. record {
       bytes = t.bytes;
       core = record {
@@ -244,6 +248,8 @@ step-agrees setup bytes s t opened d none =
         blocks = d.blocks i;
         isa = d.isa i;
         reserved = d.reserved i;
+        controls = t.core.controls;
+        steps = d.steps i;
       };
       position = d.position i;
       end_seen = d.end_seen i;
@@ -252,4 +258,5 @@ step-agrees setup bytes s t opened d none =
       events = d.events i;
     } in
     subst (λ (x : State). StatesAgree (exec s setup) (exec x setup)) same
-    (steps setup s t.core.registers t.bytes bytes opened d.registers d.memory none)
+    (steps setup s (held-of t.core) t.bytes bytes opened
+    (record { registers = d.registers; controls = d.controls }) d.memory none)

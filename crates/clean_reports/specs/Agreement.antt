@@ -38,6 +38,10 @@ pub record RegistersAgree (xs ys : List Bits) : Type 0 where
   pub count : length xs ≡ length ys
   pub each : (r : ℕ) → ValuesAgree (slice_index_or xs r (known 0)) (slice_index_or ys r (known 0))
 
+-- the control registers of each number agree
+abbrev pub ControlsAgree : (ℕ → Bits) → (ℕ → Bits) → Type 0
+ControlsAgree f g = (number : ℕ) → ValuesAgree (f number) (g number)
+
 -- two states agree where they are defined
 pub record StatesAgree (s t : State) : Type 0 where
   pub memory : MemoriesAgree s.core.shadow s.bytes t.bytes
@@ -49,6 +53,8 @@ pub record StatesAgree (s t : State) : Type 0 where
   pub blocks : s.core.blocks ≡ t.core.blocks
   pub isa : s.core.isa ≡ t.core.isa
   pub reserved : s.core.reserved ≡ t.core.reserved
+  pub controls : ControlsAgree s.core.controls t.core.controls
+  pub steps : s.core.steps ≡ t.core.steps
   pub position : s.position ≡ t.position
   pub end_seen : s.end_seen ≡ t.end_seen
   pub output : s.output ≡ t.output

@@ -30,7 +30,7 @@ use Rattle.shadow_memory.specs.declared.memory.Memory.{Memory}
 use Rattle.error_events.specs.declared.groups.Groups.{Groups}
 use Rattle.run_values.specs.declared.status.Status.TheVariants.{Running}
 
-none-made : (b : Bool) → cond b 0 0 ≡ 0
+none-made : (b : Bool) → ◌≡◌ {A = ℕ} (cond b 0 0) 0
 none-made true = refl
 none-made false = refl
 

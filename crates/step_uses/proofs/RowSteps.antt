@@ -1,6 +1,6 @@
 -- What an instruction leaves, where a register that it doesn't look at holds other bits.
 use Rattle.std.proofs.Common.{◌≡◌, ℕ, ◌+◌, ◌*◌, ◌/◌, ◌%◌, ◌^◌, ◌≤◌, ◌==◌, ◌&&◌, ◌||◌, ◌++◌, Bool, true, false}
-use Rattle.std.proofs.Common.{List, [], not, Option, Some, None, refl, ap, ap₂, subst, ◌∙◌, arith}
+use Rattle.std.proofs.Common.{List, [], cond, not, Option, Some, None, refl, ap, ap₂, subst, ◌∙◌, arith}
 use Rattle.std.proofs.lemmas.Bool.Decides.{nat_tests}
 use Rattle.definedness.specs.declared.Bits.{Bits}
 use Rattle.error_events.specs.declared.event.Event.{Event}
@@ -16,13 +16,16 @@ use Rattle.instructions.specs.declared.instruction.Instruction.TheVariants.{Load
 use Rattle.instructions.specs.declared.instruction.Instruction.TheVariants.{Branch, Load, Store, Immediate, Registers}
 use Rattle.instructions.specs.declared.instruction.Instruction.TheVariants.{Fence, CallEnvironment, Breakpoint}
 use Rattle.instructions.specs.declared.instruction.Instruction.TheVariants.{LoadReserved, StoreConditional, Update}
+use Rattle.instructions.specs.declared.instruction.Instruction.TheVariants.{Control, Barrier}
 use Rattle.shadow_memory.specs.Ranges.{byte_of, little_word}
-use Rattle.guest_elf.specs.Profiles.{is_aligned}
+use Rattle.guest_elf.specs.Profiles.{has_controls, is_aligned}
+use Rattle.run_values.specs.declared.status.Stop.TheVariants.{Illegal}
+use Rattle.guest_machine.specs.Controls.{barrier}
 use Rattle.guest_machine.specs.State.{Core}
 use Rattle.guest_machine.specs.Registers.{known, register, set_register, tested}
 use Rattle.guest_machine.specs.Effects.{Effect, branch, branch_errors, branch_tested, branched}
 use Rattle.guest_machine.specs.Effects.{jump_register, linked_jump, load, quiet, raising, results_in, store}
-use Rattle.guest_machine.specs.Effects.{moved_to, stored_core}
+use Rattle.guest_machine.specs.Effects.{moved_to, stops, stored_core}
 use Rattle.guest_machine.specs.Effects.{target}
 use Rattle.guest_machine.specs.Errors.{access_errors, event_unless, here, taken_undef, value_errors}
 use Rattle.guest_machine.specs.Exec.{Terms, calls_heap, reading, row_asks, row_effect, row_uses, writing}
@@ -203,6 +206,25 @@ jump-again core next r rd rs1 imm bits one h g =
     ∙ ap (λ k. raising k (value_errors core rs1))
     (linked-over (tested core rs1) next hint r rd to bits one (after-test core rs1 to (r == rd) true g))
 
+-- ---- a fence of fetches, or a wait for an interrupt
+
+barrier-other : (core : Core) (next r : ℕ) (bits : Bits) → barrier (put core r bits) next ≡ over (barrier core next) r bits
+unfolding barrier
+barrier-other core next r bits = go (has_controls core.isa)
+  where
+    go : (has : Bool) → cond has (quiet (moved_to (put core r bits) next)) (stops (put core r bits) Illegal)
+        ≡ over (cond has (quiet (moved_to core next)) (stops core Illegal)) r bits
+    go true = refl
+    go false = refl
+
+barrier-stays : (core : Core) (next r : ℕ) → register (barrier core next).core r ≡ register core r
+unfolding barrier register
+barrier-stays core next r = go (has_controls core.isa)
+  where
+    go : (has : Bool) → register (cond has (quiet (moved_to core next)) (stops core Illegal)).core r ≡ register core r
+    go true = refl
+    go false = refl
+
 -- ---- all instructions
 
 -- one that keeps the register
@@ -236,6 +258,8 @@ row-other core next (Some Breakpoint) r bits terms given taken h w = refl
 row-other core next (Some (LoadReserved rd rs1)) r bits terms given taken h w = cc
 row-other core next (Some (StoreConditional rd rs1 rs2)) r bits terms given taken h w = cc
 row-other core next (Some (Update update rd rs1 rs2)) r bits terms given taken h w = cc
+row-other core next (Some (Control access rd number operand)) r bits terms given taken h w = cc
+row-other core next (Some Barrier) r bits terms given taken h w = barrier-other core next r bits
 
 -- and leaves it as it is
 pub row-stays : (core : Core) (next : ℕ) (row : Option Instruction) (r : ℕ) (terms : Terms) (given : List ℕ)
@@ -265,6 +289,8 @@ row-stays core next (Some Breakpoint) r terms given taken h w = refl
 row-stays core next (Some (LoadReserved rd rs1)) r terms given taken h w = cc
 row-stays core next (Some (StoreConditional rd rs1 rs2)) r terms given taken h w = cc
 row-stays core next (Some (Update update rd rs1 rs2)) r terms given taken h w = cc
+row-stays core next (Some (Control access rd number operand)) r terms given taken h w = cc
+row-stays core next (Some Barrier) r terms given taken h w = barrier-stays core next r
 
 -- one that overwrites it
 pub row-again : (core : Core) (next : ℕ) (row : Option Instruction) (r : ℕ) (bits : Bits) (terms : Terms)
@@ -296,6 +322,8 @@ row-again core next (Some Breakpoint) r bits terms given taken one h w = cc
 row-again core next (Some (LoadReserved rd rs1)) r bits terms given taken one h w = cc
 row-again core next (Some (StoreConditional rd rs1 rs2)) r bits terms given taken one h w = cc
 row-again core next (Some (Update update rd rs1 rs2)) r bits terms given taken one h w = cc
+row-again core next (Some (Control access rd number operand)) r bits terms given taken one h w = cc
+row-again core next (Some Barrier) r bits terms given taken one h w = cc
 
 -- and what it reads and writes of memory is the same
 pub uses-other : (core : Core) (row : Option Instruction) (r : ℕ) (bits : Bits) (terms : Terms) → reads row r ≡ false
@@ -319,6 +347,8 @@ uses-other core (Some Breakpoint) r bits terms h = refl
 uses-other core (Some (LoadReserved rd rs1)) r bits terms h = cc
 uses-other core (Some (StoreConditional rd rs1 rs2)) r bits terms h = cc
 uses-other core (Some (Update update rd rs1 rs2)) r bits terms h = cc
+uses-other core (Some (Control access rd number operand)) r bits terms h = cc
+uses-other core (Some Barrier) r bits terms h = refl
 
 -- no such instruction is a call of the environment
 pub no-heap : (core : Core) (row : Option Instruction) (r : ℕ) → reads row r ≡ false → calls_heap core row ≡ false
@@ -339,6 +369,8 @@ no-heap core (Some Breakpoint) r h = refl
 no-heap core (Some (LoadReserved rd rs1)) r h = cc
 no-heap core (Some (StoreConditional rd rs1 rs2)) r h = cc
 no-heap core (Some (Update update rd rs1 rs2)) r h = cc
+no-heap core (Some (Control access rd number operand)) r h = cc
+no-heap core (Some Barrier) r h = refl
 
 pub asks-none : (core : Core) (row : Option Instruction) (r : ℕ) → reads row r ≡ false → row_asks core row ≡ None
 unfolding row_asks reads
@@ -358,3 +390,5 @@ asks-none core (Some Breakpoint) r h = refl
 asks-none core (Some (LoadReserved rd rs1)) r h = cc
 asks-none core (Some (StoreConditional rd rs1 rs2)) r h = cc
 asks-none core (Some (Update update rd rs1 rs2)) r h = cc
+asks-none core (Some (Control access rd number operand)) r h = cc
+asks-none core (Some Barrier) r h = refl

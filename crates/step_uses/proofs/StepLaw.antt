@@ -18,7 +18,7 @@ use Rattle.guest_machine.specs.Effects.{Effect, next_of, quiet, stops}
 use Rattle.guest_machine.specs.Errors.{event_about, fetch_errors}
 use Rattle.guest_machine.specs.StackPointer.{stack_ruled}
 use Rattle.guest_machine.specs.Exec.{Deed, Takes, Cut, CallsByName, Halts, Terms, Uses, called_here, calls_heap}
-use Rattle.guest_machine.specs.Exec.{counted}
+use Rattle.guest_machine.specs.Exec.{counted, outcome_at, stepped}
 use Rattle.guest_machine.specs.Exec.{deed_asks, deed_at, deed_terms, effect_at, exec, fetch_fault, fetched, fetches}
 use Rattle.guest_machine.specs.Exec.{given_at, intake_at, intake_of, is_heap_deed, is_running, jump_fault}
 use Rattle.guest_machine.specs.Exec.{left_at, outcome, plan, rounded, row_asks, row_effect, row_uses, seen_also}
@@ -194,7 +194,7 @@ module _ (s : State) (setup : Setup) (len : ℕ) (row : Option Instruction) (r :
       let intake = intake_of asks (left_at s.position setup) in
       λ i. record {
         bytes = written_to s.bytes (u i).writes (e i).made;
-        core = (e i).core;
+        core = stepped s.core (e i).core;
         position = s.position + intake.count;
         end_seen = seen_also s.end_seen intake.ends;
         output = s.output ++ (e i).output;
@@ -213,7 +213,7 @@ module _ (s : State) (setup : Setup) (len : ℕ) (row : Option Instruction) (r :
       let intake = intake_of asks (left_at s.position setup) in
       λ i. record {
         bytes = written_to s.bytes (u i).writes (e i).made;
-        core = (e i).core;
+        core = stepped s.core (e i).core;
         position = s.position + intake.count;
         end_seen = seen_also s.end_seen intake.ends;
         output = s.output ++ (e i).output;
@@ -261,7 +261,7 @@ unfolding by swapped
 halt-kept s setup r bits =
     ap (λ e. record {
       bytes = s.bytes;
-      core = e.core;
+      core = stepped s.core e.core;
       position = s.position + 0;
       end_seen = s.end_seen;
       output = s.output ++ e.output;
@@ -300,7 +300,7 @@ unfolding by swapped
 cut-kept s setup r bits =
     ap (λ e. record {
       bytes = s.bytes;
-      core = e.core;
+      core = stepped s.core e.core;
       position = s.position + 0;
       end_seen = s.end_seen;
       output = s.output ++ e.output;
@@ -325,7 +325,7 @@ by-kept s setup r bits Halts h = halt-kept s setup r bits
 
 by-stays : (s : State) (setup : Setup) (r : ℕ) (deed : Deed) → passing_deed s.core deed r ≡ Keeps
     → register (by s setup deed).core r ≡ register s.core r
-unfolding by passing_deed
+unfolding by passing_deed register
 by-stays s setup r (Takes code) h =
     rounded-stays s.core (len_of code) (next_of s.core (len_of code)) (row_of_code code) r (register s.core r) _ _ _
     (kept s.core (row_of_code code) r h)
@@ -364,7 +364,7 @@ halted-core core h =
 
 pub runs-before : (s : State) (setup : Setup) → is_running (exec s setup).core.status ≡ true
     → is_running s.core.status ≡ true
-unfolding exec intake_at uses_at effect_at by
+unfolding exec intake_at uses_at effect_at outcome_at by
 runs-before s setup then = go (is_running s.core.status) refl
   where
     go : (b : Bool) → is_running s.core.status ≡ b → b ≡ true
@@ -380,7 +380,7 @@ unfolding with_register swapped
 with-is s r bits one = ap (λ core. record s { core = core }) (set-is s.core r bits one)
 
 pub keeps-registers : KeepsRegisters
-unfolding exec intake_at uses_at effect_at called_here fetched fetches passing by swapped
+unfolding exec intake_at uses_at effect_at outcome_at called_here fetched fetches passing by swapped
 keeps-registers s setup r bits one h =
     let deed = deed_at s.core s.bytes setup.hooks in (
       ap (λ t. exec t setup) (with-is s r bits one) ∙ by-kept s setup r bits deed h
@@ -389,7 +389,7 @@ keeps-registers s setup r bits one h =
     )
 
 pub overwrites-registers : OverwritesRegisters
-unfolding exec intake_at uses_at effect_at called_here fetched fetches passing by swapped
+unfolding exec intake_at uses_at effect_at outcome_at called_here fetched fetches passing by swapped
 overwrites-registers s setup r bits one h =
     ap (λ t. exec t setup) (with-is s r bits one)
     ∙ by-replaced s setup r bits (deed_at s.core s.bytes setup.hooks) one h

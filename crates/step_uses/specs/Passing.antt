@@ -8,7 +8,7 @@ use Rattle.instructions.specs.declared.instruction.Instruction.{Instruction}
 use Rattle.instructions.specs.declared.instruction.Instruction.TheVariants.{LoadUpper, AddUpper, Jump, JumpRegister}
 use Rattle.instructions.specs.declared.instruction.Instruction.TheVariants.{Branch, Load, Store, Immediate, Registers}
 use Rattle.instructions.specs.declared.instruction.Instruction.TheVariants.{CallEnvironment, LoadReserved}
-use Rattle.instructions.specs.declared.instruction.Instruction.TheVariants.{StoreConditional, Update}
+use Rattle.instructions.specs.declared.instruction.Instruction.TheVariants.{StoreConditional, Update, Control}
 use Rattle.guest_elf.specs.Profiles.{is_aligned}
 use Rattle.guest_machine.specs.State.{Core, State}
 use Rattle.guest_machine.specs.Registers.{set_register}
@@ -19,7 +19,8 @@ use Rattle.step_uses.specs.declared.passing.Passing.{Passing}
 use Rattle.step_uses.specs.declared.passing.Passing.TheVariants.{Looks, Keeps, Overwrites}
 
 -- is a register an operand of an instruction? Each register counts as one of an environment call, as the values of some
--- decide which others the call looks at, and of an atomic instruction, which is a load, a store or both
+-- decide which others the call looks at, of an atomic instruction, which is a load, a store or both, and of one of a
+-- control register
 unfoldable pub reads : Option Instruction → ℕ → Bool
 reads (Some (JumpRegister rd rs1 imm)) r = r == rs1
 reads (Some (Branch test rs1 rs2 imm)) r = (r == rs1) || (r == rs2)
@@ -31,6 +32,7 @@ reads (Some CallEnvironment) r = true
 reads (Some (LoadReserved rd rs1)) r = true
 reads (Some (StoreConditional rd rs1 rs2)) r = true
 reads (Some (Update update rd rs1 rs2)) r = true
+reads (Some (Control access rd number operand)) r = true
 reads _ r = false
 
 -- is it the destination of an instruction?

@@ -40,6 +40,7 @@ fn reads(row: &Instruction, register: Register) -> bool
         Instruction::LoadReserved { .. } => true,
         Instruction::StoreConditional { .. } => true,
         Instruction::Update { .. } => true,
+        Instruction::Control { .. } => true,
         _ => false,
     }
 }

@@ -1,7 +1,7 @@
 //! Instructions of control registers. Each is given the address after it, `next`.
-ghost use Rattle.std.specs.Prelude.{◌≡◌, true, OnOk};
+ghost use Rattle.std.specs.Prelude.{◌≡◌, true, false, OnOk};
 ghost use Rattle.guest_elf.specs.Profiles.{has_controls};
-ghost use Rattle.guest_machine.specs.Controls.{barrier, control, control_effect, controls_after, has_control, is_counter, is_read_only, is_upper_counter, operand_of};
+ghost use Rattle.guest_machine.specs.Controls.{barrier, control, control_effect, controls_after, is_counter, is_read_only, is_upper_counter, operand_of};
 ghost use Rattle.guest_machine.specs.Doing.{Does, Sets};
 ghost use Rattle.guest_machine.specs.Exec.{no_intake, nothing};
 ghost use Rattle.guest_machine.specs.Shows.{core_of};
@@ -50,7 +50,7 @@ impl Guest {
         ensures { result ≡ control (core_of self.now) number }
     {
         if is_counter(number) {
-            known(self.steps as u32)
+            known((self.steps % 0x1_0000_0000) as u32)
         } else if is_upper_counter(number) {
             known((self.steps >> 32) as u32)
         } else {
@@ -60,21 +60,13 @@ impl Guest {
 
     /// The word of an operand.
     #[tactic(auto, unfolding(crate::specs::Controls::operand_of))]
-    fn operand_of(&self, operand: ControlOperand) -> Bits
-        ensures { result ≡ operand_of (core_of self.now) operand }
+    fn operand_of(&self, operand: &ControlOperand) -> Bits
+        ensures { result ≡ operand_of (core_of self.now) operand.now }
     {
-        match operand {
+        match *operand {
             ControlOperand::Register(r) => self.read_register(r),
             ControlOperand::Immediate(n) => known(u32::from(n)),
         }
-    }
-
-    /// Whether the machine has the instruction.
-    #[tactic(auto, unfolding(crate::specs::Controls::has_control))]
-    fn has_control(&self, access: ControlAccess, number: u16, operand: ControlOperand) -> bool
-        ensures { result ≡ has_control (core_of self.now) access number operand }
-    {
-        self.isa.has_controls() && !(access.writes(operand) && is_read_only(number))
     }
 
     /// Puts what replaces the word in a control register there, if it is written and is no counter.
@@ -83,22 +75,46 @@ impl Guest {
         &mut self,
         access: ControlAccess,
         number: u16,
-        operand: ControlOperand,
+        operand: &ControlOperand,
     ) -> Result<(), AllocError>
         requires { has_controls (core_of self.old).isa ≡ true }
         ensures { OnOk result (Sets self.old self.new (record (core_of self.old) {
-            controls = controls_after (core_of self.old) access number operand })) }
+            controls = controls_after (core_of self.old) access number operand.now })) }
     {
-        if access.writes(operand) && !(is_counter(number) || is_upper_counter(number)) {
+        if access.writes(*operand) && !(is_counter(number) || is_upper_counter(number)) {
             let word = replaced(access, self.control(number), self.operand_of(operand));
             self.controls.write(number, word)?;
         }
         Ok(())
     }
 
+    /// Executes an instruction of a control register, where there are some.
+    #[tactic(auto, unfolding(crate::specs::Controls::control_effect, crate::specs::Controls::has_control, crate::specs::Doing::note_events))]
+    fn exchange(
+        &mut self,
+        next: u32,
+        access: ControlAccess,
+        rd: Register,
+        number: u16,
+        operand: &ControlOperand,
+    ) -> Result<(), AllocError>
+        requires { has_controls (core_of self.old).isa ≡ true }
+        ensures { OnOk result (Does self.old self.new (control_effect (core_of self.old) next access rd number operand.now) nothing false no_intake) }
+    {
+        if access.writes(*operand) && is_read_only(number) {
+            self.stop(Stop::Illegal);
+            return Ok(());
+        }
+        let word = self.control(number);
+        self.write_control(access, number, operand)?;
+        self.set_register(rd, word);
+        self.advance(next);
+        Ok(())
+    }
+
     /// Executes an instruction of a control register.
     #[inline(never)]
-    #[tactic(auto, unfolding(crate::specs::Controls::control_effect, crate::specs::Doing::note_events))]
+    #[tactic(auto, unfolding(crate::specs::Controls::control_effect, crate::specs::Controls::has_control, crate::specs::Doing::note_events))]
     pub(super) fn access_control(
         &mut self,
         next: u32,
@@ -109,15 +125,11 @@ impl Guest {
     ) -> Result<(), AllocError>
         ensures { OnOk result (Does self.old self.new (control_effect (core_of self.old) next access rd number operand) nothing false no_intake) }
     {
-        if !self.has_control(access, number, operand) {
+        if !self.isa.has_controls() {
             self.stop(Stop::Illegal);
             return Ok(());
         }
-        let word = self.control(number);
-        self.write_control(access, number, operand)?;
-        self.set_register(rd, word);
-        self.advance(next);
-        Ok(())
+        self.exchange(next, access, rd, number, &operand)
     }
 
     /// Goes on at FENCE.I and at WFI.

@@ -1,6 +1,7 @@
 //! What the next step has to do with the program's input and output, and steps up to one that may have.
 ghost use Rattle.std.specs.Prelude.{◌≡◌, ◌≤◌, ℕ, List, [], false, IfOk, IsTrue, Some};
 ghost use Rattle.guest_elf.specs.declared.hook.Hook.{Hook as HookOf};
+ghost use Rattle.guest_elf.specs.Profiles.{has_controls};
 ghost use Rattle.guest_machine.specs.State.{State};
 ghost use Rattle.guest_machine.specs.Calls.{call_at};
 ghost use Rattle.guest_machine.specs.Exec.{call_asks, deed_at, intake_at, row_asks};
@@ -200,6 +201,13 @@ impl Machine {
         self.guest.is_idle(&setup.hooks)
     }
 
+    /// Whether the number of steps is counted.
+    fn counts_steps(&self) -> bool
+        ensures { (s : State) → Shows self.now s → result ≡ has_controls s.core.isa }
+    {
+        self.isa().has_controls()
+    }
+
     /// Whether the machine has halted, or is in a jump to itself and counts no steps: a step leaves it as it is then
     /// ([`laws::stays_at_rest`](crate::laws::stays_at_rest)).
     #[tactic(auto, unfolding(crate::specs::Shows::Shows))]
@@ -207,7 +215,7 @@ impl Machine {
         ensures { IsTrue result → (s : State) → Shows self.now s → Rests s setup.now }
     {
         let _pc = self.pc();
-        !self.guest.runs() || (!self.guest.isa.has_controls() && self.is_idle(setup))
+        !self.guest.runs() || (!self.counts_steps() && self.is_idle(setup))
     }
 
     /// Makes steps up to the first that may be an ECALL, `steps` at most, and returns how many. A halted machine makes none. A machine for
