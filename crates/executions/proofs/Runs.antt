@@ -5,7 +5,7 @@ use Rattle.guest_machine.specs.State.{State}
 use Rattle.guest_machine.specs.Exec.{exec}
 use Rattle.guest_machine.specs.Run.{pre, after_marks}
 use Rattle.guest_machine.specs.Streams.{calls_out, row_at, refused_writes, refuses_write, IsQuietFor, Rests}
-use Rattle.guest_machine.specs.Streams.{SameStreams}
+use Rattle.guest_machine.specs.Streams.{SameStreams, rested}
 use Rattle.guest_machine.specs.Streams.{OnlyCallsSpeak, StaysAtRest}
 use Rattle.guest_machine.specs.declared.setup.Setup.{Setup}
 
@@ -88,21 +88,10 @@ module _ (law : OnlyCallsSpeak) (start : State) (setup : Setup) (n : ℕ) where
   silence-of k quiet = silence k (λ i less. ap (λ s. calls_out (row_at s setup)) (sym (joined start setup n i))
       ∙ quiet i less)
 
-  -- a state at rest stays
-  resting : StaysAtRest → Rests (pre start setup [] n) setup → (k : ℕ) → pre start setup [] (n + k)
-      ≡ pre start setup [] n
-  resting rest h zero = ap (pre start setup []) (add-zero n)
-  resting rest h (suc k) =
-      let next : n + suc k ≡ suc (n + k) = omega arith in
-      let before = resting rest h k in
-      ap (pre start setup []) next ∙ one-more start setup (n + k) ∙ ap (λ t. exec t setup) before
-      ∙ (rest setup (pre start setup [] n) h).0
-
+  -- a state at rest only counts its steps
   pub rests-on : StaysAtRest → Rests (pre start setup [] n) setup → (k : ℕ)
-      → (pre start setup [] (n + k) ≡ pre start setup [] n) × (refused_writes start setup (n + k)
-      ≡ refused_writes start setup n)
+      → (pre start setup [] (n + k) ≡ rested (pre start setup [] n) k) × Silence start setup n k
   rests-on rest h k = (
-    resting rest h k,
-    (silence k (λ i less. ap (λ s. calls_out (row_at s setup)) (resting rest h i)
-        ∙ (rest setup (pre start setup [] n) h).1)).refused,
+    sym (joined start setup n k) ∙ (rest setup (pre start setup [] n) h k).0,
+    silence-of k (λ i less. (rest setup (pre start setup [] n) h i).1),
   )

@@ -15,7 +15,7 @@ use Rattle.guest_machine.specs.Exec.{exec}
 use Rattle.guest_machine.specs.Run.{pre}
 use Rattle.guest_machine.specs.Shows.{Shows}
 use Rattle.guest_machine.specs.Streams.{refuses_write, refused_writes, row_at, HasMore, IsQuietFor, KeepsFront}
-use Rattle.guest_machine.specs.Streams.{OnlyCallsSpeak}
+use Rattle.guest_machine.specs.Streams.{OnlyCallsSpeak, rested}
 use Rattle.guest_machine.specs.Streams.{Rests, SameStreams, StaysAtRest, WritesWhatItReads, bytes_over, sees_end}
 use Rattle.guest_machine.specs.Exec.{seen_also, touched_of}
 use Rattle.std.proofs.Common.{Result, Ok, Err, IfErr}
@@ -69,23 +69,24 @@ silently law sc old new made was on within kept shows quiet =
 -- at rest, up to any later step
 pub at-rest : OnlyCallsSpeak → StaysAtRest → (sc : Scenario) (old new : Execution) → IsAt old sc
     → step_of old ≤ step_of new → step_of new ≤ sc.step → refused_of new ≡ refused_of old
-    → machine_of new ≡ machine_of old → Rests (state_at sc (step_of old)) sc.setup → GoesOnSilently sc old new
-at-rest law rest sc old new was on within kept same h =
+    → ((s : State) → Shows (machine_of old) s → Shows (machine_of new) (rested s (step_of new - step_of old)))
+    → Rests (state_at sc (step_of old)) sc.setup → GoesOnSilently sc old new
+at-rest law rest sc old new was on within kept shows h =
     let start = first_state sc in
     let n = step_of old in
     let far : step_of new ≡ n + (step_of new - n) = omega (arith, on) in
     let stays = rests-on law start sc.setup n rest h (step_of new - n) in
-    let there : state_at sc (step_of new) ≡ state_at sc n = ap (state_at sc) far ∙ stays.0 in (
+    let there : state_at sc (step_of new) ≡ rested (state_at sc n) (step_of new - n) =
+    ap (state_at sc) far ∙ stays.0 in (
       record {
         at = record {
-          shows = subst (λ m. Shows m (state_at sc (step_of new))) (sym same)
-              (subst (Shows (machine_of old)) (sym there) was.shows);
-          refused = kept ∙ was.refused ∙ sym stays.1 ∙ ap (refused_at sc) (sym far);
+          shows = subst (Shows (machine_of new)) (sym there) (shows (state_at sc n) was.shows);
+          refused = kept ∙ was.refused ∙ sym stays.1.refused ∙ ap (refused_at sc) (sym far);
         };
         on = on;
         within = within;
       },
-      subst (SameStreams (state_at sc n)) (sym there) (same-self (state_at sc n)),
+      subst (λ m. SameStreams (state_at sc n) (state_at sc m)) (sym far) stays.1.same,
     )
 
 -- ---- what is written

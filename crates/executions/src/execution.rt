@@ -101,12 +101,13 @@ impl Execution {
         stays_at_rest();
         let Execution {
             machine,
+            at,
             refused,
-            ..
         } = self;
+        let last = scenario.step();
         Execution {
-            machine,
-            at: scenario.step(),
+            machine: machine.rest_for(last - at),
+            at: last,
             refused,
         }
     }

@@ -50,7 +50,7 @@ after s e =
     }
 
 -- no step counts where the machine doesn't run
-uncounted : (core : Core) → is_running core.status ≡ false → stepped core core ≡ core
+pub uncounted : (core : Core) → is_running core.status ≡ false → stepped core core ≡ core
 uncounted core h =
     ap (λ b. record core { steps = cond (b && is_aligned core.isa core.pc) (steps_on core) core.steps }) h
 

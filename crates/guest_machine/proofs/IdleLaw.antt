@@ -1,8 +1,8 @@
--- A state that rests in a jump to itself stays as it is.
+-- A state that rests in a jump to itself stays as it is, but for the number of steps.
 use Rattle.std.proofs.Common.{◌≡◌, inl, inr, ℕ, ◌+◌, ◌%◌, ◌^◌, ◌<◌, ◌&&◌, ◌==◌, nat_lt, Bool, true}
 use Rattle.std.proofs.Common.{false, cond, [], ◌∷◌}
 use Rattle.std.proofs.Common.{◌++◌, append-nil, Option, Some, None, refl, ap, sym, ◌∙◌, arith}
-use Rattle.std.proofs.Common.{add-zero}
+use Rattle.std.proofs.Common.{add-zero, suc, zero}
 use Rattle.std.proofs.lemmas.Bool.Decides.{nat_tests}
 use Rattle.guest_elf.specs.Profiles.{has_controls, is_aligned}
 use Rattle.guest_elf.specs.declared.hook.Hook.{Hook}
@@ -28,13 +28,15 @@ use Rattle.run_values.specs.declared.status.Stop.TheVariants.{Misaligned}
 use Rattle.guest_machine.specs.Exec.{Deed, Takes, Cut, CallsByName, Halts, deed_at, deed_by, exec}
 use Rattle.guest_machine.specs.Exec.{called_here, fetched, intake_at}
 use Rattle.guest_machine.specs.Exec.{row_asks, row_effect, row_uses, uses_at, effect_at}
-use Rattle.guest_machine.specs.Exec.{calls_heap, is_ready, is_running, outcome_at, stepped, steps_on}
+use Rattle.guest_machine.specs.Exec.{calls_heap, is_ready, is_running, outcome_at, stepped}
+use Rattle.guest_machine.specs.Run.{pre}
 use Rattle.guest_machine.specs.Streams.{calls_out, is_defined, is_idle, is_self_jump, jumps_to_itself, row_at, row_in}
-use Rattle.guest_machine.specs.Streams.{self_jump, short_self_jump, StaysAtRest}
+use Rattle.guest_machine.specs.Streams.{rested, self_jump, short_self_jump, Rests, StaysAtRest}
 use Rattle.guest_machine.specs.declared.setup.Setup.{Setup}
 use Rattle.guest_machine.proofs.Deeds.{by, by-row}
 use Rattle.guest_machine.proofs.Fetching.{at_start, may_fetch}
-use Rattle.guest_machine.proofs.Halted.{halts, stays-halted}
+use Rattle.guest_machine.proofs.Halted.{halts, stays-halted, uncounted}
+use Rattle.guest_machine.proofs.Running.{none-yet, one-more}
 
 both : (p q : Bool) → p && q ≡ true → (p ≡ true) × (q ≡ true)
 both true q h = (refl, h)
@@ -107,29 +109,21 @@ after s e =
       events = s.events ++ e.raised;
     }
 
--- no step counts where there are no counters
-uncounted : (ready : Bool) (core : Core) → has_controls core.isa ≡ false
-    → record core { steps = cond ready (steps_on core) core.steps } ≡ core
-uncounted true core h = ap (λ b. record core { steps = cond b ((core.steps + 1) % 2 ^ 64) core.steps }) h
-uncounted false core h = refl
-
 jumped-state : (s : State) (setup : Setup) (len : ℕ) → s.core.pc < 2 ^ 32 → is_aligned s.core.isa s.core.pc ≡ true
-    → (fetch_undef s.core len == 0) ≡ true → has_controls s.core.isa ≡ false
-    → by-row s setup len (Some (Jump 0 0)) (calls_heap s.core (Some (Jump 0 0))) (row_asks s.core (Some (Jump 0 0))) ≡ s
+    → (fetch_undef s.core len == 0) ≡ true
+    → by-row s setup len (Some (Jump 0 0)) (calls_heap s.core (Some (Jump 0 0))) (row_asks s.core (Some (Jump 0 0)))
+    ≡ record s { core = stepped s.core s.core }
 unfolding by-row row_asks row_uses row_effect calls_heap event_unless after
-jumped-state s setup len small aligned defined none =
+jumped-state s setup len small aligned defined =
     let there = jumps-here s.core (next_of s.core len) small aligned in
     let core : stack_ruled (register s.core 2)
     (linked_jump s.core (next_of s.core len) (jal_hint 0) 0 ((s.core.pc + 0) % 2 ^ 32)) ≡ s.core =
     ap (λ core. stack_ruled (register s.core 2) core) there ∙ stack-stands s.core in
-    let counted : stepped s.core (stack_ruled (register s.core 2)
-    (linked_jump s.core (next_of s.core len) (jal_hint 0) 0 ((s.core.pc + 0) % 2 ^ 32))) ≡ s.core =
-    ap (stepped s.core) core ∙ uncounted (is_ready s.core) s.core none in
     let raised : fetch_errors s.core len ++ [] ≡ [] =
     ap (λ b. cond b [] (event_of (here s.core) Value Absent ∷ []) ++ []) defined in
     λ i. record {
       bytes = s.bytes;
-      core = counted i;
+      core = stepped s.core (core i);
       position = add-zero s.position i;
       end_seen = s.end_seen;
       output = append-nil s.output i;
@@ -138,9 +132,9 @@ jumped-state s setup len small aligned defined none =
     }
 
 idle-step : (setup : Setup) (s : State) → s.core.pc < 2 ^ 32 → is_idle s setup ≡ true
-    → has_controls s.core.isa ≡ false → exec s setup ≡ s
+    → exec s setup ≡ record s { core = stepped s.core s.core }
 unfolding exec intake_at uses_at effect_at outcome_at is_idle by by-row
-idle-step setup s small idle none =
+idle-step setup s small idle =
     let deed = deed_at s.core s.bytes setup.hooks in
     let parts = both (jumps_to_itself deed) (is_defined s.core deed) idle in
     let found = idle-deed deed parts.0 in
@@ -149,7 +143,7 @@ idle-step setup s small idle none =
     let aligned = at_start s.core (may_fetch s.core s.bytes found.0 fetch) in
     ap (by s setup) found.1.0
     ∙ ap (λ row. by-row s setup (len_of found.0) row (calls_heap s.core row) (row_asks s.core row)) found.1.1
-    ∙ jumped-state s setup (len_of found.0) small aligned defined none
+    ∙ jumped-state s setup (len_of found.0) small aligned defined
 
 quiet-jump : (deed : Deed) → jumps_to_itself deed ≡ true → calls_out (row_in deed) ≡ false
 unfolding calls_out row_in
@@ -161,12 +155,81 @@ quiet-halt : (s : State) (setup : Setup) → is_running s.core.status ≡ false 
 unfolding row_at row_in calls_out
 quiet-halt s setup h = ap (λ deed. calls_out (row_in deed)) (halts s.core s.bytes setup.hooks h)
 
-pub stays-at-rest : StaysAtRest
+-- ---- a state at rest
+
+rest-step : (setup : Setup) (s : State) → Rests s setup → exec s setup ≡ record s { core = stepped s.core s.core }
+rest-step setup s (inl halted) =
+    (stays-halted setup s halted).0 ∙ ap (λ core. record s { core = core }) (sym (uncounted s.core halted))
+rest-step setup s (inr idle) = idle-step setup s idle.within idle.idle
+
+quiet-at-rest : (setup : Setup) (s : State) → Rests s setup → calls_out (row_at s setup) ≡ false
 unfolding is_idle row_at
-stays-at-rest setup s (inl halted) = ((stays-halted setup s halted).0, quiet-halt s setup halted)
-stays-at-rest setup s (inr idle) = (
-  idle-step setup s idle.within idle.idle idle.uncounted,
-  quiet-jump (deed_at s.core s.bytes setup.hooks)
-      (both (jumps_to_itself (deed_at s.core s.bytes setup.hooks))
-      (is_defined s.core (deed_at s.core s.bytes setup.hooks)) idle.idle).0,
-)
+quiet-at-rest setup s (inl halted) = quiet-halt s setup halted
+quiet-at-rest setup s (inr idle) =
+    let deed = deed_at s.core s.bytes setup.hooks in
+    quiet-jump deed (both (jumps_to_itself deed) (is_defined s.core deed) idle.idle).0
+
+-- it rests with another number of steps too
+idle-with : (setup : Setup) (s : State) (steps : ℕ)
+    → is_idle (record s { core = record s.core { steps = steps } }) setup ≡ is_idle s setup
+unfolding is_idle called_here fetched fetches
+idle-with setup s steps = refl
+
+few-steps : (b : Bool) (x n : ℕ) → x < 2 ^ 64 → cond b ((x + n) % 2 ^ 64) x < 2 ^ 64
+few-steps true x n h = omega arith
+few-steps false x n h = h
+
+rests-on : (setup : Setup) (s : State) (n : ℕ) → Rests s setup → Rests (rested s n) setup
+unfolding rested
+rests-on setup s n (inl halted) = inl halted
+rests-on setup s n (inr idle) = inr (record {
+  within = idle.within;
+  counted = few-steps (is_ready s.core && has_controls s.core.isa) s.core.steps n idle.counted;
+  idle = idle-with setup s _ ∙ idle.idle;
+})
+
+-- after no steps, and after another one
+steps-none : (b : Bool) (x : ℕ) → x < 2 ^ 64 → x ≡ cond b ((x + 0) % 2 ^ 64) x
+steps-none true x h = omega arith
+steps-none false x h = refl
+
+rested-none : (setup : Setup) (s : State) → Rests s setup → s ≡ rested s 0
+unfolding rested
+rested-none setup s (inl halted) =
+    sym (ap (λ b. record s {
+      core = record s.core {
+        steps = cond ((b && is_aligned s.core.isa s.core.pc) && has_controls s.core.isa)
+            ((s.core.steps + 0) % 2 ^ 64) s.core.steps;
+      };
+    }) halted)
+rested-none setup s (inr idle) =
+    ap (λ n. record s { core = record s.core { steps = n } })
+    (steps-none (is_ready s.core && has_controls s.core.isa) s.core.steps idle.counted)
+
+steps-next : (ready has : Bool) (x n : ℕ)
+    → cond ready (cond has ((cond (ready && has) ((x + n) % 2 ^ 64) x + 1) % 2 ^ 64)
+    (cond (ready && has) ((x + n) % 2 ^ 64) x)) (cond (ready && has) ((x + n) % 2 ^ 64) x)
+    ≡ cond (ready && has) ((x + suc n) % 2 ^ 64) x
+steps-next true true x n = omega arith
+steps-next true false x n = refl
+steps-next false has x n = refl
+
+rested-next : (s : State) (n : ℕ)
+    → record (rested s n) { core = stepped (rested s n).core (rested s n).core } ≡ rested s (suc n)
+unfolding rested
+rested-next s n =
+    ap (λ k. record s { core = record s.core { steps = k } })
+    (steps-next (is_ready s.core) (has_controls s.core.isa) s.core.steps n)
+
+rests-for : (setup : Setup) (s : State) → Rests s setup → (n : ℕ) → pre s setup [] n ≡ rested s n
+rests-for setup s h zero = none-yet s setup ∙ rested-none setup s h
+rests-for setup s h (suc n) =
+    one-more s setup n ∙ ap (λ t. exec t setup) (rests-for setup s h n)
+    ∙ rest-step setup (rested s n) (rests-on setup s n h) ∙ rested-next s n
+
+pub stays-at-rest : StaysAtRest
+stays-at-rest setup s h n =
+    let there = rests-for setup s h n in (
+      there,
+      ap (λ t. calls_out (row_at t setup)) there ∙ quiet-at-rest setup (rested s n) (rests-on setup s n h),
+    )

@@ -18,6 +18,9 @@ use Rattle.guest_machine.specs.Exec.{seen_also, intake_at}
 use Rattle.guest_machine.specs.Acting.{IsDone}
 use Rattle.guest_machine.specs.Alterations.{altered, altered_bytes, altered_core}
 use Rattle.guest_machine.specs.Run.{poked}
+use Rattle.guest_machine.specs.Streams.{rested, rested_core}
+use Rattle.guest_machine.specs.declared.machine.Noted.{Noted}
+use Rattle.guest_machine.specs.declared.machine.Progress.{Progress}
 use Rattle.instructions.specs.Codes.{len_of, number_of}
 use Rattle.instructions.specs.declared.code.Code.{Code}
 use Rattle.error_events.specs.Adding.{add_event, add_events, GroupsGrowBy}
@@ -25,7 +28,7 @@ use Rattle.error_events.specs.Shown.{groups_of}
 use Rattle.error_events.specs.declared.event.Event.{Event}
 use Rattle.error_events.specs.declared.event.Group.{Group}
 use Rattle.guest_machine.specs.Shows.{core_of, bytes_of, Holds}
-use Rattle.guest_machine.specs.Doing.{noted_of, note_events, touched_by, DoesStep}
+use Rattle.guest_machine.specs.Doing.{noted_of, note_events, touched_by, DoesStep, Sets}
 use Rattle.shadow_memory.specs.declared.memory.Memory.{Memory}
 use Rattle.guest_machine.specs.declared.machine.Guest.{Guest}
 use Rattle.guest_machine.specs.declared.setup.Setup.{Setup}
@@ -77,6 +80,20 @@ shown m s = record {
   output = s.output;
   heap_calls = m.progress.heap_calls;
   events = s.events;
+}
+
+-- a guest that has rested
+pub holds-rested : (old new : Guest) (n : ℕ) → Sets old new (rested_core (core_of old) n) → (s : State) → Holds old s
+    → Holds new (rested s n)
+unfolding rested
+holds-rested old new n d s h = record {
+  bytes = ap bytes_in d.memory ∙ h.bytes;
+  core = d.core ∙ ap (λ core. rested_core core n) h.core;
+  position = ap (λ (p : Progress). p.position) d.progress ∙ h.position;
+  end_seen = ap (λ (p : Progress). p.end_seen) d.progress ∙ h.end_seen;
+  output = ap (λ (p : Progress). p.output_len) d.progress ∙ h.output;
+  heap_calls = ap (λ (p : Progress). p.heap_calls) d.progress ∙ h.heap_calls;
+  groups = ap (λ (x : Noted). groups_of x.groups) d.noted ∙ h.groups;
 }
 
 -- a state that a guest holds is that one

@@ -1,12 +1,12 @@
 -- What a step has to do with the program's input and output, and the laws of it, which follow from the form of a step.
-use Rattle.std.specs.Prelude.{◌≡◌, ℕ, zero, suc, ◌+◌, ◌^◌, ◌<◌, ◌==◌, ◌&&◌, ◌⊎◌, Bool, true, false, not, if◌then◌else◌}
+use Rattle.std.specs.Prelude.{◌≡◌, ℕ, zero, suc, ◌+◌, ◌%◌, ◌^◌, ◌<◌, ◌==◌, ◌&&◌, ◌⊎◌, Bool, true, false, not, if◌then◌else◌}
 use Rattle.std.specs.Prelude.{List, [], ◌++◌, length, Option, Some, None}
 use Rattle.shadow_memory.specs.Ranges.{window}
 use Rattle.guest_machine.specs.State.{Core, State}
 use Rattle.guest_machine.specs.Calls.{argument, appends, bytes_taken, call_at, is_output}
 use Rattle.guest_machine.specs.Errors.{fetch_undef}
 use Rattle.guest_machine.specs.Exec.{Deed, Takes, Cut, CallsByName, Halts, deed_at, exec, intake_at, is_running}
-use Rattle.guest_machine.specs.Exec.{touched_of}
+use Rattle.guest_machine.specs.Exec.{is_ready, touched_of}
 use Rattle.guest_machine.specs.Run.{pre}
 use Rattle.guest_elf.specs.Profiles.{has_controls}
 use Rattle.instructions.specs.Codes.{len_of, row_of_code}
@@ -141,16 +141,27 @@ KeepsFront =
     (one other : Setup) (more : List ℕ) (start : State) (n : ℕ) → HasMore one other more
     → (pre start one [] n).end_seen ≡ false → pre start one [] n ≡ pre start other [] n
 
--- a state rests: it doesn't run, or it is in a jump to itself and no steps are counted
-pub record IsIdleFor (s : State) (setup : Setup) : Type 0 where
+-- a state rests: it doesn't run, or it is in a jump to itself
+pub record IsIdle (s : State) (setup : Setup) : Type 0 where
   pub within : s.core.pc < 2 ^ 32
+  pub counted : s.core.steps < 2 ^ 64
   pub idle : is_idle s setup ≡ true
-  pub uncounted : has_controls s.core.isa ≡ false
 
 abbrev pub Rests : State → Setup → Type 0
-Rests s setup = (is_running s.core.status ≡ false) ⊎ IsIdleFor s setup
+Rests s setup = (is_running s.core.status ≡ false) ⊎ IsIdle s setup
 
--- a state that rests stays as it is, and its step is no ECALL
+-- what a number of steps make of a state that rests: they are counted, if it runs and there are counters
+abbrev pub rested_core : Core → ℕ → Core
+rested_core core n =
+    record core {
+      steps = if is_ready core && has_controls core.isa then (core.steps + n) % 2 ^ 64 else core.steps;
+    }
+
+unfoldable pub rested : State → ℕ → State
+rested s n = record s { core = rested_core s.core n }
+
+-- a state that rests stays as it is for any number of steps, but for their number, and none of them is an ECALL
 abbrev pub StaysAtRest : Type 0
 StaysAtRest =
-    (setup : Setup) (s : State) → Rests s setup → (exec s setup ≡ s) × (calls_out (row_at s setup) ≡ false)
+    (setup : Setup) (s : State) → Rests s setup
+    → (n : ℕ) → (pre s setup [] n ≡ rested s n) × (calls_out (row_at (pre s setup [] n) setup) ≡ false)

@@ -301,7 +301,10 @@ impl Fields {
         ensures { result ≡ Instruction.Control access self.rd self.number (ControlOperand.Register self.rs1) }
     {
         let Fields {
-            rd, rs1, number, ..
+            rd,
+            rs1,
+            number,
+            ..
         } = self;
         Instruction::Control {
             access,
@@ -316,7 +319,10 @@ impl Fields {
         ensures { result ≡ Instruction.Control access self.rd self.number (ControlOperand.Immediate self.imm) }
     {
         let Fields {
-            rd, number, imm, ..
+            rd,
+            number,
+            imm,
+            ..
         } = self;
         Instruction::Control {
             access,

@@ -4,6 +4,8 @@
 #![tactic(auto)]
 
 #[cfg(test)]
+mod extensions;
+#[cfg(test)]
 mod tests;
 #[cfg(test)]
 mod trials;

@@ -1,14 +1,14 @@
 //! The public calls of the machine, once each with ample memory, and a few short programs. Other behaviour of programs is tested from
 //! outside (`tools/test/test-guests`).
 use crate::trials::{COUNT, NO_STREAMS, Row, Trial, are_hooks, assert_so, assert_so_for};
-use definedness::Bits;
 use guest_elf::Isa;
 use guest_machine::laws::{
     alters_as_marked, end_stays, fetches_codes, goes_by_fours, keeps_end, keeps_heap, keeps_input,
-    keeps_isa, keeps_pokes, keeps_words, lacks_atomics, reads_on, runs_as_marked, stays_halted,
+    keeps_isa, keeps_pokes, keeps_words, lacks_atomics, lacks_extensions, reads_on, runs_as_marked,
+    stays_halted,
 };
 use guest_machine::{Input, Status, Stop};
-use instructions::{Code, Instruction, Operation, Update, row_of_code, updated};
+use instructions::{Code, Instruction, Operation, row_of_code};
 use std::alloc::{AllocError, Global};
 
 /// `addi a7, x0, 93`, `1234` and `2001`; `addi a0, x0, 300`; ECALL
@@ -257,154 +257,6 @@ fn halves_are_executed(rt: HostRuntime) {
     assert_so_for(&rt, rt.alloc(), Isa::Rv32imc, &SHORT);
 }
 
-// `lr.w a1, (sp); addi a2, x0, 5; sc.w a0, a2, (sp); amoadd.w a0, a2, (sp); sc.w a0, a2, (sp); amomax.w.aqrl a0, x0, (sp)`: the word is 0,
-// 5, then 10. `addi a1, sp, 2; lr.w a0, (a1)`. `amoswap.w a0, a1, (x0)`, where nothing can be accessed
-const ATOMICS: [Row; 3] = [
-    (
-        "a word reserved, stored and updated",
-        &[
-            0x1001_25AF,
-            0x0050_0613,
-            0x18C1_252F,
-            0x00C1_252F,
-            0x18C1_252F,
-            0xA601_252F,
-        ],
-        b"",
-        false,
-        Trial::Steps(
-            &[
-                (Some((0x10000, 4)), Some((0x7FFF_FFF0, 4)), None),
-                (Some((0x10004, 4)), None, None),
-                (Some((0x10008, 4)), None, Some((0x7FFF_FFF0, 4))),
-                (
-                    Some((0x1000C, 4)),
-                    Some((0x7FFF_FFF0, 4)),
-                    Some((0x7FFF_FFF0, 4)),
-                ),
-                (Some((0x10010, 4)), None, None),
-                (
-                    Some((0x10014, 4)),
-                    Some((0x7FFF_FFF0, 4)),
-                    Some((0x7FFF_FFF0, 4)),
-                ),
-            ],
-            0,
-            (Status::Running, 0x10018, 10, 0, 0),
-            NO_STREAMS,
-        ),
-    ),
-    (
-        "an address that is no multiple of 4",
-        &[0x0021_0593, 0x1005_A52F],
-        b"",
-        false,
-        Trial::Steps(
-            &[
-                (Some((0x10000, 4)), None, None),
-                (Some((0x10004, 4)), None, None),
-            ],
-            0,
-            (Status::Stopped(Stop::Misaligned), 0x10004, 0, 0, 0),
-            NO_STREAMS,
-        ),
-    ),
-    (
-        "a word that can't be accessed",
-        &[0x08B0_252F],
-        b"",
-        false,
-        Trial::Steps(
-            &[(Some((0x10000, 4)), Some((0, 4)), Some((0, 4)))],
-            0,
-            (Status::Running, 0x10004, 0, 2, 0),
-            NO_STREAMS,
-        ),
-    ),
-];
-
-#[test]
-fn atomics_are_executed(rt: HostRuntime) {
-    assert_so_for(&rt, rt.alloc(), Isa::Rv32imac, &ATOMICS);
-}
-
-const WITHOUT: [Row; 1] = [(
-    "no atomic instructions",
-    &[0x1001_25AF],
-    b"",
-    false,
-    Trial::Steps(
-        &[(Some((0x10000, 4)), None, None)],
-        3,
-        (Status::Stopped(Stop::Illegal), 0x10000, 0, 0, 0),
-        NO_STREAMS,
-    ),
-)];
-
-/// An operation on a word in memory and one in a register, and what is stored; each with its undefined bits.
-type Updated = (&'static str, Update, (u32, u32), (u32, u32), (u32, u32));
-
-const MINUS_1: (u32, u32) = (u32::MAX, 0);
-
-const ONE: (u32, u32) = (1, 0);
-
-const UPDATES: [Updated; 11] = [
-    ("swap", Update::Swap, (7, 0xFF), (1, 0x10), (1, 0x10)),
-    ("add", Update::Add, MINUS_1, (2, 0), (1, 0)),
-    ("xor", Update::Xor, (0b1100, 1), (0b1010, 0), (0b0110, 1)),
-    ("and with a 0", Update::And, (0xFF, 0xFF), (0, 0), (0, 0)),
-    (
-        "or with a 1",
-        Update::Or,
-        (0, 0x30),
-        (0x10, 0),
-        (0x10, 0x20),
-    ),
-    ("the lesser signed", Update::Min, MINUS_1, ONE, MINUS_1),
-    ("the greater signed", Update::Max, MINUS_1, ONE, ONE),
-    ("the lesser", Update::MinUnsigned, MINUS_1, ONE, ONE),
-    ("the greater", Update::MaxUnsigned, MINUS_1, ONE, MINUS_1),
-    (
-        "undefined in memory",
-        Update::Min,
-        (5, 1),
-        (9, 0),
-        (5, u32::MAX),
-    ),
-    (
-        "undefined in the register",
-        Update::MaxUnsigned,
-        (9, 0),
-        (5, 0x8000_0000),
-        (9, u32::MAX),
-    ),
-];
-
-fn bits_of(pair: (u32, u32)) -> Bits {
-    Bits {
-        value: pair.0,
-        undef: pair.1,
-    }
-}
-
-#[test]
-fn updates_are_computed(rt: HostRuntime) {
-    for (label, update, held, given, want) in &UPDATES {
-        let stored = updated(*update, bits_of(*held), bits_of(*given));
-        assert!(rt;
-            stored.value == want.0 && stored.undef == want.1,
-            "{}",
-            label
-        );
-    }
-}
-
-#[test]
-fn a_set_without_atomics_has_none(rt: HostRuntime) {
-    assert_so_for(&rt, rt.alloc(), Isa::Rv32im, &WITHOUT);
-    assert_so_for(&rt, rt.alloc(), Isa::Rv32imc, &WITHOUT);
-}
-
 /// Returns whether a code of this length adds 1 to a register.
 fn is_count(code: Code, len: u32) -> bool {
     match row_of_code(code) {
@@ -449,6 +301,7 @@ fn the_laws_can_be_called() {
     keeps_isa();
     goes_by_fours();
     lacks_atomics();
+    lacks_extensions();
     fetches_codes();
     alters_as_marked();
     runs_as_marked();

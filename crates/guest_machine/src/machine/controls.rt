@@ -24,22 +24,14 @@ fn is_read_only(number: u16) -> bool
 fn is_counter(number: u16) -> bool
     ensures { result ≡ is_counter number }
 {
-    number == 0xB00
-        || number == 0xB02
-        || number == 0xC00
-        || number == 0xC01
-        || number == 0xC02
+    number == 0xB00 || number == 0xB02 || number == 0xC00 || number == 0xC01 || number == 0xC02
 }
 
 /// Whether it is the upper half of a counter.
 fn is_upper_counter(number: u16) -> bool
     ensures { result ≡ is_upper_counter number }
 {
-    number == 0xB80
-        || number == 0xB82
-        || number == 0xC80
-        || number == 0xC81
-        || number == 0xC82
+    number == 0xB80 || number == 0xB82 || number == 0xC80 || number == 0xC81 || number == 0xC82
 }
 
 impl Guest {
@@ -79,7 +71,8 @@ impl Guest {
     ) -> Result<(), AllocError>
         requires { has_controls (core_of self.old).isa ≡ true }
         ensures { OnOk result (Sets self.old self.new (record (core_of self.old) {
-            controls = controls_after (core_of self.old) access number operand.now })) }
+          controls = controls_after (core_of self.old) access number operand.now;
+        })) }
     {
         if access.writes(*operand) && !(is_counter(number) || is_upper_counter(number)) {
             let word = replaced(access, self.control(number), self.operand_of(operand));

@@ -1,13 +1,13 @@
 //! What the next step has to do with the program's input and output, and steps up to one that may have.
 ghost use Rattle.std.specs.Prelude.{◌≡◌, ◌≤◌, ℕ, List, [], false, IfOk, IsTrue, Some};
 ghost use Rattle.guest_elf.specs.declared.hook.Hook.{Hook as HookOf};
-ghost use Rattle.guest_elf.specs.Profiles.{has_controls};
 ghost use Rattle.guest_machine.specs.State.{State};
 ghost use Rattle.guest_machine.specs.Calls.{call_at};
 ghost use Rattle.guest_machine.specs.Exec.{call_asks, deed_at, intake_at, row_asks};
 ghost use Rattle.guest_machine.specs.Run.{pre};
 ghost use Rattle.guest_machine.specs.Shows.{core_of, bytes_of, Holds, Shows};
-ghost use Rattle.guest_machine.specs.Streams.{calls_out, idles_in, is_idle, is_refused, is_self_jump, refuses_row, refuses_write, IsQuietFor, Rests, row_in, sees_end};
+ghost use Rattle.guest_machine.specs.Streams.{calls_out, idles_in, is_idle, is_refused, is_self_jump, refuses_row, refuses_write, IsQuietFor, Rests, rested, rested_core, row_in, sees_end};
+ghost use Rattle.guest_machine.specs.Doing.{Sets};
 
 use crate::environment_call::EnvironmentCall;
 use crate::hooks::Hooks;
@@ -159,6 +159,28 @@ impl Guest {
         }
     }
 
+    /// The number of steps, where it is counted.
+    fn shown_steps(&self) -> u64
+        ensures { result ≡ (core_of self.now).steps }
+    {
+        if self.isa.has_controls() { self.steps } else { 0 }
+    }
+
+    /// Counts steps in which the machine rests.
+    fn count_rest(&mut self, steps: u32)
+        ensures { Sets self.old self.new (rested_core (core_of self.old) steps) }
+    {
+        if self.is_ready() {
+            self.steps = self.steps.wrapping_add(u64::from(steps));
+        }
+    }
+
+    fn rest_for(&mut self, steps: u32)
+        ensures { (s : State) → Holds self.old s → Holds self.new (rested s steps) }
+    {
+        self.count_rest(steps);
+    }
+
     /// Steps up to the first that may be an ECALL, so many at most; none once it is halted.
     fn run_quietly(&mut self, setup: &Setup, steps: u32) -> Result<u32, AllocError>
         ensures within { IfOk result (λ made. made ≤ steps) }
@@ -201,21 +223,24 @@ impl Machine {
         self.guest.is_idle(&setup.hooks)
     }
 
-    /// Whether the number of steps is counted.
-    fn counts_steps(&self) -> bool
-        ensures { (s : State) → Shows self.now s → result ≡ has_controls s.core.isa }
-    {
-        self.isa().has_controls()
-    }
-
-    /// Whether the machine has halted, or is in a jump to itself and counts no steps: a step leaves it as it is then
+    /// Whether the machine has halted or is in a jump to itself: a step leaves it as it is then, but for the number of steps
     /// ([`laws::stays_at_rest`](crate::laws::stays_at_rest)).
     #[tactic(auto, unfolding(crate::specs::Shows::Shows))]
     pub fn rests(&self, setup: &Setup) -> bool
         ensures { IsTrue result → (s : State) → Shows self.now s → Rests s setup.now }
     {
         let _pc = self.pc();
-        !self.guest.runs() || (!self.counts_steps() && self.is_idle(setup))
+        let _steps = self.guest.shown_steps();
+        !self.guest.runs() || self.is_idle(setup)
+    }
+
+    /// Returns the machine after a number of steps in which it rests.
+    pub fn rest_for(self, steps: u32) -> Machine
+        ensures { (s : State) → Shows self s → Shows result (rested s steps) }
+    {
+        let mut machine = self;
+        machine.guest.rest_for(steps);
+        machine
     }
 
     /// Makes steps up to the first that may be an ECALL, `steps` at most, and returns how many. A halted machine makes none. A machine for

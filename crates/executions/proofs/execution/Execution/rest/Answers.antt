@@ -8,7 +8,8 @@ invariant_of-result c = record { few = omega (arith, c.args.self.few, c.requires
 pub returns-clause-on : goal.returns-clause-on
 returns-clause-on c =
     at-rest c.only_calls_speak.ensures c.stays_at_rest.ensures c.args.scenario.now c.args.self _ c.requires.at
-    (omega (arith, c.requires.within, c.step.ensures)) (omega (arith, c.step.ensures)) refl refl c.requires.rests
+    (omega (arith, c.requires.within, c.step.ensures)) (omega (arith, c.step.ensures)) refl c.rest_for.ensures
+    c.requires.rests
 
 pub returns-clause-last : goal.returns-clause-last
 returns-clause-last c = c.step.ensures
