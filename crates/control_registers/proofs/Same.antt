@@ -39,11 +39,13 @@ entries_same f n (e ∷ es) all = go (is_eq (nat_cmp n e.0)) refl
       go false is later = later
 
 -- what holds of each entry of a map holds of each register
-pub map_same : (f : ℕ → Bits) (map : BTreeMap ℕ Bits) → All (λ e. f e.0 ≡ e.1) map.entries → HasSameOrZero (mapped map) f
+pub map_same : (f : ℕ → Bits) (map : BTreeMap ℕ Bits) → All (λ e. f e.0 ≡ e.1) map.entries
+    → HasSameOrZero (mapped map) f
 map_same f map all n = entries_same f n map.entries all
 
 -- each entry is what the register has
-pub same_map : (f : ℕ → Bits) (map : BTreeMap ℕ Bits) → All (λ e. get nat_cmp map e.0 ≡ Some e.1) map.entries → mapped map ≡ f
+pub same_map : (f : ℕ → Bits) (map : BTreeMap ℕ Bits) → All (λ e. get nat_cmp map e.0 ≡ Some e.1) map.entries
+    → mapped map ≡ f
     → All (λ e. f e.0 ≡ e.1) map.entries
 same_map f map found same =
     All-weaker (λ e. get nat_cmp map e.0 ≡ Some e.1) (λ e. f e.0 ≡ e.1)

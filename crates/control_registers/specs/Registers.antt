@@ -1,6 +1,6 @@
 -- Control and status registers, by their numbers.
--- Source: RISC-V Unprivileged ISA 20191213, section 9.1: an instruction reads and writes the one register whose number
--- its 12 bits give. That a register has 0 until it is written is this project's own.
+-- Source: RISC-V Unprivileged ISA 20191213, chapter 9 ("a separate address space of 4096 Control and Status registers
+-- associated with each hart"). That a register has 0 until it is written is this project's own.
 use Rattle.std.specs.Prelude.{ℕ, ◌==◌, if◌then◌else◌}
 use Rattle.definedness.specs.declared.Bits.{Bits}
 

@@ -1,6 +1,6 @@
 //! The control and status registers (CSRs) of a RISC-V hart, as words with undefined bits.
 //!
-//! [`ControlRegisters`] holds a register for each number (RISC-V Unprivileged ISA 20191213, section 9.1: 4,096 registers, by numbers of 12
+//! [`ControlRegisters`] holds a register for each number (RISC-V Unprivileged ISA 20191213, chapter 9: 4,096 registers, by numbers of 12
 //! bits). A register has 0, defined, until it is written. What a register means is left to the layers above: each has 32 bits, and a write
 //! changes no other register.
 //!

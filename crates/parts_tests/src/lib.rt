@@ -1,5 +1,5 @@
 //! Tests of the crates below the machine, by their public calls: undefined bits, instructions of 32 and of 16 bits and of extensions, program
-//! files, memory, call stacks, the heap, errors, kinds of leaks, suppressions and counted texts.
+//! files, memory, call stacks, control registers, the heap, errors, kinds of leaks, suppressions and counted texts.
 //!
 //! This crate is separate from those that it tests, since a crate with tests is proved a second time with them.
 #![tactic(auto)]
@@ -28,6 +28,8 @@ mod leak_kinds;
 mod memory;
 #[cfg(test)]
 mod program_files;
+#[cfg(test)]
+mod registers;
 #[cfg(test)]
 mod stacks;
 #[cfg(test)]
