@@ -26,7 +26,7 @@ use Rattle.guest_machine.specs.StackPointer.{framed, stack_moved, stack_ruled}
 use Rattle.shadow_memory.specs.declared.cells.RangeKind.TheVariants.{NoAccess, Undefined}
 use Rattle.run_values.specs.declared.status.Stop.TheVariants.{Misaligned}
 use Rattle.guest_machine.specs.Exec.{Deed, Takes, Cut, CallsByName, Halts, deed_at, deed_by, exec}
-use Rattle.guest_machine.specs.Exec.{called_here, fetched, intake_at}
+use Rattle.guest_machine.specs.Exec.{called_here, fetched, fetches, intake_at}
 use Rattle.guest_machine.specs.Exec.{row_asks, row_effect, row_uses, uses_at, effect_at}
 use Rattle.guest_machine.specs.Exec.{calls_heap, is_ready, is_running, outcome_at, stepped}
 use Rattle.guest_machine.specs.Run.{pre}

@@ -28,12 +28,12 @@ turned bits mask = record { value = xor_of bits.value mask; undef = bits.undef }
 abbrev pub len_here : Core → (ℕ → ℕ) → ℕ
 len_here core bytes = if is_half core.isa (half_at core bytes) then 2 else 4
 
--- is what it makes of a core decided by byte values? Those of the half at pc decide how far a skip goes, if there are
--- instructions of 16 bits
 abbrev pub is_skip : Act → Bool
 is_skip Skip = true
 is_skip _ = false
 
+-- is what it makes of a core decided by byte values? Those of the half at pc decide how far a skip goes, if there are
+-- instructions of 16 bits
 abbrev pub goes_by_bytes : Isa → Act → Bool
 goes_by_bytes isa act = has_halves isa && is_skip act
 

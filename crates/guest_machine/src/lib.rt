@@ -3,8 +3,8 @@
 //!
 //! A [`Machine`] holds for each of the 2^32 addresses a byte, whether the byte may be accessed, and which of its bits are undefined; the 32
 //! registers with their undefined bits; pc; whether it runs; the frames of the calls that it is in; the blocks of the heap; the address that
-//! is reserved for an atomic store, if one is; how much of the input was read, how much output was written, and the number of heap calls; and
-//! the errors so far, counted by kind and trace.
+//! is reserved for an atomic store, if one is; the control registers, and the number of steps where there are counters of it; how much of
+//! the input was read, how much output was written, and the number of heap calls; and the errors so far, counted by kind and trace.
 //! [`Machine::step`] executes one instruction (ECALL included), or one call of a function of the heap that the setup names by its first
 //! address. [`Machine::run`] executes many steps. Between steps a range can be marked, a code poked, and the machine altered in other ways.
 //! Once the machine is halted, a step changes nothing, and `run` executes none.
@@ -17,6 +17,8 @@
 //! | [`Machine::step`] | returns the machine after one step, and the ranges whose bytes it read or wrote |
 //! | [`Machine::step_on`] | the same without a meter; doesn't say whether the step raised an error |
 //! | [`Machine::run`] | returns the machine many steps later |
+//! | [`Machine::run_quietly`] | likewise, at most up to the next step that may be an ECALL; and how many steps that were |
+//! | [`Machine::rests`], [`Machine::rest_for`] | return whether steps do nothing but count; the machine after a number of those |
 //! | [`Machine::mark`] | returns the machine with a range made inaccessible, undefined or defined |
 //! | [`Machine::alter`] | returns the machine with any [`Alteration`] made: a range, a register, pc, or bytes |
 //! | [`Machine::poke`], [`Machine::poke_word`] | returns the machine with the bytes of a code at an address changed, or four bytes |
@@ -39,7 +41,7 @@
 //! | [`Meter::new`], [`Meter::read`], [`Meter::rise_by`] | a count of steps, raised by `step`, by `run` and by the steps that a caller counted |
 //! | [`laws::keeps_words`], [`laws::keeps_input`], [`laws::keeps_heap`], [`laws::keeps_pokes`] | do nothing; their contracts are laws of one step |
 //! | [`laws::reads_on`], [`laws::keeps_end`], [`laws::end_stays`], [`laws::stays_halted`] | likewise |
-//! | [`laws::keeps_isa`], [`laws::goes_by_fours`], [`laws::lacks_atomics`] | likewise, on the instruction set |
+//! | [`laws::keeps_isa`], [`laws::goes_by_fours`], [`laws::lacks_extensions`], [`laws::lacks_atomics`] | likewise, on the instruction set |
 //! | [`laws::alters_as_marked`], [`laws::runs_as_marked`] | likewise; their contracts say what marks are as alterations |
 //!
 //! [`Setup`], [`Input`], [`Hooks`], [`Mark`], [`Alteration`], [`Act`], [`Touched`], [`Span`], [`Register`], [`Width`], [`Status`] and
@@ -74,8 +76,9 @@
 //! - `Exec`: one step (`exec`) and what it touches (`touched_of`, `touches`), in three parts: what the step does (`deed_at`: it fetches the
 //!   code at pc, calls a function by name, or neither), what it uses, and what it leaves. It depends on no other byte and no other part of
 //!   the setup; the laws follow from this form.
-//! - `Effects`, `Atomics` and `Calls`: what each class of instruction, each atomic instruction and each call of the environment leaves. The
-//!   crate `instructions` has the class of each row of the instruction tables, and what instructions compute.
+//! - `Effects`, `Atomics`, `Controls` and `Calls`: what each class of instruction, each atomic instruction, each instruction of a control
+//!   register and each call of the environment leaves. The crate `instructions` has the class of each row of the instruction tables, and
+//!   what instructions compute.
 //! - `HeapCalls`: `malloc`, `calloc`, `free` and `realloc` over the blocks of the crate `guest_heap`; `NamedCalls`: what a call of
 //!   them by name does before and after. Which function begins at an address is `hook_at` of the crate `guest_elf`.
 //! - `Errors`: what each test notes, with its note; `StackPointer`: what a move of the stack pointer makes inaccessible or undefined.
@@ -83,9 +86,10 @@
 //! - `Laws`: the laws of one step. `Fetches`: where a code that is fetched begins.
 //! - `Shows`: that a machine shows a state. `Loading`, `Sieve`, `Doing`, `Acting` and `DecodeCaches` are for this crate's proofs.
 //!
-//! Sources: RISC-V Unprivileged ISA 20191213, chapters 1, 2, 7, 8 and 16; the Memcheck manual, chapter 4; Seward and Nethercote,
-//! "Using Valgrind to detect undefined value errors with bit-precision" (USENIX 2005). The undefined bits of a result are those
-//! of the crate `definedness`, the instruction tables those of `instructions`, the image that of `guest_elf`.
+//! Sources: RISC-V Unprivileged ISA 20191213, chapters 1, 2, 3, 7 to 10 and 16; RISC-V Privileged Architecture 20190608, chapters 2 and 3;
+//! the Memcheck manual, chapter 4; Seward and Nethercote, "Using Valgrind to detect undefined value errors with bit-precision" (USENIX
+//! 2005). The undefined bits of a result are those of the crate `definedness`, the instruction tables those of `instructions`, the image
+//! that of `guest_elf`.
 #![tactic(auto)]
 
 mod cached_memory;

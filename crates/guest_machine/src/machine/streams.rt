@@ -163,7 +163,11 @@ impl Guest {
     fn shown_steps(&self) -> u64
         ensures { result ≡ (core_of self.now).steps }
     {
-        if self.isa.has_controls() { self.steps } else { 0 }
+        if self.isa.has_controls() {
+            self.steps
+        } else {
+            0
+        }
     }
 
     /// Counts steps in which the machine rests.
@@ -223,6 +227,13 @@ impl Machine {
         self.guest.is_idle(&setup.hooks)
     }
 
+    /// The number of steps, where it is counted.
+    fn steps(&self) -> u64
+        ensures { (s : State) → Shows self.now s → result ≡ s.core.steps }
+    {
+        self.guest.shown_steps()
+    }
+
     /// Whether the machine has halted or is in a jump to itself: a step leaves it as it is then, but for the number of steps
     /// ([`laws::stays_at_rest`](crate::laws::stays_at_rest)).
     #[tactic(auto, unfolding(crate::specs::Shows::Shows))]
@@ -230,7 +241,7 @@ impl Machine {
         ensures { IsTrue result → (s : State) → Shows self.now s → Rests s setup.now }
     {
         let _pc = self.pc();
-        let _steps = self.guest.shown_steps();
+        let _steps = self.steps();
         !self.guest.runs() || self.is_idle(setup)
     }
 

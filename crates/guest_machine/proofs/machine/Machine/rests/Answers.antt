@@ -5,6 +5,6 @@ pub returns-else-not-runs : goal.returns-else-not-runs
 returns-else-not-runs c h s shows =
     inr (record {
       within = omega (arith, c.pc-pc.ensures s shows);
-      counted = c.shown_steps.ensures;
+      counted = omega (arith, c.steps-steps.ensures s shows);
       idle = sym (c.is_idle.ensures s shows) ∙ h;
     })
