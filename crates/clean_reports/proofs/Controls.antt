@@ -70,7 +70,6 @@ module _ (c : Core) (qs : Held) (a : HeldAgree (held-of c) qs) where
       other = replaced access (control (swap c qs) number) (operand_of (swap c qs) operand)
 
       news : ValuesAgree new other
-      unfolding new other
       news =
           replaced-agrees access _ _ _ _ (control-agrees number) (operand-agrees operand small)
 
@@ -99,7 +98,6 @@ module _ (c : Core) (qs : Held) (a : HeldAgree (held-of c) qs) (f g : ℕ → �
       leaves d = results_in (after d) next rd (control d number)
 
       written : EffectsAgree f g None None (leaves c) (leaves (swap c qs))
-      unfolding leaves after
       written = record {
         registers = set-in (held-of (after (swap c qs))) rd (control (swap c qs) number);
         core = refl;

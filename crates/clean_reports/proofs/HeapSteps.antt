@@ -498,8 +498,8 @@ module _ (b : Bool) (c : Core) (h : Stands b c) (next : ℕ) (terms : Terms) (gi
   controls-left access rd number operand = go (has_control c access number operand)
     where
       go : (p : Bool) → LeavesHeap c (cond p (results_in (record c {
-            controls = controls_after c access number operand;
-          }) next rd (control c number)) (stops c Illegal)).core
+        controls = controls_after c access number operand;
+      }) next rd (control c number)) (stops c Illegal)).core
       go true = record { blocks = refl; same = λ a low high. refl }
       go false = record { blocks = refl; same = λ a low high. refl }
 
