@@ -36,7 +36,8 @@ use Rattle.clean_reports.proofs.Bits.{window-lt, bytes-of}
 use Rattle.clean_reports.proofs.Values.{known-agrees, computed-agree}
 use Rattle.clean_reports.proofs.Memory.{accessible-from, numbers-agree, stored-agrees, byte-lt, window-bytes}
 use Rattle.clean_reports.proofs.Memory.{window-past}
-use Rattle.clean_reports.proofs.Registers.{Held, HeldAgree, held-of, swap, set-in, set-in-agrees, register-agrees, IsKnown, other-known}
+use Rattle.clean_reports.proofs.Registers.{Held, HeldAgree, held-of, swap, set-in, set-in-agrees, register-agrees}
+use Rattle.clean_reports.proofs.Registers.{IsKnown, other-known}
 use Rattle.clean_reports.proofs.Registers.{left-none, right-none, known-by, no-errors, tested-same}
 use Rattle.clean_reports.proofs.Effects.{EffectsAgree, NoneBad, none-about, halts, loads, moves, same-target, stores}
 

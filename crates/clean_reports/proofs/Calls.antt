@@ -29,7 +29,8 @@ use Rattle.clean_reports.specs.Agreement.{AreBytes, RegistersAgree, MemoriesAgre
 use Rattle.clean_reports.specs.Uses.{NoUse, is_use}
 use Rattle.clean_reports.proofs.Values.{known-agrees}
 use Rattle.clean_reports.proofs.Memory.{good-from, good-byte, stored-agrees}
-use Rattle.clean_reports.proofs.Registers.{Held, HeldAgree, held-of, swap, set-in, set-in-agrees, IsKnown, AreKnown, same-argument, other-known}
+use Rattle.clean_reports.proofs.Registers.{Held, HeldAgree, held-of, swap, set-in, set-in-agrees, IsKnown, AreKnown}
+use Rattle.clean_reports.proofs.Registers.{same-argument, other-known}
 use Rattle.clean_reports.proofs.Registers.{others-known}
 use Rattle.clean_reports.proofs.Registers.{left-none, right-none, known-by, no-errors, tested-same, all-known}
 use Rattle.clean_reports.proofs.Registers.{all-tested}

@@ -35,7 +35,8 @@ use Rattle.clean_reports.proofs.Bits.{extended-agree, extended-lt, window-lt, by
 use Rattle.clean_reports.proofs.Values.{known-agrees, computed-agree, undecided-agree, passes-agree}
 use Rattle.clean_reports.proofs.Memory.{accessible-from, numbers-agree, stored-agrees, byte-lt, window-bytes, loaded-lt}
 use Rattle.clean_reports.proofs.Memory.{window-past}
-use Rattle.clean_reports.proofs.Registers.{Held, HeldAgree, held-of, swap, set-in, set-in-agrees, register-agrees, IsKnown, same-argument}
+use Rattle.clean_reports.proofs.Registers.{Held, HeldAgree, held-of, swap, set-in, set-in-agrees, register-agrees}
+use Rattle.clean_reports.proofs.Registers.{IsKnown, same-argument}
 use Rattle.clean_reports.proofs.Registers.{other-known}
 use Rattle.clean_reports.proofs.Registers.{no-event, left-none, right-none, known-by, no-errors, tested-same}
 

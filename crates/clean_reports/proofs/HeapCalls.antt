@@ -47,7 +47,8 @@ use Rattle.clean_reports.proofs.Bits.{Under}
 use Rattle.clean_reports.proofs.Values.{known-agrees}
 use Rattle.clean_reports.proofs.Memory.{made-agrees, filled-agrees, range-agrees, window-bytes, stored-bytes}
 use Rattle.clean_reports.proofs.Memory.{stored-bits, loaded-lt}
-use Rattle.clean_reports.proofs.Registers.{Held, HeldAgree, held-of, swap, set-in, set-in-agrees, IsKnown, AreKnown, same-argument, other-known}
+use Rattle.clean_reports.proofs.Registers.{Held, HeldAgree, held-of, swap, set-in, set-in-agrees, IsKnown, AreKnown}
+use Rattle.clean_reports.proofs.Registers.{same-argument, other-known}
 use Rattle.clean_reports.proofs.Registers.{others-known}
 use Rattle.clean_reports.proofs.Registers.{left-none, right-none, known-by, no-errors, tested-same, all-known}
 use Rattle.clean_reports.proofs.Registers.{all-tested}

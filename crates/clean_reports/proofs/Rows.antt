@@ -18,7 +18,8 @@ use Rattle.rv_compressed.specs.Table.{expansion}
 use Rattle.rv_compressed.specs.Laws.{HasOperands, IsOfLine, IsSigned}
 use Rattle.rv_compressed.proofs.Expansions.{expansion-IsOfLine}
 use Rattle.instructions.specs.Codes.{row_of_code}
-use Rattle.instructions.specs.Instructions.{extension_by, extension_of, if_extension, instruction_by, instruction_of, if_row, row_of}
+use Rattle.instructions.specs.Instructions.{extension_by, extension_of, if_extension, instruction_by, instruction_of}
+use Rattle.instructions.specs.Instructions.{if_row, row_of}
 use Rattle.instructions.specs.Instructions.{row_of_half, row_or}
 use Rattle.instructions.specs.declared.code.Code.{Code}
 use Rattle.instructions.specs.declared.code.Code.TheVariants.{Word, Half}

@@ -31,7 +31,8 @@ use Rattle.clean_reports.specs.Agreement.{ControlsAgree, RegistersAgree, Memorie
 use Rattle.clean_reports.specs.Uses.{NoUse}
 use Rattle.clean_reports.specs.Heap.{BlocksAreOpen}
 use Rattle.clean_reports.specs.Disturbed.{HasBytes}
-use Rattle.clean_reports.proofs.Registers.{Held, HeldAgree, held-of, swap, register-agrees, left-none, right-none, no-event}
+use Rattle.clean_reports.proofs.Registers.{Held, HeldAgree, held-of, swap, register-agrees, left-none, right-none}
+use Rattle.clean_reports.proofs.Registers.{no-event}
 use Rattle.clean_reports.proofs.Effects.{EffectsAgree}
 use Rattle.clean_reports.proofs.HeapCalls.{named-first, named-calls, same-return}
 use Rattle.clean_reports.proofs.Stack.{half-same, rules, word-same}

@@ -4,7 +4,8 @@ use Rattle.instructions.specs.declared.instruction.Instruction.{Instruction}
 use Rattle.guest_machine.specs.State.{State}
 use Rattle.guest_machine.specs.Effects.{next_of}
 use Rattle.guest_machine.specs.Exec.{Deed, counted, deed_asks, deed_terms, given_at, intake_of, is_heap_deed, left_at}
-use Rattle.guest_machine.specs.Exec.{outcome, plan, rounded, row_effect, row_uses, seen_also, stepped, taken_from, terms_of}
+use Rattle.guest_machine.specs.Exec.{outcome, plan, rounded, row_effect, row_uses, seen_also, stepped, taken_from}
+use Rattle.guest_machine.specs.Exec.{terms_of}
 use Rattle.guest_machine.specs.Exec.{written_to}
 use Rattle.guest_machine.specs.declared.setup.Setup.{Setup}
 

@@ -49,7 +49,8 @@ use Rattle.guest_machine.specs.Calls.{write_call}
 use Rattle.guest_machine.specs.HeapCalls.{Resizing, Allocates, Refuses, Frees, Keeps, Moves, block_at, freed, heap_work}
 use Rattle.guest_machine.specs.HeapCalls.{released_here, resized, resizing}
 use Rattle.guest_machine.specs.NamedCalls.{named_by, named_tested, return_address, returns}
-use Rattle.guest_machine.specs.Exec.{Deed, Takes, Cut, CallsByName, Halts, Terms, call_effect, effect_at, exec, outcome_at}
+use Rattle.guest_machine.specs.Exec.{Deed, Takes, Cut, CallsByName, Halts, Terms, call_effect, effect_at, exec}
+use Rattle.guest_machine.specs.Exec.{outcome_at}
 use Rattle.guest_machine.specs.Exec.{fetch_by}
 use Rattle.guest_machine.specs.Exec.{fetch_fault, fetched, half_at, word_at, word_fault}
 use Rattle.guest_machine.specs.Exec.{called_here, deed_at, fetches, is_running, jump_fault, outcome}

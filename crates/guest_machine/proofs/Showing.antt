@@ -1,5 +1,6 @@
 -- From what is done to a guest, to the states that it holds.
-use Rattle.std.proofs.Common.{cond, ◌≡◌, ℕ, suc, ◌<◌, ◌≤◌, Bool, true, false, nat_lt, arith, ap, sym, refl, ◌∙◌, ◌+◌, List}
+use Rattle.std.proofs.Common.{cond, ◌≡◌, ℕ, suc, ◌<◌, ◌≤◌, Bool, true, false, nat_lt, arith, ap, sym, refl, ◌∙◌, ◌+◌}
+use Rattle.std.proofs.Common.{List}
 use Rattle.std.proofs.Common.{[]}
 use Rattle.std.proofs.Common.{◌∷◌, ◌++◌, length, length-append, slice_index_or}
 use Rattle.std.proofs.lemmas.Bool.Decides.{nat_tests}

@@ -1,5 +1,6 @@
 -- The machine at the start shows the start.
-use Rattle.std.proofs.Common.{Bool, true, cond, false, ◌≡◌, ℕ, refl, ap, ap₂, ◌∙◌, List, [], None, slice_index, slice_index_or, replicate}
+use Rattle.std.proofs.Common.{Bool, true, cond, false, ◌≡◌, ℕ, refl, ap, ap₂, ◌∙◌, List, [], None, slice_index}
+use Rattle.std.proofs.Common.{slice_index_or, replicate}
 use Rattle.std.specs.Prelude.{slice_set}
 use Rattle.control_registers.specs.Registers.{no_registers}
 use Rattle.control_registers.specs.Written.{registers_in}
@@ -64,8 +65,8 @@ pub holds-start : (alloc : Global) (image : Image) (fresh loaded memory : Memory
     })
     (start_state image)
 unfolding start_state loaded_bytes loaded_shadows loaded_at grouped firsts_after
-holds-start alloc image fresh loaded memory groups frames heap controls segments pc isa zeros top b0 s0 b1 s1 b2 s2 same at set
-    z t g calls none untouched zero =
+holds-start alloc image fresh loaded memory groups frames heap controls segments pc isa zeros top b0 s0 b1 s1 b2 s2
+    same at set z t g calls none untouched zero =
     record {
       bytes = b2 ∙ ap₂ (λ f m. written f stack_start 16 m) (b1 ∙ ap₂ loaded_bytes same b0) (fun_ext (λ i. refl));
       core = λ i. record {

@@ -40,7 +40,8 @@ use Rattle.guest_machine.specs.HeapCalls.{heap_work}
 use Rattle.guest_machine.specs.NamedCalls.{named_by, returns}
 use Rattle.guest_machine.specs.Exec.{Deed, Takes, Cut, CallsByName, Halts, Terms, Uses, word_fault}
 use Rattle.guest_machine.specs.Exec.{call_effect, call_uses, row_asks, row_effect, row_uses, exec}
-use Rattle.guest_machine.specs.Exec.{deed_at, deed_asks, deed_terms, effect_at, outcome_at, uses_at, intake_at, intake_of, left_at}
+use Rattle.guest_machine.specs.Exec.{deed_at, deed_asks, deed_terms, effect_at, outcome_at, uses_at, intake_at}
+use Rattle.guest_machine.specs.Exec.{intake_of, left_at}
 use Rattle.guest_machine.specs.Exec.{given_at, outcome, plan, taken_from, written_to, touched_at, unfetched}
 use Rattle.guest_machine.specs.Exec.{fetch_fault, is_running}
 use Rattle.guest_machine.specs.Exec.{jump_fault, seen_also}

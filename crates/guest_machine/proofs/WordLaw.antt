@@ -7,7 +7,8 @@ use Rattle.std.proofs.lemmas.Bool.Decides.{nat_tests}
 use Rattle.shadow_memory.specs.Ranges.{above, offset, is_in, window, written, changed_in, little_word}
 use Rattle.guest_machine.specs.Spans.{covers}
 use Rattle.guest_machine.specs.State.{Core, State}
-use Rattle.guest_machine.specs.Exec.{exec, Takes, counting, plan, outcome, outcome_at, uses_at, effect_at, touches, touched_at}
+use Rattle.guest_machine.specs.Exec.{exec, Takes, counting, plan, outcome, outcome_at, uses_at, effect_at, touches}
+use Rattle.guest_machine.specs.Exec.{touched_at}
 use Rattle.guest_machine.specs.Exec.{has_touched}
 use Rattle.guest_machine.specs.Exec.{called_here, deed_by, deed_at, deed_terms}
 use Rattle.guest_machine.specs.Exec.{is_heap_deed, given_at, taken_from, written_to, counted, fetched, fetches}

@@ -9,7 +9,8 @@ use Rattle.guest_machine.specs.NamedCalls.{returns, named_call}
 use Rattle.guest_machine.specs.Exec.{Uses, Terms, Intake, no_intake, intake_of, intake_at, seen_also, left_at, row_asks}
 use Rattle.guest_machine.specs.Exec.{call_asks, counted, written_to, row_uses, row_effect, rounded, calls_heap}
 use Rattle.guest_machine.specs.Exec.{read_uses, write_uses, work_uses, heap_uses, named_uses, moved_from, moved_into}
-use Rattle.guest_machine.specs.Exec.{terms_of, given_at, taken_from, is_heap_deed, deed_at, uses_at, effect_at, outcome_at}
+use Rattle.guest_machine.specs.Exec.{terms_of, given_at, taken_from, is_heap_deed, deed_at, uses_at, effect_at}
+use Rattle.guest_machine.specs.Exec.{outcome_at}
 use Rattle.guest_machine.specs.Exec.{Takes, Cut, Halts, fetched, touched_at}
 use Rattle.guest_machine.specs.Errors.{fetch_undef}
 use Rattle.instructions.specs.Codes.{code_of, len_of, row_of_code}

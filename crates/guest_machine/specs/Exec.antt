@@ -405,8 +405,8 @@ outcome_at core bytes position written setup =
     let terms = deed_terms core deed position written setup in
     outcome core terms deed (given_at position terms.intake.count setup) (taken_from bytes (plan core terms deed).reads)
 
--- the number of steps after another one, if there are counters, which have 64 bits; and after a step, which counts where
--- an instruction may begin
+-- the number of steps after another one, if there are counters, which have 64 bits; and after a step, which counts if
+-- an instruction may begin at pc
 abbrev pub steps_on : Core → ℕ
 steps_on core = if has_controls core.isa then (core.steps + 1) % 2 ^ 64 else core.steps
 

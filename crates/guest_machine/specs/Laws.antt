@@ -20,7 +20,8 @@ use Rattle.run_values.specs.Alterations.{alteration_of}
 use Rattle.run_values.specs.declared.mark.Mark.{Mark}
 use Rattle.guest_machine.specs.Exec.{exec, touches, counted, is_heap_deed, is_running, deed_at}
 use Rattle.guest_machine.specs.Exec.{Takes, Halts, called_here, fetched, fetches, jump_fault, unfetched, word_at}
-use Rattle.guest_machine.specs.Exec.{word_fault, Terms, atomic_uses, calls_heap, nothing, row_asks, row_effect, row_uses}
+use Rattle.guest_machine.specs.Exec.{word_fault, Terms, atomic_uses, calls_heap, nothing, row_asks, row_effect}
+use Rattle.guest_machine.specs.Exec.{row_uses}
 use Rattle.instructions.specs.Instructions.{if_row, row_of}
 use Rattle.rv_decode.specs.Table.{insn}
 use Rattle.guest_elf.specs.Profiles.{has_atomics}

@@ -208,7 +208,8 @@ jump-again core next r rd rs1 imm bits one h g =
 
 -- ---- a fence of fetches, or a wait for an interrupt
 
-barrier-other : (core : Core) (next r : ℕ) (bits : Bits) → barrier (put core r bits) next ≡ over (barrier core next) r bits
+barrier-other : (core : Core) (next r : ℕ) (bits : Bits)
+    → barrier (put core r bits) next ≡ over (barrier core next) r bits
 unfolding barrier
 barrier-other core next r bits = go (has_controls core.isa)
   where
