@@ -15,7 +15,8 @@ use Rattle.guest_machine.specs.Exec.{exec}
 use Rattle.guest_machine.specs.Registers.{known}
 use Rattle.guest_machine.specs.Run.{after_marks, image_shadows, post, pre, stack_start, start_state}
 use Rattle.guest_machine.specs.declared.setup.Setup.{Setup}
-use Rattle.clean_reports.specs.Agreement.{AreBytes, ControlsAgree, MemoriesAgree, RegistersAgree, StatesAgree, ValuesAgree}
+use Rattle.clean_reports.specs.Agreement.{AreBytes, ControlsAgree, MemoriesAgree, RegistersAgree, StatesAgree}
+use Rattle.clean_reports.specs.Agreement.{ValuesAgree}
 use Rattle.clean_reports.specs.Disturbed.{IsDisturbed, IsStartOf, noisy, noisy_run}
 use Rattle.clean_reports.specs.Heap.{BlocksAreOpen}
 use Rattle.clean_reports.specs.Laws.{DisturbedRunsExist}
