@@ -99,7 +99,7 @@ def lines(findings, written, changes):
         yield f"{DEVICES}:"
         yield from (f"  {device_line(findings.elf, it)}" for it in findings.devices)
     if findings.obstacles:
-        yield "needs an option, or a rebuild:" if findings.option else "needs a rebuild:"
+        yield "needs an option, or a rebuild:" if any(it.by_option for it in findings.obstacles) else "needs a rebuild:"
     for it in findings.obstacles:
         yield f"  {it.what}"
         yield f"    {it.cure}"
