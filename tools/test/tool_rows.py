@@ -252,6 +252,11 @@ def word_rows():
     for word, instruction in (("0x00b6252f", "amoadd.w a0,a1,(a2)"), ("0x0eb6252f", "amoswap.w.aqrl a0,a1,(a2)"),
                               ("0x1406252f", "lr.w.aq a0,(a2)"), ("0x1ab6252f", "sc.w.rl a0,a1,(a2)"), ("0x4505", "c.li a0,1")):
         yield Row(f"word: of rv32imac, {instruction}", ["word", "--isa=rv32imac", instruction], 0, f"{word}\n", needs=BINUTILS)
+    for word, instruction in (("0xf1402573", "csrr a0,mhartid"), ("0x34029073", "csrw mscratch,t0"), ("0x3042d573", "csrrwi a0,mie,5"),
+                              ("0x7c002573", "csrr a0,0x7c0"), ("0x0000100f", "fence.i"), ("0x10500073", "wfi")):
+        yield Row(f"word: of rv32imc, {instruction}", [*short, instruction], 0, f"{word}\n", needs=BINUTILS)
+    yield Row("word: of rv32imac, a control register", ["word", "--isa=rv32imac", "csrw mtvec,a0"], 0, "0x30551073\n", needs=BINUTILS)
+    yield Row("word: a control register, not of rv32im", ["word", "csrr a0,mhartid"], 1, "", "*Error*", needs=BINUTILS)
     yield Row("word: not of rv32imac", ["word", "--isa=rv32imac", "amoadd.d a0,a1,(a2)"], 1, "", "*Error*", needs=BINUTILS)
     yield Row("word: atomic, not of rv32imc", [*short, "amoadd.w a0,a1,(a2)"], 1, "", "*Error*", needs=BINUTILS)
     yield Row("word: another instruction set", ["word", "nop", "--isa=rv32gc"], 2, "", NO_SET)
