@@ -177,10 +177,10 @@ class FullProgram(Program):
 
 
 # The programs for an instruction set.
-KINDS = {USUAL: Program, ATOMIC: FullProgram}
+PROGRAMS = {USUAL: Program, ATOMIC: FullProgram}
 
 
 def taken_isa(words):
-    """The instruction set of `--isa=NAME` among words, the usual one if it isn't there, and the other words."""
-    isa = next((name for name in KINDS if f"--isa={name}" in words), USUAL)
+    """The instruction set of `--isa=NAME` among words, or None, and the other words."""
+    isa = next((name for name in PROGRAMS if f"--isa={name}" in words), None)
     return isa, [it for it in words if it != f"--isa={isa}"]
