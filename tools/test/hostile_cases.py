@@ -150,8 +150,8 @@ def full():
     written = [control(CONTROLS["csrrw"], 5, number, 6) for number in range(FIRST_CONSTANT)]
     words = elf([*written, addi(6, 6, 1), jump(0, -4 * len(written) - 4)])
     yield case("each control register, again and again", words, step=LONGEST, isa=SHORT)
-    yield case("the same, and edits of it", words, [f"goto {LONGEST}", "report", "patch 0x10004 0x13", "report", "patch 0x10004 1", "report"],
-               isa=SHORT)
+    lines = [f"goto {LONGEST}", "report", "patch 0x10004 0x13", "report", "patch 0x10004 1", "report"]
+    yield case("the same, and edits of it", words, lines, isa=SHORT)
     yield case("each edit of a full run", elf(LOOPS, 4096), [f"goto {LONGEST}", "report", "patch 0x10004 1", "report",
                f"mark {LONGEST} 0 1 defined", "report", "option redzone 0", "report", "unmark 0", "report"])
 
