@@ -1,5 +1,5 @@
-// Instructions of RV32IM and RV32A as text, in the words of an assembler.
-import { NOTHING, WORD, hasAtomics } from './isa.js';
+// Instructions of RV32IM, RV32A, Zicsr and Zifencei, and WFI, as text, in the words of an assembler.
+import { NOTHING, WORD, hasAtomics, hasControls } from './isa.js';
 import { hexadecimal, hexWord } from './numbers.js';
 
 export const REGISTERS = ['zero', 'ra', 'sp', 'gp', 'tp', 't0', 't1', 't2', 's0', 's1', 'a0', 'a1', 'a2', 'a3', 'a4', 'a5', 'a6', 'a7',
@@ -18,6 +18,19 @@ const UPDATES = { 0: 'amoadd', 1: 'amoswap', 4: 'amoxor', 8: 'amoor', 12: 'amoan
   16: 'amomin', 20: 'amomax', 24: 'amominu', 28: 'amomaxu' };
 const ORDERS = ['', '.rl', '.aq', '.aqrl'];
 const LOAD_RESERVED = 2, STORE_CONDITIONAL = 3;
+
+// Control registers by their numbers; from FIRST_CONSTANT on they are only read (Privileged Architecture 20190608, sections 2.1 and 2.2).
+const NUMBERED = (name, first, count) => Array.from({ length: count }, (_, i) => [first + i, name + i]);
+const CONTROLS = Object.fromEntries([
+  [0x001, 'fflags'], [0x002, 'frm'], [0x003, 'fcsr'], [0x300, 'mstatus'], [0x301, 'misa'], [0x302, 'medeleg'], [0x303, 'mideleg'],
+  [0x304, 'mie'], [0x305, 'mtvec'], [0x306, 'mcounteren'], [0x310, 'mstatush'], [0x320, 'mcountinhibit'], [0x340, 'mscratch'],
+  [0x341, 'mepc'], [0x342, 'mcause'], [0x343, 'mtval'], [0x344, 'mip'], [0xb00, 'mcycle'], [0xb02, 'minstret'], [0xb80, 'mcycleh'],
+  [0xb82, 'minstreth'], [0xc00, 'cycle'], [0xc01, 'time'], [0xc02, 'instret'], [0xc80, 'cycleh'], [0xc81, 'timeh'], [0xc82, 'instreth'],
+  [0xf11, 'mvendorid'], [0xf12, 'marchid'], [0xf13, 'mimpid'], [0xf14, 'mhartid'],
+  ...NUMBERED('pmpcfg', 0x3a0, 4), ...NUMBERED('pmpaddr', 0x3b0, 16)]);
+const FIRST_CONSTANT = 0xc00;
+const CONTROL_LETTERS = { 1: 'w', 2: 's', 3: 'c' };
+const WFI = 0x10500073;
 
 const place = (address) => hexWord(address >>> 0);
 const signed = (number, bits) => (number << (32 - bits)) >> (32 - bits);
@@ -70,6 +83,28 @@ function atomic(word, rd, rs1, rs2) {
   return name ? `${name}.w${order} ${rd},${rs2},(${rs1})` : null;
 }
 
+// An instruction of a control register: written (1), its bits set (2) or cleared (3), by a register or, with 4 more, by an immediate.
+function control(word, rd, rs1) {
+  const kind = word >>> 12 & 7, letter = CONTROL_LETTERS[kind & 3], number = word >>> 20;
+  const operand = kind & 4 ? word >>> 15 & 31 : rs1;
+  const writes = letter === 'w' || (word >>> 15 & 31) !== 0;
+  if (!letter || (writes && number >= FIRST_CONSTANT)) return null;
+  const name = CONTROLS[number] ?? hexadecimal(number), end = kind & 4 ? 'i' : '';
+  if (kind === 2 && !writes) return `csrr ${rd},${name}`;
+  return rd === 'zero' ? `csr${letter}${end} ${name},${operand}` : `csrr${letter}${end} ${rd},${name},${operand}`;
+}
+
+function system(word, rd, rs1, isa) {
+  const plain = { 0x73: 'ecall', 0x100073: 'ebreak' }[word];
+  if (plain || !hasControls(isa)) return plain ?? null;
+  return word === WFI ? 'wfi' : control(word, rd, rs1);
+}
+
+function fence(kind, isa) {
+  if (kind === 1 && hasControls(isa)) return 'fence.i';
+  return kind === 0 ? 'fence' : null;
+}
+
 // The text of an instruction that stands at an address, null where the word of 32 bits is none of a set.
 export function disassembled(word, address, isa) {
   const [rd, rs1, rs2] = [7, 15, 20].map((at) => REGISTERS[word >>> at & 31]);
@@ -85,9 +120,9 @@ export function disassembled(word, address, isa) {
     case 0x63: return branch(word, rs1, rs2, address) ?? null;
     case 0x6f: return jump(word, rd, address);
     case 0x67: return jumpBy(word, rd, rs1);
-    case 0x0f: return kind === 0 ? 'fence' : null;
+    case 0x0f: return fence(kind, isa);
     case 0x2f: return hasAtomics(isa) ? atomic(word, rd, rs1, rs2) : null;
-    case 0x73: return { 0x73: 'ecall', 0x100073: 'ebreak' }[word] ?? null;
+    case 0x73: return system(word, rd, rs1, isa);
     default: return null;
   }
 }

@@ -11,6 +11,7 @@ export const NOTHING = { [HALF]: 0x0001, [WORD]: 0x13 };
 const ISA_LINE = /^# --isa (\S+)$/m;
 
 export const hasHalves = (isa) => isa !== USUAL;
+export const hasControls = (isa) => isa !== USUAL;
 export const hasAtomics = (isa) => isa === ATOMIC;
 // Each instruction is at a multiple of it.
 export const unitOf = (isa) => (hasHalves(isa) ? HALF : WORD);

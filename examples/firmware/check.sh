@@ -97,6 +97,9 @@ check 'which runs are clean' same clean verdicts ../*.elf *.elf
 check 'a session on rv32imac/ring.elf' \
   same ring ../../tools/bin/replaycheck-talk rv32imac/ring.elf --isa=rv32imac --input ring.input ring.session
 check 'each byte of ring.input' same ring-sweep explored rv32imac/ring.elf --isa=rv32imac --input ring.input
+check 'a session on rv32imac/tasks.elf' \
+  same tasks ../../tools/bin/replaycheck-talk rv32imac/tasks.elf --isa=rv32imac --input tasks.input tasks.session
+check 'each byte of tasks.input' same tasks-sweep explored rv32imac/tasks.elf --isa=rv32imac --input tasks.input
 check 'each byte of station.input' same sweep explored station.elf --input station.input --svg "$room/station.svg"
 if command -v riscv64-unknown-elf-addr2line riscv64-linux-gnu-addr2line addr2line >"$room/found"; then
   check 'its picture' cmp station.svg "$room/station.svg"

@@ -59,7 +59,7 @@ static int provoke(unsigned which, int *words, char *bytes)
     case 19: kept = (struct node *)&two_nodes()->value; break;      /* keeps no pointer but one into a block */
     case 20: kept = two_nodes(); break;                     /* keeps two blocks and never frees them */
     case 21: __builtin_trap(); break;                       /* an EBREAK */
-    case 22: __asm__ volatile("wfi"); break;                /* an instruction that isn't in RV32IM */
+    case 22: __asm__ volatile("mret"); break;                /* an instruction that isn't in RV32IM */
     case 23: odd_handler(); break;                          /* jumps to where no instruction of four bytes can stand */
     }
     free(words);

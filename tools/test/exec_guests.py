@@ -27,6 +27,10 @@ SOURCES = {
     "atomic": f"{SAY} addi sp, sp, -16; sw x0, 0(sp); lr.w a0, (sp); addi a0, a0, 1; sc.w a1, a0, (sp); li t0, 3; amoadd.w a2, t0, (sp); "
               "lw a0, 0(sp); li a7, 93; ecall",
     "odd": f"{SAY} addi t0, sp, 2; amoadd.w a0, a0, (t0)",
+    # It keeps 5 in a control register, sets a bit of it, and takes both from there; and one that waits for what never comes.
+    "controls": f"{SAY} csrrwi x0, mscratch, 5; fence.i; wfi; csrrsi x0, mscratch, 2; csrr a0, mscratch; li a7, 93; ecall",
+    "waits": f"{SAY} again: wfi; j again",
+    "rests": f"{SAY} csrr a0, mcycle; again: j again",
     "hangs": f"{SAY} again: nop; j again",
     "idles": f"{SAY} again: j again",
     "loud": f"li s0, 17; again: li a7, 64; li a0, 1; li a1, {DATA}; li a2, 2048; li a3, 2048; add a2, a2, a3; ecall; addi s0, s0, -1; "

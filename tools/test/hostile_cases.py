@@ -1,8 +1,9 @@
 """The cases that tools/test/try-hostile tries, a generator for each class."""
 import struct
 
-from replaycheck.assembly import EBREAK, ECALL, addi, load_number
+from replaycheck.assembly import CONTROLS, EBREAK, ECALL, FIRST_CONSTANT, addi, control, jump, load_number
 from replaycheck.guest_files import ENTRY, TOP, elf
+from replaycheck.programs import SHORT, USUAL
 
 LONGEST, MILLION = 4194304, 1048576
 NUMBERS = [0, 1, 0x7FFFFFFF, 0x80000000, 0xFFFFFFFF]
@@ -13,9 +14,9 @@ LOOPS = [0x0000006F]  # jal x0, 0
 DEEP = [0x01E00293, 0xFFF28293, 0x00028463, 0xFF9FF0EF, 0x00002503, EBREAK]
 
 
-def case(name, program, lines=None, supp=b"", given=b"", step=4096):
-    """A case: what is typed, in a session, or the step of a report where nothing is."""
-    return name, program, lines, supp, given, step
+def case(name, program, lines=None, supp=b"", given=b"", step=4096, isa=USUAL):
+    """A case: what is typed, in a session, or the step of a report where nothing is, and the instruction set."""
+    return name, program, lines, supp, given, step, isa
 
 
 # ---- files
@@ -146,6 +147,11 @@ def full():
     yield case("as many invalid frees as can be", elf(frees), step=LONGEST)
     words = load_number(6, 65536) + [0x0002A023, 0x006282B3, 0xFF9FF06F]
     yield case("a write to each 16th page", elf(words), step=LONGEST)
+    written = [control(CONTROLS["csrrw"], 5, number, 6) for number in range(FIRST_CONSTANT)]
+    words = elf([*written, addi(6, 6, 1), jump(0, -4 * len(written) - 4)])
+    yield case("each control register, again and again", words, step=LONGEST, isa=SHORT)
+    lines = [f"goto {LONGEST}", "report", "patch 0x10004 0x13", "report", "patch 0x10004 1", "report"]
+    yield case("the same, and edits of it", words, lines, isa=SHORT)
     yield case("each edit of a full run", elf(LOOPS, 4096), [f"goto {LONGEST}", "report", "patch 0x10004 1", "report",
                f"mark {LONGEST} 0 1 defined", "report", "option redzone 0", "report", "unmark 0", "report"])
 

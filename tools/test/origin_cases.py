@@ -28,6 +28,8 @@ MOVED = f"""addi sp, sp, -32; lw t0, 8(sp); li t1, {DATA}; 3 * nop; sw t0, 0(t1)
 sw t2, 16(sp); nop; lw t3, 16(sp); bne t3, zero, .+8; nop; li a0, 0; {EXIT}"""
 UPDATED = f"""addi sp, sp, -32; lw t0, 8(sp); li t1, {DATA}; sw zero, 0(t1); amoor.w zero, t0, (t1); 3 * nop; lr.w t2, (t1)
 bne t2, zero, .+8; nop; li a0, 0; {EXIT}"""
+KEPT = f"""addi sp, sp, -32; lw t0, 8(sp); csrrw zero, mscratch, t0; li t0, 0; 3 * nop; csrrs t1, mscratch, zero; sw t1, 16(sp)
+nop; lw t2, 16(sp); bne t2, zero, .+8; nop; li a0, 0; {EXIT}"""
 TWO = f"""addi sp, sp, -16; li a0, 8; {MALLOC}; lw t0, 4(a0); lw t1, 4(sp); xor t0, t0, t1
 beq t0, zero, .+8; nop; li a0, 0; {EXIT}"""
 # One value is in a register alone before the other is made.
@@ -73,6 +75,9 @@ CASES = [
     Case("moves by atomic instructions", UPDATED, 0, (
         "step 1: 4 bytes at 0x7fffffd8 read by 0x00010004", "step 5: 4 bytes at 0x00010400 written by 0x00010014",
         "step 9: 4 bytes at 0x00010400 read by 0x00010024"), ["mark 1 0x7fffffd8 4 defined"], ["--isa=rv32imac"]),
+    Case("a move by a control register", KEPT, 0, (
+        "step 1: 4 bytes at 0x7fffffd8 read by 0x00010004", "step 8: 4 bytes at 0x7fffffe0 written by 0x00010020",
+        "step 10: 4 bytes at 0x7fffffe0 read by 0x00010028"), ["mark 1 0x7fffffd8 4 defined"], ["--isa=rv32imc"]),
     Case("two origins", TWO, 0, (" it hangs on 2 origins together", "origin 1: ", "stack frame", "origin 2: ",
                                  "a call of the heap", "with these 2 marks"),
          ["mark 1 0x7fffffe4 4 defined", "mark 4 0x40000014 4 defined"]),

@@ -170,6 +170,10 @@ def sets_in_turn(bench):
         check("rv32imac", atomic, "patch 0x00010230 0x00b6252f")
         page.run("replaycheck.code.visit(0x10230)")
         expect("amoadd.w a0,a1,(a2)" in page.text("code-rows"), "the page doesn't show an atomic instruction")
+        page.run("replaycheck.use('# --isa rv32imc\\npatch 0x10230 0xb0002573')")
+        check("rv32imc", short, "patch 0x00010230 0xb0002573")
+        page.run("replaycheck.code.visit(0x10230)")
+        expect("csrr a0,mcycle" in page.text("code-rows"), "the page doesn't show a read of a counter")
         page.run("replaycheck.use('# --isa rv32gc')")
         same("a set that there isn't", page.text("notice"),
              "There is no instruction set “rv32gc” here, but rv32im, rv32imc and rv32imac.")

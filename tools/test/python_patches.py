@@ -1,14 +1,14 @@
-"""Patches of words and halves, and atomic instructions, by `import replaycheck`, for tools/test/test-python."""
+"""Patches of words and halves, atomic instructions and control registers, by `import replaycheck`, for tools/test/test-python."""
 from __future__ import annotations
 
 import random
 from typing import Callable
 
 import replaycheck
-from replaycheck.guest_files import ENTRY
+from replaycheck.guest_files import ENTRY, elf
 from replaycheck.scripting.scenarios import Scenario
 from rows import Rows
-from tool_rows import COUNTED, atomic_file
+from tool_rows import COUNTED, KEPT, atomic_file
 
 SIZE, TURNS = 16, 500
 
@@ -54,6 +54,16 @@ def test_atomics(rows: Rows) -> None:
         rows.row("atomic instructions", differs("run", found, ("exited 7", bytes([7, 0, 0, 0]), bytes([1, 0, 0, 0]))))
     found = {outcome.state for _, outcome in replaycheck.sweep(atomic_file(), words=0x1001E, step=90, isa="rv32imac")}
     rows.row("a sweep for rv32imac", differs("states", found, {"exited 1"}))
+
+
+def test_controls(rows: Rows) -> None:
+    """A run, an edit and a sweep of a program with control registers."""
+    with replaycheck.Run(elf(KEPT), isa="rv32imc") as run:
+        found = [str(run.report(9).state)]
+        run.patch(ENTRY + 4, 0x3401F073)  # csrci mscratch, 3
+        rows.row("control registers", differs("states", [*found, str(run.report(9).state)], ["exited 7", "exited 4"]))
+    found = {outcome.state for _, outcome in replaycheck.sweep(elf(KEPT), words=ENTRY + 4, step=9, isa="rv32imc")}
+    rows.row("a sweep with control registers", differs("states", found, {"exited 5"}))
 
 
 def written(data: bytes, line: str) -> bytes:

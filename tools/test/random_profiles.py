@@ -2,15 +2,16 @@
 
 A program keeps to its own memory: an address is x8 or x2 and a small offset, or was made from x8 just before. Its instructions have 16 and
 32 bits, and so lie at each multiple of 2. It jumps, loops, updates memory by atomic instructions, and changes its own code. At its end it
-stores its registers behind its data, writes both to standard output, and exits by 0.
+stores its registers behind its data, writes both to standard output, and exits by 0. For test-changes it also has control registers.
 
 A program of control registers, of a whole machine, folds what it reads from them into a status."""
 import random
 import struct
 
 from halves import Insn, by_text, disassembled
-from replaycheck.assembly import (ECALL, LOAD_RESERVED, LOADS, STORE_CONDITIONAL, STORES, UPDATES, addi, atomic, branch, jump, load,
-                                  load_number, of_immediate, of_registers, store)
+from replaycheck.assembly import (CONTROL_IMMEDIATES, CONTROL_NUMBERS, CONTROLS, ECALL, FENCE_I, FIRST_CONSTANT, LOAD_RESERVED, LOADS,
+                                  STORE_CONDITIONAL, STORES, UPDATES, WFI, addi, atomic, branch, control, jump, load, load_number,
+                                  of_immediate, of_registers, store)
 from replaycheck.guest_files import ENTRY
 
 CODE = 0x8000
@@ -20,11 +21,10 @@ SAVED, SHOWN = 1536, 1664
 # Where the stack pointer is, behind x8.
 STACK = 512
 SP, KEPT, SCRATCH = 2, 8, 31
-FENCE_I = 0x0000100F
 COMPUTING = "c.addi c.li c.lui c.srli c.srai c.andi c.slli c.sub c.xor c.or c.and c.mv c.add c.addi4spn".split()
 FIXED = (SP, KEPT, SCRATCH)
 # Control registers that take each value: mscratch, mcause, mtval, sscratch, scause and stval.
-CONTROLS = (0x340, 0x342, 0x343, 0x140, 0x142, 0x143)
+PLAIN_CONTROLS = (0x340, 0x342, 0x343, 0x140, 0x142, 0x143)
 # Where the machine that qemu calls virt has its memory, and the device that ends it.
 BOARD, FINISHER = 0x80000000, 0x00100000
 # Which register has the status in the end.
@@ -73,8 +73,8 @@ class Halves:
 class Program:
     """The file's content of the random program of a seed."""
 
-    def __init__(self, seed: int, halves: Halves, has_atomics: bool, fence: int = FENCE_I) -> None:
-        self.random, self.halves, self.has_atomics, self.fence = random.Random(seed), halves, has_atomics, fence
+    def __init__(self, seed: int, halves: Halves, has_atomics: bool, has_controls: bool = False) -> None:
+        self.random, self.halves, self.has_atomics, self.has_controls = random.Random(seed), halves, has_atomics, has_controls
         pieces = [bytes_of(*load_number(KEPT, DATA), addi(SP, KEPT, STACK))]
         for register in range(1, 32):
             if register not in (SP, KEPT):
@@ -90,7 +90,7 @@ class Program:
 
     def kinds(self) -> list:
         plain = [(self.plain, 60), (self.branches, 12), (self.jumps, 8), (self.loop, 4), (self.frame, 5), (self.changed, 6)]
-        return plain + ([(self.reserved, 4)] if self.has_atomics else [])
+        return plain + ([(self.reserved, 4)] if self.has_atomics else []) + ([(self.controls, 12)] if self.has_controls else [])
 
     def number(self) -> int:
         edges = (0, 1, 2**31, 2**31 - 1, 2**32 - 1, 31, 32, DATA)
@@ -180,6 +180,18 @@ class Program:
             found += [half] if half >> 7 & 31 not in (one, other) else []
         return found
 
+    def controls(self) -> bytes:
+        """Up to four instructions of few control registers and of counters, of which none stops the program; perhaps a wait."""
+        words = [self.random.choice((WFI, FENCE_I))] if self.random.random() < 0.1 else []
+        for _ in range(self.random.randrange(1, 5)):
+            number = self.random.choice((PLAIN_CONTROLS[0], PLAIN_CONTROLS[0], *PLAIN_CONTROLS, *CONTROL_NUMBERS.values()))
+            funct3 = self.random.choice([*CONTROLS.values(), *CONTROL_IMMEDIATES.values()])
+            operand = self.random.choice((0, self.source(), self.source()))
+            if number >= FIRST_CONSTANT:
+                funct3, operand = funct3 | 2, 0
+            words.append(control(funct3, self.random.choice((0, self.target(), self.target())), number, operand))
+        return bytes_of(*words)
+
     def past(self, chunks: list[bytes], length: int) -> int:
         """The distance from an instruction with this length to the start of one of the chunks after it, or their end."""
         return length + sum(map(len, chunks[:self.random.randrange(len(chunks) + 1)]))
@@ -234,7 +246,7 @@ class Program:
             old, new, at, width = self.two(), int.from_bytes(self.two(), "little"), 0, 2
         before = [auipc(base), *load_number(value, new)]
         start = 4 * (len(before) + 2) + len(pad)
-        return bytes_of(*before, store(width, value, base, start + at), self.fence) + pad + old
+        return bytes_of(*before, store(width, value, base, start + at), FENCE_I) + pad + old
 
     def two(self) -> bytes:
         """Four bytes: two short instructions or a long one."""
@@ -248,12 +260,11 @@ def of_controls(seed: int) -> bytes:
     chosen = random.Random(seed)
     words = [word for register in range(5, 32) for word in load_number(register, chosen.getrandbits(32))]
     words += load_number(12, 0x01000193)
-    numbers = [chosen.choice(CONTROLS) for _ in range(60)]
-    for number in (*numbers, *CONTROLS):
+    numbers = [chosen.choice(PLAIN_CONTROLS) for _ in range(60)]
+    for number in (*numbers, *PLAIN_CONTROLS):
         funct3 = chosen.choice((1, 2, 3, 5, 6, 7))
         operand = chosen.choice((0, chosen.randrange(13, 32)))
-        words += [number << 20 | operand << 15 | funct3 << 12 | 10 << 7 | 0x73, of_registers(0, 4, STATUS, STATUS, 10),
-                  of_registers(1, 0, STATUS, STATUS, 12)]
+        words += [control(funct3, 10, number, operand), of_registers(0, 4, STATUS, STATUS, 10), of_registers(1, 0, STATUS, STATUS, 12)]
     words += [of_immediate(5, 10, STATUS, 16), of_registers(0, 4, STATUS, STATUS, 10), of_immediate(5, 10, STATUS, 8),
               of_registers(0, 4, STATUS, STATUS, 10), of_immediate(7, STATUS, STATUS, 127), FENCE_I]
     words += [of_immediate(1, 10, STATUS, 16), *load_number(13, 0x3333), of_registers(0, 6, 10, 10, 13), *load_number(14, FINISHER),

@@ -1,13 +1,17 @@
 """Random programs, for compare-with-twin, test-sweep-table, test-look and test-gdb."""
 import random
 
-from replaycheck.assembly import (EBREAK, ECALL, FENCE, LOAD_RESERVED, LOADS, STORE_CONDITIONAL, STORES, UPDATES, addi, atomic, branch,
-                                  jump, load, load_number, of_immediate, of_registers, store)
+from replaycheck.assembly import (CONTROL_IMMEDIATES, CONTROL_NUMBERS, CONTROLS, EBREAK, ECALL, FENCE, FENCE_I, FIRST_CONSTANT,
+                                  LOAD_RESERVED, LOADS, STORE_CONDITIONAL, STORES, UPDATES, WFI, addi, atomic, branch, control, jump, load,
+                                  load_number, of_immediate, of_registers, store)
 from replaycheck.guest_files import ENTRY
+from replaycheck.programs import ATOMIC, USUAL
 
 MEMORY, DATA = 0x10000, 0x8000
 SP, KEPT, A7, SCRATCH = 2, 8, 17, 31  # x8 is where the data lies
 READ = 63
+# Control registers that programs use often, so that what one instruction writes another one reads.
+KEPT_CONTROLS = [CONTROL_NUMBERS[name] for name in ("mscratch", "mscratch", "mepc", "mtvec")]
 
 
 def reading(count):
@@ -127,11 +131,24 @@ class Program:
             self.words += [of_immediate(5, SCRATCH, register, bit), of_immediate(7, SCRATCH, SCRATCH, 1), branch(0, SCRATCH, 0, 4)]
 
 
-class AtomicProgram(Program):
-    """The same with atomic instructions."""
+class FullProgram(Program):
+    """The same with atomic instructions, control registers, FENCE.I and WFI."""
 
     def kinds(self):
-        return [*super().kinds(), (self.update, 16), (self.reserved, 8)]
+        return [*super().kinds(), (self.update, 16), (self.reserved, 8), (self.controls, 16), (self.waits, 1)]
+
+    def controls(self):
+        """Up to four instructions of control registers. Seldom one writes what is only read, which ends the program."""
+        for _ in range(self.random.randrange(1, 5)):
+            number = self.random.choice(KEPT_CONTROLS if self.random.random() < 0.8 else [*CONTROL_NUMBERS.values()])
+            funct3 = self.random.choice([*CONTROLS.values(), *CONTROL_IMMEDIATES.values()])
+            operand = self.random.choice((0, self.source(), self.source()))
+            if number >= FIRST_CONSTANT and self.random.random() < 0.99:
+                funct3, operand = funct3 | 2, 0
+            self.words.append(control(funct3, self.target(), number, operand))
+
+    def waits(self):
+        self.words.append(self.random.choice((FENCE_I, WFI)))
 
     def point(self):
         """Makes a register, which others don't write, an address: seldom one that is no multiple of 4."""
@@ -157,3 +174,13 @@ class AtomicProgram(Program):
         self.words.append(addi(SCRATCH, SCRATCH, self.random.choice((0, 0, 0, 4))))
         for _ in range(self.random.randrange(1, 3)):
             self.atomic(STORE_CONDITIONAL, self.source())
+
+
+# The programs for an instruction set.
+PROGRAMS = {USUAL: Program, ATOMIC: FullProgram}
+
+
+def taken_isa(words):
+    """The instruction set of `--isa=NAME` among words, or None, and the other words."""
+    isa = next((name for name in PROGRAMS if f"--isa={name}" in words), None)
+    return isa, [it for it in words if it != f"--isa={isa}"]

@@ -20,6 +20,9 @@ COUNTS = b"\1\0" + b"".join(word.to_bytes(4, "little") for word in assemble(
     "amoadd.w.aqrl a2, t0, (sp); lw a0, 0(sp); li a7, 93; ecall"))
 COUNTED = 0x7FFFFFE0  # where it counts
 ATOMIC = ["counts.elf", "--isa=rv32imac"]
+# It keeps 5 in a control register, sets a bit of it, and exits with what is there: 7.
+KEPT = assemble("csrrwi zero, mscratch, 5; csrrsi zero, mscratch, 2; csrr a0, mscratch; li a7, 93; ecall")
+CONTROLS = ["controls.elf", "--isa=rv32imc"]
 ODD = assemble("addi t0, sp, 2; amoadd.w a0, a0, (t0); nop")
 
 
@@ -145,6 +148,7 @@ def when_rows():
     yield Row("when: no edit", ["when", *PACKET, "--line", "goto 8", "Invalid"], 2, "", "*not an edit: 'goto 8'*")
     yield Row("when: for rv32imc", ["when", *SHORT, "stopped break 0x00010006"], 0, "2\n")
     yield Row("when: for rv32im", ["when", "half.elf", "--isa", "rv32im", "stopped break"], 1)
+    yield Row("when: with control registers", ["when", *CONTROLS, "state exited 7"], 0, "5\n")
     yield Row("when: for rv32imac", ["when", *ATOMIC, "state exited 7"], 0, "12\n")
     yield Row("when: atomic instructions for rv32imc", ["when", "counts.elf", "--isa=rv32imc", "stopped illegal 0x0001000a"], 0, "4\n")
     yield Row("when: another instruction set", [*when, "--isa=rv32gc", "x"], 2, "", NO_SET)
@@ -166,6 +170,8 @@ def compare_rows():
     yield Row("compare: a suppression", [*compare, "--supp", "free.supp", "option redzone 32"], 0)
     yield Row("compare: for rv32imc", ["compare", *SHORT, "patch 0x10004 0"], 1,
               "*-state stopped break 0x00010006\n+state stopped illegal 0x00010006\n*")
+    yield Row("compare: with control registers", ["compare", *CONTROLS, "patch 0x10004 0x3401f073"], 1,
+              "*-state exited 7\n+state exited 4\n*")
     yield Row("compare: for rv32imac", ["compare", *ATOMIC, "patch 0x1001e 0x0e51262f"], 1, "*-state exited 7\n+state exited 6\n*")
     yield Row("compare: another instruction set", [*compare, "--isa", "rv32gc", "input 0 8"], 2, "", NO_SET)
     yield Row("compare: a step that is too great", [*compare, "--step", "5000000", "input 0 8"], 2, "",
@@ -252,6 +258,11 @@ def word_rows():
     for word, instruction in (("0x00b6252f", "amoadd.w a0,a1,(a2)"), ("0x0eb6252f", "amoswap.w.aqrl a0,a1,(a2)"),
                               ("0x1406252f", "lr.w.aq a0,(a2)"), ("0x1ab6252f", "sc.w.rl a0,a1,(a2)"), ("0x4505", "c.li a0,1")):
         yield Row(f"word: of rv32imac, {instruction}", ["word", "--isa=rv32imac", instruction], 0, f"{word}\n", needs=BINUTILS)
+    for word, instruction in (("0xf1402573", "csrr a0,mhartid"), ("0x34029073", "csrw mscratch,t0"), ("0x3042d573", "csrrwi a0,mie,5"),
+                              ("0x7c002573", "csrr a0,0x7c0"), ("0x0000100f", "fence.i"), ("0x10500073", "wfi")):
+        yield Row(f"word: of rv32imc, {instruction}", [*short, instruction], 0, f"{word}\n", needs=BINUTILS)
+    yield Row("word: of rv32imac, a control register", ["word", "--isa=rv32imac", "csrw mtvec,a0"], 0, "0x30551073\n", needs=BINUTILS)
+    yield Row("word: a control register, not of rv32im", ["word", "csrr a0,mhartid"], 1, "", "*Error*", needs=BINUTILS)
     yield Row("word: not of rv32imac", ["word", "--isa=rv32imac", "amoadd.d a0,a1,(a2)"], 1, "", "*Error*", needs=BINUTILS)
     yield Row("word: atomic, not of rv32imc", [*short, "amoadd.w a0,a1,(a2)"], 1, "", "*Error*", needs=BINUTILS)
     yield Row("word: another instruction set", ["word", "nop", "--isa=rv32gc"], 2, "", NO_SET)
@@ -319,6 +330,8 @@ def run_rows():
               '*"input": null,\n "isa": "rv32imc",\n "step": 4194304*"why": "break"*"clean": true*')
     yield Row("run: for rv32im, as json", ["run", "half.elf", "--isa=rv32im", "--format=json"], 0,
               '*"input": null,\n "step": 4194304*"why": "misaligned"*')
+    yield Row("run: with control registers", ["run", *CONTROLS], 0, "*state exited 7\n*")
+    yield Row("run: without them", ["run", "controls.elf"], 0, "*state stopped illegal 0x00010000\n*")
     yield Row("run: for rv32imac", ["run", *ATOMIC], 0, "*state exited 7\n*")
     yield Row("run: for rv32imac, as json", ["run", *ATOMIC, "--format=json"], 0, '*"input": null,\n "isa": "rv32imac",\n*"status": 7*')
     yield Row("run: an atomic instruction at no multiple of 4", ["run", "odd.elf", "--isa=rv32imac", "--format=gcc"], 0,

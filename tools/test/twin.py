@@ -3,7 +3,6 @@ import subprocess
 import sys
 
 from replaycheck.guest_files import TOP
-from replaycheck.programs import USUAL, isa_words
 
 TWIN = TOP / "bench" / "twin"
 
@@ -16,8 +15,3 @@ def build_twin(tool):
         print(f"{tool}: cannot build the twin: {fault}", file=sys.stderr)
         sys.exit(2)
     return TWIN / "target" / "release" / "twin"
-
-
-def twin_words(isa):
-    """The options of the twin for an instruction set as the program has it: without control registers, FENCE.I and WFI."""
-    return [*isa_words(isa), *(["--plain"] if isa != USUAL else [])]

@@ -8,10 +8,6 @@ pub enum Isa {
     Rv32im,
     Rv32imc,
     Rv32imac,
-    /// RV32IMC without Zicsr, Zifencei and WFI.
-    PlainRv32imc,
-    /// RV32IMAC without these.
-    PlainRv32imac,
 }
 
 impl Isa {
@@ -27,17 +23,8 @@ impl Isa {
     pub fn name(self) -> &'static str {
         match self {
             Isa::Rv32im => "rv32im",
-            Isa::Rv32imc | Isa::PlainRv32imc => "rv32imc",
-            Isa::Rv32imac | Isa::PlainRv32imac => "rv32imac",
-        }
-    }
-
-    /// The profile without control registers, FENCE.I and WFI.
-    pub fn plain(self) -> Isa {
-        match self {
-            Isa::Rv32im => Isa::Rv32im,
-            Isa::Rv32imc | Isa::PlainRv32imc => Isa::PlainRv32imc,
-            Isa::Rv32imac | Isa::PlainRv32imac => Isa::PlainRv32imac,
+            Isa::Rv32imc => "rv32imc",
+            Isa::Rv32imac => "rv32imac",
         }
     }
 
@@ -47,12 +34,12 @@ impl Isa {
     }
 
     pub fn has_atomics(self) -> bool {
-        self.plain() == Isa::PlainRv32imac
+        self == Isa::Rv32imac
     }
 
     /// Whether it has control registers, FENCE.I and WFI.
     pub fn has_controls(self) -> bool {
-        matches!(self, Isa::Rv32imc | Isa::Rv32imac)
+        self != Isa::Rv32im
     }
 }
 

@@ -84,18 +84,14 @@ fn main() {
             "usage: twin STEPS | twin STEPS MEMORY FILE | twin looks MEMORY FILE | twin clean STEPS MEMORY FILE \
              | twin session PROGRAM [INPUT] | twin summary STEPS PROGRAM [INPUT] | twin halves \
              | twin sweep PROGRAM --at A..B --faults LIST [--code-range LO..HI] [--pairs skip] \
-             [--step N] [--input F] [--supp F] [--with-output] [--part I/N]; each with [--isa rv32im|rv32imc|rv32imac] [--plain]"
+             [--step N] [--input F] [--supp F] [--with-output] [--part I/N]; each with [--isa rv32im|rv32imc|rv32imac]"
         ),
     }
 }
 
-/// Takes `--isa NAME` or `--isa=NAME` out of the words, wherever it is, and `--plain`, by which it has no control registers, FENCE.I and
-/// WFI: the last one counts. `None` if there is no such profile.
+/// Takes `--isa NAME` or `--isa=NAME` out of the words, wherever it is: the last one counts. `None` if there is no such profile.
 fn take_isa(words: &mut Vec<String>) -> Option<Isa> {
     let mut isa = Isa::Rv32im;
-    let count = words.len();
-    words.retain(|word| word != "--plain");
-    let is_plain = words.len() < count;
     while let Some(at) = words.iter().position(|word| word == "--isa" || word.starts_with("--isa=")) {
         let word = words.remove(at);
         let name = match word.strip_prefix("--isa=") {
@@ -105,7 +101,7 @@ fn take_isa(words: &mut Vec<String>) -> Option<Isa> {
         };
         isa = Isa::of(&name)?;
     }
-    Some(if is_plain { isa.plain() } else { isa })
+    Some(isa)
 }
 
 /// Writes the table of a sweep, and answers the exit status.

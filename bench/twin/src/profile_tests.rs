@@ -205,18 +205,16 @@ fn control_registers_keep_bits_with_those_that_are_undefined() {
 }
 
 #[test]
-fn plain_profiles_have_no_control_registers() {
+fn the_usual_profile_has_no_control_registers() {
     // fence.i, wfi, and mscratch read
     for word in [0x0000_100F, 0x1050_0073, control(0x340, 2, 0)] {
-        for (isa, status) in
-            [(Isa::Rv32imac, Status::Running), (Isa::Rv32imac.plain(), Status::Illegal), (Isa::Rv32imc.plain(), Status::Illegal)]
-        {
+        for (isa, status) in [(Isa::Rv32imac, Status::Running), (Isa::Rv32imc, Status::Running), (Isa::Rv32im, Status::Illegal)] {
             let mut machine = Machine::start(isa, START, &[word], 0x1000);
             machine.step();
             assert_eq!(machine.status, status, "{word:#010x} of {}", isa.name());
         }
     }
-    for (isa, status) in [(Isa::Rv32imac.plain(), Status::Running), (Isa::Rv32imc.plain(), Status::Illegal)] {
+    for (isa, status) in [(Isa::Rv32imac, Status::Running), (Isa::Rv32imc, Status::Illegal)] {
         assert_eq!(after(isa, &[LOAD_RESERVED as u16, (LOAD_RESERVED >> 16) as u16], 1).status, status);
     }
 }

@@ -1,6 +1,6 @@
 /* An instruction that RV32IM doesn't have. */
 int main(void)
 {
-    __asm__ volatile("wfi");
+    __asm__ volatile("mret");
     return 0;
 }

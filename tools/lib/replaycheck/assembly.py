@@ -1,9 +1,9 @@
-"""Instructions of RV32IM and RV32A: their words, and a small assembler for the programs of tests and measurements."""
+"""Instructions of RV32IM, RV32A, Zicsr and Zifencei: their words, and a small assembler for the programs of tests and measurements."""
 import re
 
 from replaycheck.guest_files import ENTRY
 
-EBREAK, ECALL, FENCE = 0x00100073, 0x00000073, 0x0FF0000F
+EBREAK, ECALL, FENCE, FENCE_I, WFI, MRET = 0x00100073, 0x00000073, 0x0FF0000F, 0x0000100F, 0x10500073, 0x30200073
 NAMES = ["zero", "ra", "sp", "gp", "tp", "t0", "t1", "t2", "s0", "s1", *(f"a{i}" for i in range(8)),
          *(f"s{i}" for i in range(2, 12)),
          *(f"t{i}" for i in range(3, 7))]
@@ -17,13 +17,22 @@ OF_REGISTERS = {"add": (0, 0), "sub": (32, 0), "sll": (0, 1), "slt": (0, 2), "sl
 OF_IMMEDIATES = {"addi": 0, "slli": 1, "slti": 2, "sltiu": 3, "xori": 4, "srli": 5, "ori": 6, "andi": 7}
 LOADS = {"lb": 0, "lh": 1, "lw": 2, "lbu": 4, "lhu": 5}
 STORES = {"sb": 0, "sh": 1, "sw": 2}
-PLAIN = {"nop": 0x13, "ecall": ECALL, "ebreak": EBREAK, "fence": FENCE}
+PLAIN = {"nop": 0x13, "ecall": ECALL, "ebreak": EBREAK, "fence": FENCE, "fence.i": FENCE_I, "wfi": WFI, "mret": MRET}
 # funct5 of atomic instructions, and the bits aq and rl (RISC-V Unprivileged ISA 20191213, chapter 8).
 LOAD_RESERVED, STORE_CONDITIONAL = 2, 3
 UPDATES = {"amoadd.w": 0, "amoswap.w": 1, "amoxor.w": 4, "amoor.w": 8, "amoand.w": 12, "amomin.w": 16, "amomax.w": 20, "amominu.w": 24,
            "amomaxu.w": 28}
 ATOMICS = {"lr.w": LOAD_RESERVED, "sc.w": STORE_CONDITIONAL, **UPDATES}
 ORDERS = {"": 0, ".rl": 1, ".aq": 2, ".aqrl": 3}
+# funct3 of instructions of control registers: of a register, and of an immediate (chapter 9 there).
+CONTROLS = {"csrrw": 1, "csrrs": 2, "csrrc": 3}
+CONTROL_IMMEDIATES = {"csrrwi": 5, "csrrsi": 6, "csrrci": 7}
+# The control registers that tests name, by their numbers (Privileged Architecture 20190608, section 2.2).
+CONTROL_NUMBERS = {
+    "mstatus": 0x300, "misa": 0x301, "mie": 0x304, "mtvec": 0x305, "mscratch": 0x340, "mepc": 0x341, "mcause": 0x342, "mtval": 0x343,
+    "mip": 0x344, "mcycle": 0xB00, "minstret": 0xB02, "mcycleh": 0xB80, "minstreth": 0xB82, "cycle": 0xC00, "time": 0xC01,
+    "instret": 0xC02, "cycleh": 0xC80, "timeh": 0xC81, "instreth": 0xC82, "mhartid": 0xF14}
+FIRST_CONSTANT = 0xC00  # the least number of those that are only read (section 2.1 there)
 BRANCHES = {"beq": 0, "bne": 1, "blt": 4, "bge": 5, "bltu": 6, "bgeu": 7}
 
 
@@ -69,11 +78,21 @@ def atomic(funct5, to, base, source=0, order=0):
     return funct5 << 27 | order << 25 | source << 20 | base << 15 | 2 << 12 | to << 7 | 0x2F
 
 
+def control(funct3, to, number, operand):
+    """An instruction of the control register of a number, with a register or an immediate of five bits."""
+    return number << 20 | operand << 15 | funct3 << 12 | to << 7 | 0x73
+
+
 # ---- text
 
 
 def number_of(text):
     return int(text, 0)
+
+
+def control_number(text):
+    """The number of a control register, by its name or by itself."""
+    return CONTROL_NUMBERS[text] if text in CONTROL_NUMBERS else number_of(text)
 
 
 def words_of(name, fields, away):
@@ -103,6 +122,10 @@ def words_of(name, fields, away):
     if found and found[1] in ATOMICS:
         *source, base = register[1:]  # `lr.w` has no second register
         return [atomic(ATOMICS[found[1]], register[0], base, *source or [0], ORDERS[found[2]])]
+    if name in CONTROLS:
+        return [control(CONTROLS[name], register[0], control_number(fields[1]), register[2])]
+    if name in CONTROL_IMMEDIATES:
+        return [control(CONTROL_IMMEDIATES[name], register[0], control_number(fields[1]), number_of(fields[2]))]
     return short_form(name, fields, register, away)
 
 
@@ -116,6 +139,10 @@ def short_form(name, fields, register, away):
         return [addi(register[0], register[1], 0)]
     if name == "j":
         return [jump(0, away(fields[0]))]
+    if name == "csrr":
+        return [control(CONTROLS["csrrs"], register[0], control_number(fields[1]), 0)]
+    if name == "csrw":
+        return [control(CONTROLS["csrrw"], 0, control_number(fields[0]), register[1])]
     if name in PLAIN:
         return [PLAIN[name]]
     raise ValueError(f"no instruction {name}")

@@ -145,8 +145,13 @@ class Code:
             return False
         return True
 
+    def returns(self):
+        """Those of the instructions for control registers and the like that no instruction set of the program has."""
+        return [it for it in self.control if not isa.is_control(it.word)]
+
     def least_set(self):
-        """The least of the program's instruction sets that has all that was found, but for what is cured; None if none has."""
+        """The least of the program's instruction sets that has all that was found, but for what is cured, and for returns from traps and
+        the like, which no run here reaches by a trap; None if none has."""
         if self.floating or self.compressed or self.unknown or not all(isa.is_atomic(it.word) for it in self.atomic):
             return None
         return programs.ATOMIC if self.atomic else self.least
@@ -179,9 +184,6 @@ class CodeOfHalves(Code):
             if isa.ends(word) or address in self.ends:
                 return elsewhere
         return elsewhere
-
-    def least_set(self):
-        return None if self.control else super().least_set()
 
 
 def unseen(stretch, start, end, unit):

@@ -6,6 +6,7 @@ import tempfile
 from replaycheck.endings import Fault, naming
 from replaycheck.endings import write as say
 from replaycheck.options import BadValue, Once, Reader
+from replaycheck.programs import USUAL
 
 from . import report
 from .curing import cured
@@ -32,6 +33,7 @@ def options_of(page):
     reader.repeated("--heap", type=heap)
     reader.repeated("--keep")
     reader.repeated("--devices")
+    reader.isa_option()
     options = reader.read()
     names = [name for name, _, _ in options.heap] + options.keep
     twice = next((name for i, name in enumerate(names) if name in names[:i]), None)
@@ -78,14 +80,14 @@ def mode_of(path):
     return stat.S_IMODE(os.stat(path).st_mode) & ~mask & 0o777
 
 
-def healed(findings, heaps, kept):
+def healed(findings, heaps, kept, asked=USUAL):
     """The file with what can be cured, as bytes, and the changes. It is looked at as the file was: nothing is left to
     cure."""
     content, changes = cured(findings)
     if len(content) > ROOM:
         raise Fault(f"the cured file would have more than {ROOM} bytes: leave its debug information out: "
                     "riscv64-unknown-elf-objcopy --strip-debug")
-    again = Findings(content, heaps, kept)
+    again = Findings(content, heaps, kept, asked)
     if again.hopeless() or again.cures():
         raise Fault("the file's code overlaps its own tables: it is damaged, or not from a linker")
     return content, changes
@@ -117,7 +119,7 @@ def answer_for_devices(findings, inputs, kept):
 def adopt(options):
     """Looks at a file, writes another one if asked to, tells both, and returns the exit status."""
     data = read(options.file)
-    findings = Findings(data, options.heap, options.keep)
+    findings = Findings(data, options.heap, options.keep, options.isa)
     if findings.damaged:
         fault = findings.damaged
         raise Fault(f"{options.file}: {fault.what} (image refused {fault.number}): {fault.cure}")
@@ -132,7 +134,7 @@ def adopt(options):
     if out is not None and not findings.hopeless():
         if same_file(options.file, out):
             raise Fault(f"{out}: it is FILE itself: write to another file")
-        content, changes = healed(findings, options.heap, options.keep)
+        content, changes = healed(findings, options.heap, options.keep, options.isa)
         write(out, content, mode_of(options.file))
     written = out if out is not None and not findings.hopeless() else None
     for line in [*report.lines(findings, written, changes), report.verdict(findings, options.file, out)]:

@@ -2,12 +2,13 @@
 cures."""
 import collections
 
-from replaycheck.programs import USUAL
+from replaycheck.programs import ISAS, SHORT, USUAL
 
 from .code import Code, CodeOfHalves, joined, replaced, stack_words, without
 from .devices import Driving
 from .elf import IS_COMPRESSED, REGIONS, ROOM, Elf, refusals
 from .heaps import Plan
+from .instructions import is_control
 from .outside import reached
 from .semihosting import Hosting, sites
 
@@ -20,20 +21,22 @@ TARGET = "-march=rv32im -mabi=ilp32"
 
 class Findings:
     """All that is found in a file. `elf` is None where it can't be read so far. `isa` is the instruction set for which the file is to be
-    run, the usual one if no other has all that is missing in it."""
+    run: the one that is asked for, unless it needs another one to have all that is missing."""
 
-    def __init__(self, data, heaps, kept):
+    def __init__(self, data, heaps, kept, asked=USUAL):
         refused = refusals(data)
         self.obstacles = [Obstacle(f"{it.what} (image refused {it.number})", it.cure, True) for it in refused]
         self.damaged = next((it for it in refused if it.number in DAMAGED), None)
         self.elf = Elf(data) if all(it.readable for it in refused) else None
         self.plan, self.control, self.stack, self.copied, self.devices = None, [], [], [], []
-        self.hosting, self.driving, self.runs, self.isa = None, None, 0, USUAL
+        self.hosting, self.driving, self.runs, self.isa, self.asked = None, None, 0, USUAL, asked
         if self.elf is None:
             return
         if self.elf.flags & IS_COMPRESSED:
-            self.isa = USUAL if self.obstacles else set_of(CodeOfHalves(self.elf))
+            code = CodeOfHalves(self.elf)
+            self.isa = USUAL if self.obstacles else set_of(code)
             self.obstacles.append(compressed(self.elf, self.option))
+            self.obstacles += returning(self.elf, code) if self.option else []
         if not self.hopeless():
             self.look(heaps, kept)
 
@@ -62,10 +65,12 @@ class Findings:
                                            "name the first function to the linker: ENTRY(_start), or -Wl,-e,_start",
                                            True))
             return
-        self.isa = set_of(code)
-        self.control = [replaced(code, it) for it in code.control if self.elf.function_at(it.address) not in kept]
+        needed = set_of(code)
+        self.isa = max(needed, self.asked, key=ISAS.index)
+        unknown = code.control if self.isa == USUAL else code.returns()
+        self.control = [replaced(code, it) for it in unknown if self.elf.function_at(it.address) not in kept]
         self.stack = [it for it in stack_words(code, self.elf.entry) if self.elf.function_at(it.address) not in kept]
-        self.obstacles += of_code(self.elf, code, self.option)
+        self.obstacles += of_code(self.elf, code, self.option if needed != USUAL else None)
         self.copied, unplaced = physical(self.elf)
         self.obstacles += [Obstacle(
             f"{it.filesz} bytes for 0x{it.vaddr:08x} that the linker script puts to 0x{it.paddr:08x}, where they can't "
@@ -110,6 +115,12 @@ class Findings:
         taken = self.plan.taken if self.plan else ()
         return sum(len(it.sites) for it in self.added()) + len(taken) + len(self.control) + len(self.stack) + len(self.copied)
 
+    @property
+    def other_cure(self):
+        """The option of the program that is enough in place of all cures, or None."""
+        controls = [it for it in self.control if is_control(it.word)]
+        return f"--isa {SHORT}" if controls and len(controls) == self.cures() else None
+
 
 def set_of(code):
     """The instruction set for code that is looked at now: the usual one if no other has all that is found."""
@@ -124,6 +135,13 @@ def compressed(elf, option):
     place = f", at {places(elf, code.compressed)}" if code.compressed else ""
     return Obstacle(f"compressed instructions, by bit 0 of e_flags{place}: at the first the run stops",
                     f"{by_option(option)}compile all of it, and link with libraries for it: {TARGET}", True, bool(option))
+
+
+def returning(elf, code):
+    """The obstacle of returns from traps and the like in a file that isn't cured, if it has any."""
+    found = code.returns()
+    return [Obstacle(f"returns from traps and the like, at {places(elf, found)}: a run that reaches one stops there",
+                     "no trap leads there; a start file that enters main by mret has to jump there", False)] if found else []
 
 
 def by_option(option):

@@ -1,7 +1,7 @@
 """Words of RISC-V instructions: which of them are RV32IM's, where they go, and those that cures are made of."""
 import functools
 
-from replaycheck.assembly import ATOMICS, LOAD_RESERVED
+from replaycheck.assembly import ATOMICS, FIRST_CONSTANT, LOAD_RESERVED, WFI
 
 NAMES = ["zero", "ra", "sp", "gp", "tp", "t0", "t1", "t2", "s0", "s1", *(f"a{i}" for i in range(8)),
          *(f"s{i}" for i in range(2, 12)), *(f"t{i}" for i in range(3, 7))]
@@ -18,8 +18,7 @@ ATOMIC = 0x2F
 FUNCT3 = {LOAD: {0, 1, 2, 4, 5}, STORE: {0, 1, 2}, BRANCH: {0, 1, 4, 5, 6, 7}, JALR: {0}, FENCE: {0}}
 SHIFTS = {1: {0}, 5: {0, 0x20}}
 ALTERNATIVES = {0: set(range(8)), 1: set(range(8)), 0x20: {0, 5}}
-# Those that do nothing here.
-PRIVILEGED = {0x10500073: "wfi", 0x30200073: "mret", 0x10200073: "sret", 0x00200073: "uret", 0x7B200073: "dret"}
+PRIVILEGED = {WFI: "wfi", 0x30200073: "mret", 0x10200073: "sret", 0x00200073: "uret", 0x7B200073: "dret"}
 RETURNS = {"mret", "sret", "uret", "dret"}
 CONTROLS = {1: "csrrw", 2: "csrrs", 3: "csrrc", 5: "csrrwi", 6: "csrrsi", 7: "csrrci"}
 REGISTERS_OF_CONTROL = {
@@ -130,6 +129,15 @@ def control(word):
     source = str(rs1(word)) if funct3(word) > 4 else NAMES[rs1(word)]
     register = REGISTERS_OF_CONTROL.get(word >> 20, hex(word >> 20))
     return f"{CONTROLS[funct3(word)]} {NAMES[rd(word)]},{register},{source}"
+
+
+def is_control(word):
+    """Whether an instruction set of the program has such an instruction: `fence.i`, `wfi` and those of control registers, but for a write
+    of one that is only read. Returns from traps and the like it hasn't."""
+    if word in PRIVILEGED or opcode(word) == FENCE:
+        return word == WFI or opcode(word) == FENCE and funct3(word) == 1
+    writes = funct3(word) & 3 == 1 or rs1(word) != 0
+    return opcode(word) == SYSTEM and funct3(word) in CONTROLS and not (writes and word >> 20 >= FIRST_CONSTANT)
 
 
 def reads_clock(word):

@@ -1,9 +1,12 @@
 """The words of what was found in a file, of what was changed in it, and of how far it will run."""
+from replaycheck.programs import SHORT
+
 from . import instructions as isa
 from .heaps import PARAMETERS
 
 HEAP = "functions of a heap by other names, whose blocks are unknown: free of one would be a false error"
-CONTROL = "instructions for control registers, waits and the like, at which the run would stop"
+CONTROL = f"instructions for control registers, fence.i and wfi, at which the run would stop without --isa {SHORT}"
+RETURN = "returns from traps and the like, at which the run would stop"
 STACK = ("a stack of the start file's own: what nothing has set isn't found on it, and where no segment is, each push "
          "is an error")
 HOSTED = "calls of a host by semihosting, at which the run would stop: answered by calls 63, 64 and 93"
@@ -59,7 +62,8 @@ def cure_lines(findings):
     elf, plan = findings.elf, findings.plan
     groups = [
         (HEAP, [taken_line(it) for it in plan.taken.values()]),
-        (CONTROL, [control_line(elf, it) for it in findings.control]),
+        (CONTROL, [control_line(elf, it) for it in findings.control if isa.is_control(it.word)]),
+        (RETURN, [control_line(elf, it) for it in findings.control if not isa.is_control(it.word)]),
         (STACK, [f"{elf.where(it.address)}: 0x{it.word:08x}, which sets sp, becomes nop" for it in findings.stack]),
         (HOSTED, [hosted_line(elf, it) for it in findings.hosting.sites] if findings.hosting else []),
         (DRIVEN, list(driven_lines(findings))),
@@ -95,7 +99,7 @@ def lines(findings, written, changes):
         yield f"{DEVICES}:"
         yield from (f"  {device_line(findings.elf, it)}" for it in findings.devices)
     if findings.obstacles:
-        yield "needs an option, or a rebuild:" if findings.option else "needs a rebuild:"
+        yield "needs an option, or a rebuild:" if any(it.by_option for it in findings.obstacles) else "needs a rebuild:"
     for it in findings.obstacles:
         yield f"  {it.what}"
         yield f"    {it.cure}"
@@ -107,8 +111,7 @@ def lines(findings, written, changes):
 def verdict(findings, name, out):
     """How far it will run."""
     if findings.hopeless():
-        without = f" without {findings.option}" if findings.option else ""
-        return f"{name} won't run{without}" + (f", and {out} wasn't written" if out else "")
+        return f"{name} won't run{without_option(findings)}" + (f", and {out} wasn't written" if out else "")
     runs = "will run" + (f" with {findings.option}" if findings.option else "")
     devices = "waits for no device" if findings.devices else ""
     if not all(it.by_option for it in findings.obstacles):
@@ -116,4 +119,13 @@ def verdict(findings, name, out):
     if out or not findings.cures():
         certain = f"{out or name} {runs}" + ("" if out or findings.option else " as it is")
         return f"{out or name} {runs} as far as it {devices}" if devices else certain
-    return f"{name} {runs} once it is cured" + (devices and f", as far as it {devices}")
+    other = f", or as it is with {findings.other_cure}" if findings.other_cure else ""
+    return f"{name} {runs} once it is cured{other}" + (devices and f", as far as it {devices}")
+
+
+def without_option(findings):
+    """Without which option a file won't run, and how far with it."""
+    if not findings.option:
+        return ""
+    far = "" if all(it.by_option for it in findings.obstacles) else ", and with it as far as it meets nothing that needs a rebuild"
+    return f" without {findings.option}{far}"

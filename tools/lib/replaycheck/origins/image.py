@@ -3,7 +3,8 @@ import re
 
 from replaycheck.adopting.elf import FUNCTION, Elf, refusals
 from replaycheck.adopting.halves import expanded, is_half
-from replaycheck.adopting.instructions import ATOMIC, AUIPC, IMMEDIATE, LOAD, LUI, REGISTERS, SP, STORE, SYSTEM, opcode, rd
+from replaycheck.adopting.instructions import (ATOMIC, AUIPC, EBREAK, ECALL, IMMEDIATE, LOAD, LUI, REGISTERS, SP, STORE, is_control,
+                                               opcode, rd)
 from replaycheck.endings import Fault
 from replaycheck.programs import USUAL
 
@@ -11,7 +12,7 @@ LONGEST_FILE = 1 << 26
 MOST_MARKED = 1 << 20  # so many bytes one mark may have
 HEAP, STACK_TOP, STACK = 0x40000000, 0x80000000, 0x7F000000
 HEAP_FUNCTIONS = ("malloc", "free", "calloc", "realloc")
-KINDS = {STORE: "store", LOAD: "load", ATOMIC: "atomic", SYSTEM: "call"}
+KINDS = {STORE: "store", LOAD: "load", ATOMIC: "atomic"}
 PATCH = re.compile(r"patch(16)? (\S+) (\S+)")
 MARK = re.compile(r"mark (\S+) (\S+) (\S+) undefined")
 
@@ -51,11 +52,13 @@ class Image:
 
     def kind(self, address):
         """What an instruction is: the name of a function of the heap, `frame` where it moves the stack pointer,
-        `store`, `load`, `atomic`, `call`, or `other`."""
+        `store`, `load`, `atomic`, `call`, or `other`, as also one of a control register is."""
         word = self.instruction(address)
         if address in self.heap:
             return self.heap[address]
-        writes = opcode(word) in (IMMEDIATE, REGISTERS, LUI, AUIPC, LOAD, ATOMIC)
+        if word in (ECALL, EBREAK):
+            return "call"
+        writes = opcode(word) in (IMMEDIATE, REGISTERS, LUI, AUIPC, LOAD, ATOMIC) or is_control(word)
         return "frame" if writes and rd(word) == SP else KINDS.get(opcode(word), "other")
 
     def creates(self, address):

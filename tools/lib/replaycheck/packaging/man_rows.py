@@ -148,6 +148,7 @@ changed in check.elf:
     "word": (
         Example("An instruction:", "replaycheck word 'addi a0,a2,4'", "0x00460513\n", needs=ASSEMBLER),
         Example("An instruction of 16 bits:", "replaycheck word --isa=rv32imc 'c.li a0,1'", "0x4505\n", needs=ASSEMBLER),
+        Example("A read of a control register:", "replaycheck word --isa=rv32imc 'csrr a0,mhartid'", "0xf1402573\n", needs=ASSEMBLER),
         Example("An atomic instruction:", "replaycheck word --isa=rv32imac 'amoadd.w a0,a1,(a2)'", "0x00b6252f\n", needs=ASSEMBLER),
         Example("A call of a function, at an address:", "replaycheck word 'jal malloc' --at 0x101e8 --symbols station.elf",
                 "0x730000ef\n", needs=ASSEMBLER)),
