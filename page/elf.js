@@ -85,19 +85,19 @@ export class Elf {
     if (found) return found;
     const segment = this.segmentAt(address);
     if (!segment) return null;
-    const begin = Math.max(segment.address, (address & ~3) - 64);
-    return { name: '???', address: begin >>> 0, size: Math.min(128, segment.address + segment.size - begin) };
+    const begin = Math.max(segment.address, address - address % 4 - 64);
+    return { name: '???', address: begin, size: Math.min(128, segment.address + segment.size - begin) };
   }
 
   segmentAt(address) {
     return this.segments.find((it) => it.address <= address && address < it.address + it.size);
   }
 
-  // Whether some aligned word that is loaded from the file is one of these.
-  hasWord(words) {
+  // Whether some word that is loaded from the file is one of these, at a multiple of `unit`.
+  hasWord(words, unit) {
     return this.segments.some(({ offset, address, inFile }) => {
       const end = Math.min(offset + inFile, this.bytes.length) - 3;
-      for (let at = offset + (-address & 3); at < end; at += 4) if (words.includes(this.word(at))) return true;
+      for (let at = offset + (-address & unit - 1); at < end; at += unit) if (words.includes(this.word(at))) return true;
       return false;
     });
   }

@@ -1,15 +1,16 @@
 // Whether errors of the heap can be found in a program's run. The program knows a heap by the names of its functions, or by
 // the numbers of its environment calls; a file without symbols, or with other names, may have a heap that goes unseen.
 import { FIRST_BLOCK, HEAP_CHOICES, HEAP_NAMES, OTHER_HEAPS } from './facts.js';
+import { unitOf } from './isa.js';
 import { hexWord } from './numbers.js';
 import { Helper } from './sessions.js';
 
 const ECALL = 0x73, MOST_NAMED = 4;
 
-// What of a file's heap may go unseen, in words; empty where nothing does.
-export function unseenIn(elf) {
+// What of a file's heap may go unseen under an instruction set, in words; empty where nothing does.
+export function unseenIn(elf, isa) {
   if (HEAP_NAMES.some((it) => elf.functionNames.has(it))) return '';
-  if (elf.hasWord([ECALL]) && elf.hasWord(HEAP_CHOICES)) return '';
+  if ([[ECALL], HEAP_CHOICES].every((words) => elf.hasWord(words, unitOf(isa)))) return '';
   if (!elf.functionNames.size && !elf.labelNames.size) {
     return 'The file has no symbols, and a heap is known by the names of its functions. Strip it with --strip-debug only.';
   }
@@ -22,7 +23,7 @@ export function unseenIn(elf) {
 
 // The same of a run up to a step: one that makes a block has a heap that is seen.
 export async function unseenHeap({ module, files, isa, elf, limit, makeWorker }, step) {
-  const unseen = unseenIn(elf);
+  const unseen = unseenIn(elf, isa);
   if (!unseen) return '';
   const helper = new Helper(makeWorker);
   try {

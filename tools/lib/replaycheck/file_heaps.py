@@ -8,7 +8,7 @@ import struct
 from replaycheck.adopting.heap_names import KNOWN, LEFT
 from replaycheck.allocators import HEAP, RUSTS
 from replaycheck.children import outcome
-from replaycheck.programs import ISAS, isa_words, path_of, program
+from replaycheck.programs import ISAS, isa_words, path_of, program, unit_of
 
 OTHERS = {it.partition("=")[0] for it in KNOWN} - {*HEAP} | {*LEFT}
 NO_TYPE, FUNCTION, SYMBOLS, LOAD = 0, 2, 2, 1
@@ -88,23 +88,23 @@ class Names:
                 yield self.texts[first:at + len(end)].decode("utf-8", "surrogateescape")
 
 
-def has_word(data, segment, words):
-    """Whether an aligned word of a segment is one of these."""
+def has_word(data, segment, words, unit):
+    """Whether a word of a segment is one of these, at an address where an instruction may begin."""
     _, offset, address, _, size = segment[:5]
     content = data[offset:offset + size]
     for word in words:
         at = -1
         while (at := content.find(word.to_bytes(4, "little"), at + 1)) >= 0:
-            if (address + at) % 4 == 0:
+            if (address + at) % unit == 0:
                 return True
     return False
 
 
-def calls_by_number(data):
-    """Whether the code chooses an environment call of the heap."""
+def calls_by_number(data, unit):
+    """Whether the code chooses an environment call of the heap. Its instructions begin at multiples of `unit`."""
     (place,), (count,) = fields(data, "I", 28), fields(data, "H", 44)
     loaded = [it for it in (fields(data, "8I", place + 32 * number) for number in range(count)) if it[0] == LOAD]
-    return any(has_word(data, it, [ECALL]) for it in loaded) and any(has_word(data, it, CHOICES) for it in loaded)
+    return all(any(has_word(data, it, words, unit) for it in loaded) for words in ([ECALL], CHOICES))
 
 
 def rusts_in(functions):
@@ -114,13 +114,13 @@ def rusts_in(functions):
             yield from [name] if functions.has(name) else functions.ending(f"7___rustc{len(name)}_{name}")
 
 
-def heap_in(data):
-    """The heap of a file that the program has accepted, by its symbols and its code."""
+def heap_in(data, isa):
+    """The heap of a file that the program has accepted for an instruction set, by its symbols and its code."""
     functions, labels = symbols(data)
     named = [name for name in HEAP if functions and functions.has(name)]
     if named:
         return Heap(BY_NAME, named)
-    if calls_by_number(data):
+    if calls_by_number(data, unit_of(isa)):
         return Heap(BY_NUMBER)
     if not functions and not labels:
         return Heap(NO_SYMBOLS)
@@ -147,7 +147,7 @@ def heap_of_run(file, given, step, has_blocks=False, isa=ISAS[0]):
         return None
     try:
         with open(file, "rb") as opened:
-            heap = heap_in(opened.read(LONGEST_FILE + 1))
+            heap = heap_in(opened.read(LONGEST_FILE + 1), isa)
     except (OSError, struct.error):  # it has changed since it was run
         return None
     if heap.is_unseen and (has_blocks or makes_blocks(file, given, step, isa)):
