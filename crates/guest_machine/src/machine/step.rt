@@ -409,28 +409,6 @@ impl Guest {
         self.begin_anew(setup)
     }
 
-    /// Calls the function of the heap that begins at pc, or executes or fetches the code there. Returns which bytes that read or wrote.
-    #[inline(always)]
-    #[tactic(auto, unfolding(instructions::specs::Codes::code_of, crate::specs::Exec::uses_at, crate::specs::Exec::intake_at, crate::specs::Exec::outcome_at, crate::specs::Exec::touched_at))]
-    fn perform_ready(&mut self, setup: &Setup) -> Result<Touched, AllocError>
-        requires { is_ready (core_of self.old) ≡ true }
-        ensures does { OnOk result (DoesDeed self.old self.new setup.now) }
-        ensures touched { IfOk result (λ touched. touched ≡ touched_by self.old setup.now) }
-        ensures code { IfOk result (λ touched. IfSome touched.fetch IsCodeSpan) }
-    {
-        if let Some(function) = self.named_here(&setup.hooks) {
-            return self.perform_by_name(function, setup);
-        }
-        let pc = self.pc;
-        match self.decoded_here() {
-            None => self.begin_anew(setup),
-            Some(instruction) => {
-                let used = self.round(setup, 0, 4, instruction)?;
-                Ok(used.touched_at(pc, 4))
-            }
-        }
-    }
-
     /// Counts a step.
     #[inline(always)]
     fn count_step(&mut self)
@@ -439,9 +417,38 @@ impl Guest {
         self.steps = self.steps.wrapping_add(1);
     }
 
+    /// Calls the function of the heap that begins at pc, or executes or fetches the code there. Returns which bytes that read or wrote. Each
+    /// of the three ways counts the step itself, so that what they return isn't taken apart for it.
+    #[inline(always)]
+    #[tactic(auto, unfolding(instructions::specs::Codes::code_of, crate::specs::Exec::uses_at, crate::specs::Exec::intake_at, crate::specs::Exec::outcome_at, crate::specs::Exec::effect_at, crate::specs::Exec::touched_at))]
+    fn perform_ready(&mut self, setup: &Setup) -> Result<Touched, AllocError>
+        requires { is_ready (core_of self.old) ≡ true }
+        ensures does { OnOk result (DoesStep self.old self.new setup.now) }
+        ensures touched { IfOk result (λ touched. touched ≡ touched_by self.old setup.now) }
+        ensures code { IfOk result (λ touched. IfSome touched.fetch IsCodeSpan) }
+    {
+        if let Some(function) = self.named_here(&setup.hooks) {
+            let touched = self.perform_by_name(function, setup)?;
+            self.count_step();
+            return Ok(touched);
+        }
+        let pc = self.pc;
+        match self.decoded_here() {
+            None => {
+                let touched = self.begin_anew(setup)?;
+                self.count_step();
+                Ok(touched)
+            }
+            Some(instruction) => {
+                let used = self.round(setup, 0, 4, instruction)?;
+                self.count_step();
+                Ok(used.touched_at(pc, 4))
+            }
+        }
+    }
+
     /// Makes a step, or halts. Returns which bytes that read or wrote. Asks only once whether an instruction may begin at pc.
     #[inline(always)]
-    #[tactic(auto, unfolding(crate::specs::Exec::effect_at))]
     fn perform(&mut self, setup: &Setup) -> Result<Touched, AllocError>
         ensures does { OnOk result (DoesStep self.old self.new setup.now) }
         ensures touched { IfOk result (λ touched. touched ≡ touched_by self.old setup.now) }
@@ -450,9 +457,7 @@ impl Guest {
         if !self.is_ready() {
             return self.perform_unready(setup);
         }
-        let touched = self.perform_ready(setup)?;
-        self.count_step();
-        Ok(touched)
+        self.perform_ready(setup)
     }
 
     /// Forgets that the step before raised an error.
