@@ -119,6 +119,12 @@ def test_made_steps(tests):
         named = f": flip {count // 2} 0x00020000 0x01000000\n1: exited 0; Invalid read of size 1"
         tests.check(f"picture of steps: {size} bytes at {count} steps, the title",
                     "" if size > 160 or 0x20003 % 7 == count // 2 % 7 or any(named in it[5] for it in marks) else marks[:3])
+    edits = [edit for at in range(4) for edit in edits_of("words", at, "0x00010002", 32 if at < 2 else 16)]
+    made = made_steps(4, {3}, model="words", edits=edits)
+    rects, text = drawn(tests, made.replace(b"sweep 2\n", b"sweep 2\nisa rv32imc\n"))
+    rows = [len([it for it in rects if it[2] == row]) for row in sorted({it[2] for it in rects})]
+    tests.check("picture of steps: instructions of 32 and of 16 bits", "" if rows == [2] * 16 + [1] * 16 else (rows, text[:300]))
+    tests.check("picture of steps: 16 bits of 32", "those of step 2 aren't all" not in drawn(tests, made)[1])
     rects, text = drawn(tests, made_steps(40, {3, 4, 20}), ["--goal=Invalid read"])
     reached = [it for it in rects if it[0] == "g"]
     tests.check("picture of steps: a goal", "" if len(reached) == 2 and "reaches the goal: a line that begins with `Invalid read`" in text

@@ -13,11 +13,8 @@ use Rattle.sweep_plans.specs.declared.glitches.Target.{Target}
 use Rattle.sweep_plans.specs.declared.glitches.Target.TheVariants.{Register}
 
 -- those below a number
-unfoldable pub flips_to : ℕ → Target → ℕ → List Change
-flips_to step target n = map (λ bit. flip_of step target (2 ^ bit)) (below n)
-
 unfoldable pub register_flips_to : ℕ → ℕ → List Change
-register_flips_to step n = flat_map (λ r. flips_at step (Register (r + 1))) (below n)
+register_flips_to step n = flat_map (λ r. flips_at step (Register (r + 1)) 32) (below n)
 
 unfoldable pub register_sets_to : ℕ → ℕ → ℕ → List Change
 register_sets_to step value n = map (λ r. Once step (Set (r + 1) value)) (below n)
@@ -38,13 +35,9 @@ pub all-byte-flips : (step addr : ℕ) → byte_flips_to step addr 8 ≡ byte_fl
 unfolding byte_flips_to byte_flips
 all-byte-flips step addr = refl
 
-pub no-flips : (step : ℕ) (target : Target) → flips_to step target 0 ≡ []
-unfolding flips_to below
+pub no-flips : (step : ℕ) (target : Target) → flips_at step target 0 ≡ []
+unfolding flips_at below
 no-flips step target = refl
-
-pub all-flips : (step : ℕ) (target : Target) → flips_to step target 32 ≡ flips_at step target
-unfolding flips_to flips_at
-all-flips step target = refl
 
 pub no-registers : (step : ℕ) → register_flips_to step 0 ≡ []
 unfolding register_flips_to below
@@ -70,18 +63,18 @@ byte-flip-next step addr n =
     ap (byte_flips_to step addr) (plus-one n) ∙ map-more (turned_bit step addr) (below n) n
 
 pub flip-next : (step : ℕ) (target : Target) (n : ℕ)
-    → flips_to step target (n + 1) ≡ flips_to step target n ++ flip_of step target (2 ^ n) ∷ []
-unfolding flips_to below
+    → flips_at step target (n + 1) ≡ flips_at step target n ++ flip_of step target (2 ^ n) ∷ []
+unfolding flips_at below
 flip-next step target n =
-    ap (flips_to step target) (plus-one n) ∙ map-more (λ bit. flip_of step target (2 ^ bit)) (below n) n
+    ap (flips_at step target) (plus-one n) ∙ map-more (λ bit. flip_of step target (2 ^ bit)) (below n) n
 
 pub register-next : (step n : ℕ)
-    → register_flips_to step (n + 1) ≡ register_flips_to step n ++ flips_at step (Register (n + 1))
+    → register_flips_to step (n + 1) ≡ register_flips_to step n ++ flips_at step (Register (n + 1)) 32
 unfolding register_flips_to below
 register-next step n =
     ap (register_flips_to step) (plus-one n)
-    ∙ flat_map-append (λ r. flips_at step (Register (r + 1))) (below n) (n ∷ [])
-    ∙ ap (λ xs. register_flips_to step n ++ xs) (append-nil (flips_at step (Register (n + 1))))
+    ∙ flat_map-append (λ r. flips_at step (Register (r + 1)) 32) (below n) (n ∷ [])
+    ∙ ap (λ xs. register_flips_to step n ++ xs) (append-nil (flips_at step (Register (n + 1)) 32))
 
 pub set-next : (step value n : ℕ) → register_sets_to step value (n + 1)
     ≡ register_sets_to step value n ++ Once step (Set (n + 1) value) ∷ []

@@ -153,7 +153,7 @@ half_to addr value = Half addr (value % 65536)
 
 -- there is a number after that of a step
 abbrev pub HasNext : Standing → Type 0
-HasNext (At.Step step pc) = step + 1 < 2 ^ 32
+HasNext (At.Step step pc half) = step + 1 < 2 ^ 32
 HasNext _ = Unit {0}
 
 -- the changes at a place, in order
@@ -161,7 +161,7 @@ unfoldable pub changes_of : Plan → Standing → List Change
 changes_of plan (At.Byte offset old) = map (byte_to offset) (byte_values plan.byte_values old 256)
 changes_of plan (At.Word addr old) = map (Word addr) (word_values old (wanted_words plan.word_values old))
 changes_of plan (At.Half addr old) = map (half_to addr) (word_values old (wanted_halves plan.word_values old))
-changes_of plan (At.Step step pc) = glitches_at plan.models step pc
+changes_of plan (At.Step step pc half) = glitches_at plan.models step pc half
 
 abbrev pub changes_by : Plan → Option Standing → List Change
 changes_by plan (Some standing) = changes_of plan standing

@@ -1,10 +1,10 @@
 //! The changes at a step.
-ghost use Rattle.std.specs.Prelude.{◌≡◌, ◌+◌, ◌^◌, ◌<◌, ◌++◌, IfOk, OnOk};
-ghost use Rattle.sweep_plans.specs.Glitches.{byte_flips, flip_of, flips_at, glitches_at, register_flips, register_sets, skip_at, when, word_flips};
+ghost use Rattle.std.specs.Prelude.{◌≡◌, ◌+◌, ◌^◌, ◌<◌, ◌≤◌, ◌++◌, IfOk, OnOk};
+ghost use Rattle.sweep_plans.specs.Glitches.{bits_of, byte_flips, flip_of, flips_at, glitches_at, register_flips, register_sets, skip_at, when, word_flips};
 ghost use Rattle.sweep_plans.specs.declared.glitches.Target.TheVariants.{Pc};
 
 use crate::change::{Change, Glitch};
-use crate::plan::FaultModels;
+use crate::plan::{FaultModels, HALF_BITS, WORD_BITS};
 use std::alloc::{AllocError, Global};
 
 /// What a bit is turned in.
@@ -50,12 +50,18 @@ fn flip_of(step: u32, target: Target, mask: u32) -> Change
     }
 }
 
-/// Appends the changes at a step that turn each bit, from bit 0 on.
-fn push_flips(changes: &mut Vec<Change>, step: u32, target: Target) -> Result<(), AllocError>
-    requires { step + 1 < 2 ^ 32 }
-    ensures { OnOk result (changes.new.items ≡ changes.old.items ++ flips_at step target) }
+/// Appends the changes at a step that turn each of the lowest bits, from bit 0 on.
+fn push_flips(
+    changes: &mut Vec<Change>,
+    step: u32,
+    target: Target,
+    bits: u32,
+) -> Result<(), AllocError>
+    requires next { step + 1 < 2 ^ 32 }
+    requires bits { bits ≤ 32 }
+    ensures { OnOk result (changes.new.items ≡ changes.old.items ++ flips_at step target bits) }
 {
-    for bit in 0..32u32 {
+    for bit in 0..bits {
         changes.push(flip_of(step, target, 1 << bit))?;
     }
     Ok(())
@@ -80,7 +86,7 @@ fn push_register_flips(changes: &mut Vec<Change>, step: u32) -> Result<(), Alloc
     ensures { OnOk result (changes.new.items ≡ changes.old.items ++ register_flips step) }
 {
     for r in 0..REGISTERS {
-        push_flips(changes, step, Target::Register(r + 1))?;
+        push_flips(changes, step, Target::Register(r + 1), WORD_BITS)?;
     }
     Ok(())
 }
@@ -99,30 +105,38 @@ fn push_registers(changes: &mut Vec<Change>, is_wanted: bool, step: u32) -> Resu
 /// Appends the flips of pc, if wanted.
 fn push_pc(changes: &mut Vec<Change>, is_wanted: bool, step: u32) -> Result<(), AllocError>
     requires { step + 1 < 2 ^ 32 }
-    ensures { OnOk result (changes.new.items ≡ changes.old.items ++ when is_wanted (flips_at step Pc)) }
+    ensures { OnOk result (changes.new.items ≡ changes.old.items ++ when is_wanted (flips_at step Pc 32)) }
 {
     if is_wanted {
-        push_flips(changes, step, Target::Pc)?;
+        push_flips(changes, step, Target::Pc, WORD_BITS)?;
     }
     Ok(())
 }
 
-/// Appends the flips of the word at pc, if wanted and if the word ends at the last address or before.
+/// Returns the number of bits of an instruction.
+fn bits_of(is_half: bool) -> u32
+    ensures { result ≡ bits_of is_half }
+{
+    if is_half { HALF_BITS } else { WORD_BITS }
+}
+
+/// Appends the flips of the instruction at pc, if wanted and if the word there ends at the last address or before.
 #[tactic(auto, unfolding(crate::specs::Glitches::word_flips))]
 fn push_word(
     changes: &mut Vec<Change>,
     is_wanted: bool,
     step: u32,
     pc: u32,
+    is_half: bool,
 ) -> Result<(), AllocError>
     requires { step + 1 < 2 ^ 32 }
-    ensures { OnOk result (changes.new.items ≡ changes.old.items ++ when is_wanted (word_flips step pc)) }
+    ensures { OnOk result (changes.new.items ≡ changes.old.items ++ when is_wanted (word_flips step pc is_half)) }
 {
     if !is_wanted {
         return Ok(());
     }
     if pc <= LAST_WORD {
-        push_flips(changes, step, Target::Word(pc))?;
+        push_flips(changes, step, Target::Word(pc), bits_of(is_half))?;
     }
     Ok(())
 }
@@ -173,22 +187,24 @@ pub fn byte_flips(alloc: Global, step: u32, addr: u32) -> Result<Vec<Change>, Al
     Ok(changes)
 }
 
-/// Returns the changes at a step before which pc has a value, except for those of the model `memory`, which depend on later steps.
+/// Returns the changes at a step before which pc has a value, and the instruction there has 16 bits or 32, except for those of the model
+/// `memory`, which depend on later steps.
 #[tactic(auto, unfolding(crate::specs::Glitches::glitches_at), using(std::proofs::Common::append_assoc))]
 pub fn glitches(
     alloc: Global,
     models: FaultModels,
     step: u32,
     pc: u32,
+    is_half: bool,
 ) -> Result<Vec<Change>, AllocError>
     requires { step + 1 < 2 ^ 32 }
-    ensures { IfOk result (λ changes. changes.items ≡ glitches_at models step pc) }
+    ensures { IfOk result (λ changes. changes.items ≡ glitches_at models step pc is_half) }
 {
     let mut changes = Vec::new(alloc);
     push_skip(&mut changes, models.skip, step)?;
     push_registers(&mut changes, models.registers, step)?;
     push_pc(&mut changes, models.pc, step)?;
-    push_word(&mut changes, models.words, step, pc)?;
+    push_word(&mut changes, models.words, step, pc, is_half)?;
     push_sets(&mut changes, models.zero, step, 0)?;
     push_sets(&mut changes, models.ones, step, u32::MAX)?;
     Ok(changes)

@@ -8,11 +8,11 @@ use crate::standing::Standing;
 use crate::values::{byte_changes, byte_values, flips, half_changes, others, word_changes};
 use std::alloc::{AllocError, Global};
 
-/// The number of bits of a word.
-const WORD_BITS: u32 = 32;
+/// The number of bits of a word, of a register and of pc.
+pub(crate) const WORD_BITS: u32 = 32;
 
 /// The number of bits of a half.
-const HALF_BITS: u32 = 16;
+pub(crate) const HALF_BITS: u32 = 16;
 
 /// The instruction that does nothing, of 32 bits.
 const NO_OP: &[u32] = &[0x13];
@@ -102,7 +102,7 @@ pub struct FaultModels {
     pub registers: bool,
     /// Each bit of pc is turned.
     pub pc: bool,
-    /// Each bit of the word at pc is turned, for this step only.
+    /// Each bit of the instruction at pc, of 16 or of 32 bits, is turned, for this step only.
     pub words: bool,
     /// Each bit of each byte that this or a later step reads before one overwrites it is turned.
     pub memory: bool,
@@ -227,7 +227,9 @@ impl Plan {
             Standing::Half { addr, half } => {
                 half_changes(alloc, addr, &self.values_for_half(alloc, u32::from(half))?)
             }
-            Standing::Step { step, pc } => glitches(alloc, self.models, step, pc),
+            Standing::Step { step, pc, is_half } => {
+                glitches(alloc, self.models, step, pc, is_half)
+            }
         }
     }
 }

@@ -9,6 +9,6 @@ pub enum Standing {
     Word { addr: u32, word: u32 },
     /// An instruction of 16 bits.
     Half { addr: u32, half: u16 },
-    /// A step of the run, before which pc has this value.
-    Step { step: u32, pc: u32 },
+    /// A step of the run, before which pc has this value, and the instruction there has 16 bits or 32.
+    Step { step: u32, pc: u32, is_half: bool },
 }

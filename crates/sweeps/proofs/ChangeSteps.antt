@@ -29,7 +29,7 @@ use Rattle.checkpoints.specs.declared.forks.Fork.{Fork}
 use Rattle.sweeps.specs.Spots.{Continues, IsFoundAt}
 use Rattle.sweeps.specs.declared.spots.Spot.{Spot}
 use Rattle.sweeps.specs.Standing.{GoesBack, IsAt, IsBelow, MayFollow, Stands, is_struck, standing_byte, standing_in}
-use Rattle.sweeps.specs.Standing.{standing_half, standing_step, standing_word, state_before}
+use Rattle.sweeps.specs.Standing.{is_half_next, standing_half, standing_step, standing_word, state_before}
 use Rattle.sweep_plans.specs.declared.plan.Place.{Place}
 use Rattle.sweep_plans.specs.declared.plan.Place.TheVariants.{Byte as ByteAt, Word as WordAt, Half as HalfAt}
 use Rattle.sweep_plans.specs.declared.plan.Place.TheVariants.{Step as StepAt, Nowhere}
@@ -54,7 +54,8 @@ half-test sc addr = has_halves (profile_of sc.image).isa && is_half_word sc.imag
 -- what is at a place stands there, and at a step that is below the chosen one
 module _ (sc : Scenario) (plan : Plan) (near : sc.step ≤ most_steps) (none : sc.marks ≡ []) where
   step-there : (code : Option Range) (step : ℕ) (s : Standing) → standing_step sc code step ≡ Some s
-      → (nat_lt step sc.step ≡ true) × (At.Step step (state_before sc step).core.pc ≡ s)
+      → (nat_lt step sc.step ≡ true)
+      × (At.Step step (state_before sc step).core.pc (is_half_next (state_before sc step)) ≡ s)
   unfolding standing_step
   step-there code step s h =
       let is = there (nat_lt step sc.step && is_struck sc.setup.hooks code (state_before sc step).core) _ s h in
@@ -143,8 +144,8 @@ pub fits : (sc : Scenario) (standing : Standing) (change : Change) → IsAt sc s
 fits sc (At.Byte offset old) (Byte at value) is = tt
 fits sc (At.Word addr old) (Word at value) is = tt
 fits sc (At.Half addr old) (Half at value) is = tt
-fits sc (At.Step step pc) (Once at glitch) is = is.1
-fits sc (At.Step step pc) (Twice at glitch later other) is =
+fits sc (At.Step step pc short) (Once at glitch) is = is.1
+fits sc (At.Step step pc short) (Twice at glitch later other) is =
     (is.1, is.2, subst (λ k. k ≤ later) (sym is.0) is.3.forward)
 fits sc _ _ is = absurd is
 
@@ -177,9 +178,9 @@ taken sc (At.Word addr old) (Word at value) h is =
 taken sc (At.Half addr old) (Half at value) h is =
     let there = loaded-half sc addr (At.Half addr old) h in
     ap (half_refusal sc.image) is ∙ half-taken sc.image addr there.0 there.1
-taken sc (At.Step step pc) (Once at glitch) h is =
+taken sc (At.Step step pc short) (Once at glitch) h is =
     glitch-taken sc at glitch (subst (λ k. k ≤ most_steps) (sym is.0) h.0) h.1 is.1
-taken sc (At.Step step pc) (Twice at glitch later other) h is =
+taken sc (At.Step step pc short) (Twice at glitch later other) h is =
     glitch-taken sc at glitch (subst (λ k. k ≤ most_steps) (sym is.0) h.0) h.1 is.1
 taken sc _ _ h is = absurd is
 
@@ -202,8 +203,8 @@ goes-back sc (At.Byte offset old) (Byte at value) h is =
     (ap (λ n. nat_le n offset) (length-set sc.setup.input at value) ∙ inside sc offset (At.Byte offset old) h)
 goes-back sc (At.Word addr old) (Word at value) h is = tt
 goes-back sc (At.Half addr old) (Half at value) h is = tt
-goes-back sc (At.Step step pc) (Once at glitch) h is = with-mark sc at glitch h.1
-goes-back sc (At.Step step pc) (Twice at glitch later other) h is = with-mark sc at glitch h.1
+goes-back sc (At.Step step pc short) (Once at glitch) h is = with-mark sc at glitch h.1
+goes-back sc (At.Step step pc short) (Twice at glitch later other) h is = with-mark sc at glitch h.1
 goes-back sc _ _ h is = absurd is
 
 abbrev byte-of : Standing → ℕ → ℕ
@@ -296,13 +297,13 @@ mark-back sc now new step glitch last left is removed =
     removed ∙ ap (λ (s : Scenario). record s { marks = remove s.marks last }) left
     ∙ ap (λ (marks : List Alteration). record sc { marks = marks }) (remove-last sc.marks mark last at)
 
-pub put-back-step : (sc now new : Scenario) (step pc : ℕ) (standing : Standing) (change : Change)
-    → standing ≡ At.Step step pc → IsAt sc standing change → now ≡ (row sc (edit_of change)).after
+pub put-back-step : (sc now new : Scenario) (step pc : ℕ) (short : Bool) (standing : Standing) (change : Change)
+    → standing ≡ At.Step step pc short → IsAt sc standing change → now ≡ (row sc (edit_of change)).after
     → ((s : Scenario) (at : ℕ) (glitch : Glitch) → now ≡ (row s (glitch_edit at glitch)).after → new ≡ s) → new ≡ sc
-put-back-step sc now new step pc standing change is at left unmarked =
+put-back-step sc now new step pc short standing change is at left unmarked =
     go change (subst (λ s. IsAt sc s change) is at) left
   where
-    go : (change : Change) → IsAt sc (At.Step step pc) change → now ≡ (row sc (edit_of change)).after → new ≡ sc
+    go : (change : Change) → IsAt sc (At.Step step pc short) change → now ≡ (row sc (edit_of change)).after → new ≡ sc
     go (Once at glitch) is left = unmarked sc at glitch left
     go (Twice at glitch later other) is left = unmarked sc at glitch left
     go _ is left = absurd is
@@ -316,7 +317,7 @@ one-edit _ h = refl
 
 pub two-at : (sc : Scenario) (standing : Standing) (at : ℕ) (glitch : Glitch) (later : ℕ) (other : Glitch)
     → IsAt sc standing (Twice at glitch later other) → IsRight glitch × IsRight other × MayFollow sc at later
-two-at sc (At.Step step pc) at glitch later other is =
+two-at sc (At.Step step pc short) at glitch later other is =
     (is.1, is.2, subst (λ k. MayFollow sc k later) (sym is.0) is.3)
 two-at sc _ at glitch later other is = absurd is
 
@@ -382,12 +383,12 @@ unfolding standing_step
 step-continues sc code step standing fork h is =
     subst (λ (s : Standing). Continues sc s fork)
     (there (nat_lt step sc.step && is_struck sc.setup.hooks code (state_before sc step).core) _ standing h).1
-    (go (state_before sc step).core.pc)
+    (go (state_before sc step).core.pc (is_half_next (state_before sc step)))
   where
-    go : (pc : ℕ) → Continues sc (At.Step step pc) fork
-    go pc (Once at glitch) e = subst (λ k. IsForkFor (After k) (run_of sc) sc.step fork) (sym e.0) is
-    go pc (Twice at glitch later other) e = subst (λ k. IsForkFor (After k) (run_of sc) sc.step fork) (sym e.0) is
-    go pc _ e = absurd e
+    go : (pc : ℕ) (short : Bool) → Continues sc (At.Step step pc short) fork
+    go pc short (Once at glitch) e = subst (λ k. IsForkFor (After k) (run_of sc) sc.step fork) (sym e.0) is
+    go pc short (Twice at glitch later other) e = subst (λ k. IsForkFor (After k) (run_of sc) sc.step fork) (sym e.0) is
+    go pc short _ e = absurd e
 
 -- what was found
 pub found-some : (sc : Scenario) (here : Option Standing) (found : Option Spot) (spot : Spot) → found ≡ Some spot

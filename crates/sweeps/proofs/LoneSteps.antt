@@ -25,7 +25,7 @@ use Rattle.sweep_plans.specs.declared.standing.Standing.TheVariants as At
 use Rattle.sweeps.specs.Landmarks.{Follows, HoldsAnother, IsHeld, NoneFrom}
 use Rattle.sweeps.specs.LoneSkips.{AreForeseen, IsLone, Joins, left_out, strikes, struck_pc}
 use Rattle.sweeps.specs.Outcomes.{IsOutcome}
-use Rattle.sweeps.specs.Standing.{is_in_code, is_struck, skipped, standing_step, state_before}
+use Rattle.sweeps.specs.Standing.{is_half_next, is_in_code, is_struck, skipped, standing_step, state_before}
 use Rattle.sweeps.specs.declared.landmarks.Landmarks.{Landmarks}
 use Rattle.sweeps.specs.declared.lone_skips.LoneSkip.{LoneSkip}
 use Rattle.sweeps.specs.declared.lone_skips.LoneSkips.{LoneSkips}
@@ -183,7 +183,7 @@ unfolding standing_step
 stands-where now code t below =
     let test : nat_lt t now.step ≡ true = grind (arith, nat_tests) in
     go (nat_lt t now.step) (is_struck now.setup.hooks code (state_before now t).core)
-    (At.Step t (state_before now t).core.pc) test
+    (At.Step t (state_before now t).core.pc (is_half_next (state_before now t))) test
   where
     go : (b c : Bool) (there : Standing) → b ≡ true → is_some (cond (b && c) (Some there) None) ≡ c
     go true true there e = refl

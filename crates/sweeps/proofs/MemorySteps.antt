@@ -121,13 +121,14 @@ module _ (sc : Scenario) (step : ℕ) (table : Memory) (is : IsTable sc step (sc
 -- ---- what is counted
 
 -- the changes of a byte are changes of the place
-pub turns-at : (sc : Scenario) (standing : Standing) (step pc a : ℕ) → a < 2 ^ 32 → standing ≡ At.Step step pc
+pub turns-at : (sc : Scenario) (standing : Standing) (step pc a : ℕ) (short : Bool) → a < 2 ^ 32
+    → standing ≡ At.Step step pc short
     → All (IsAt sc standing) (byte_flips step a)
 unfolding byte_flips
-turns-at sc standing step pc a l is =
+turns-at sc standing step pc a short l is =
     subst (λ (s : Standing). All (IsAt sc s)
     (byte_flips step a)) (sym is)
-    (All-map (IsAt sc (At.Step step pc)) (λ bit. Once step (Turn (a - a % 4) (2 ^ (8 * (a % 4) + bit)))) (below 8)
+    (All-map (IsAt sc (At.Step step pc short)) (λ bit. Once step (Turn (a - a % 4) (2 ^ (8 * (a % 4) + bit)))) (below 8)
     (λ i d h. (refl, omega arith)))
 
 -- some, and then others
@@ -184,21 +185,23 @@ fork-there step last run fork below is =
 
 -- what a place of another kind has
 pub no-memory : (sc : Scenario) (plan : Plan) (standing : Standing)
-    → ((step pc : ℕ) → standing ≡ At.Step step pc → ⊥) → memory_at sc plan standing ≡ []
+    → ((step pc : ℕ) (short : Bool) → standing ≡ At.Step step pc short → ⊥) → memory_at sc plan standing ≡ []
 unfolding memory_at
 no-memory sc plan (At.Byte offset old) isnt = refl
 no-memory sc plan (At.Word addr old) isnt = refl
 no-memory sc plan (At.Half addr old) isnt = refl
-no-memory sc plan (At.Step step pc) isnt = absurd (isnt step pc refl)
+no-memory sc plan (At.Step step pc short) isnt = absurd (isnt step pc short refl)
 
-pub memory-off : (sc : Scenario) (plan : Plan) (standing : Standing) (step pc : ℕ) → standing ≡ At.Step step pc
+pub memory-off : (sc : Scenario) (plan : Plan) (standing : Standing) (step pc : ℕ) (short : Bool)
+    → standing ≡ At.Step step pc short
     → plan.models.memory ≡ false → memory_at sc plan standing ≡ []
 unfolding memory_at
-memory-off sc plan standing step pc is off =
+memory-off sc plan standing step pc short is off =
     ap (memory_at sc plan) is ∙ ap (λ b. when b (turned_below sc step (2 ^ 32))) off
 
-pub memory-on : (sc : Scenario) (plan : Plan) (standing : Standing) (step pc : ℕ) → standing ≡ At.Step step pc
+pub memory-on : (sc : Scenario) (plan : Plan) (standing : Standing) (step pc : ℕ) (short : Bool)
+    → standing ≡ At.Step step pc short
     → plan.models.memory ≡ true → memory_at sc plan standing ≡ turned_below sc step (2 ^ 32)
 unfolding memory_at
-memory-on sc plan standing step pc is on =
+memory-on sc plan standing step pc short is on =
     ap (memory_at sc plan) is ∙ ap (λ b. when b (turned_below sc step (2 ^ 32))) on

@@ -10,35 +10,40 @@ use Rattle.sweep_plans.specs.declared.plan.Plan.{Plan}
 use Rattle.sweep_plans.specs.declared.request.Range.{Range}
 use Rattle.sweep_plans.specs.declared.standing.Standing.{Standing}
 use Rattle.sweep_plans.specs.declared.standing.Standing.TheVariants as At
-use Rattle.sweeps.specs.Standing.{is_struck, pair_by, pairs_at, pairs_from, skipped, standing_step, state_before}
+use Rattle.sweeps.specs.Standing.{is_half_next, is_struck, pair_by, pairs_at, pairs_from, skipped, standing_step}
+use Rattle.sweeps.specs.Standing.{state_before}
 
 -- the same marks lead from a run to itself
 pub leads-same : (step : ℕ) (run : Run) → LeadsTo (After step) run run
 leads-same step run = record { start = refl; differ = (refl, λ k n. refl) }
 
-pair-with : (b : Bool) (step later pc : ℕ) → is_some (if b then Some (At.Step later pc) else None) ≡ true
-    → pair_by step (if b then Some (At.Step later pc) else None) ≡ Twice step Skip later Skip ∷ []
-pair-with true step later pc h = refl
-pair-with false step later pc h = cc
+pair-with : (b short : Bool) (step later pc : ℕ)
+    → is_some (if b then Some (At.Step later pc short) else None) ≡ true
+    → pair_by step (if b then Some (At.Step later pc short) else None) ≡ Twice step Skip later Skip ∷ []
+pair-with true short step later pc h = refl
+pair-with false short step later pc h = cc
 
-pair-without : (b : Bool) (step later pc : ℕ) → is_some (if b then Some (At.Step later pc) else None) ≡ false
-    → pair_by step (if b then Some (At.Step later pc) else None) ≡ []
-pair-without true step later pc h = cc
-pair-without false step later pc h = refl
+pair-without : (b short : Bool) (step later pc : ℕ)
+    → is_some (if b then Some (At.Step later pc short) else None) ≡ false
+    → pair_by step (if b then Some (At.Step later pc short) else None) ≡ []
+pair-without true short step later pc h = cc
+pair-without false short step later pc h = refl
 
 -- the second skip is tried where a fault may strike
 pub pair-there : (sc : Scenario) (code : Option Range) (step later : ℕ) → is_some (standing_step sc code later) ≡ true
     → pair_by step (standing_step sc code later) ≡ Twice step Skip later Skip ∷ []
 unfolding standing_step
 pair-there sc code step later h =
-    pair-with (nat_lt later sc.step && is_struck sc.setup.hooks code (state_before sc later).core) step later
+    pair-with (nat_lt later sc.step && is_struck sc.setup.hooks code (state_before sc later).core)
+    (is_half_next (state_before sc later)) step later
     (state_before sc later).core.pc h
 
 pub pair-absent : (sc : Scenario) (code : Option Range) (step later : ℕ)
     → is_some (standing_step sc code later) ≡ false → pair_by step (standing_step sc code later) ≡ []
 unfolding standing_step
 pair-absent sc code step later h =
-    pair-without (nat_lt later sc.step && is_struck sc.setup.hooks code (state_before sc later).core) step later
+    pair-without (nat_lt later sc.step && is_struck sc.setup.hooks code (state_before sc later).core)
+    (is_half_next (state_before sc later)) step later
     (state_before sc later).core.pc h
 
 -- none, and another
@@ -60,22 +65,24 @@ pairs-next sc now code step later left past =
 
 -- the pairs at a place
 pub no-pairs : (sc : Scenario) (plan : Plan) (standing : Standing)
-    → ((step pc : ℕ) → standing ≡ At.Step step pc → ⊥) → pairs_at sc plan standing ≡ []
+    → ((step pc : ℕ) (short : Bool) → standing ≡ At.Step step pc short → ⊥) → pairs_at sc plan standing ≡ []
 unfolding pairs_at
-no-pairs sc plan (At.Step step pc) h = absurd (h step pc refl)
+no-pairs sc plan (At.Step step pc short) h = absurd (h step pc short refl)
 no-pairs sc plan _ h = refl
 
-pub pairs-off : (sc : Scenario) (plan : Plan) (standing : Standing) (step pc : ℕ) → standing ≡ At.Step step pc
+pub pairs-off : (sc : Scenario) (plan : Plan) (standing : Standing) (step pc : ℕ) (half : Bool)
+    → standing ≡ At.Step step pc half
     → plan.pairs ≡ false → pairs_at sc plan standing ≡ []
 unfolding pairs_at
-pairs-off sc plan standing step pc is off =
+pairs-off sc plan standing step pc half is off =
     ap (pairs_at sc plan) is
     ∙ ap (λ b. if b then pairs_from sc plan.code step (min plan.steps.end sc.step - (step + 1)) else []) off
 
-pub pairs-short : (sc : Scenario) (plan : Plan) (standing : Standing) (step pc : ℕ) → standing ≡ At.Step step pc
+pub pairs-short : (sc : Scenario) (plan : Plan) (standing : Standing) (step pc : ℕ) (half : Bool)
+    → standing ≡ At.Step step pc half
     → min plan.steps.end sc.step ≤ step → pairs_at sc plan standing ≡ []
 unfolding pairs_at
-pairs-short sc plan standing step pc is short =
+pairs-short sc plan standing step pc half is short =
     let none : min plan.steps.end sc.step - (step + 1) ≡ 0 = omega (arith, short) in
     ap (pairs_at sc plan) is ∙ go plan.pairs none
   where
@@ -84,10 +91,11 @@ pairs-short sc plan standing step pc is short =
     go true none = pairs-none sc plan.code step _ none
     go false none = refl
 
-pub pairs-on : (sc : Scenario) (plan : Plan) (standing : Standing) (step pc : ℕ) → standing ≡ At.Step step pc
+pub pairs-on : (sc : Scenario) (plan : Plan) (standing : Standing) (step pc : ℕ) (half : Bool)
+    → standing ≡ At.Step step pc half
     → plan.pairs ≡ true
     → pairs_at sc plan standing ≡ pairs_from sc plan.code step (min plan.steps.end sc.step - (step + 1))
 unfolding pairs_at
-pairs-on sc plan standing step pc is on =
+pairs-on sc plan standing step pc half is on =
     ap (pairs_at sc plan) is
     ∙ ap (λ b. if b then pairs_from sc plan.code step (min plan.steps.end sc.step - (step + 1)) else []) on

@@ -7,8 +7,8 @@ use Rattle.std.proofs.lemmas.List.Elements.{All-append, All-cons, All-head, All-
 use Rattle.std.proofs.lemmas.List.Elements.{All-weaker}
 use Rattle.scenario.specs.Limits.{most_steps}
 use Rattle.scenario.specs.Scenario.{Scenario}
-use Rattle.sweep_plans.specs.Glitches.{flip_of, flips_at, glitches_at, register_flips, register_sets, skip_at, when}
-use Rattle.sweep_plans.specs.Glitches.{word_flips}
+use Rattle.sweep_plans.specs.Glitches.{bits_of, flip_of, flips_at, glitches_at, register_flips, register_sets}
+use Rattle.sweep_plans.specs.Glitches.{skip_at, when, word_flips}
 use Rattle.sweep_plans.specs.Numbers.{below}
 use Rattle.sweep_plans.specs.Plans.{HasNext, byte_to, byte_values, changes_of, half_to, wanted_halves, wanted_words}
 use Rattle.sweep_plans.specs.Plans.{word_values}
@@ -45,9 +45,10 @@ IsGood (Register r) = r < 32
 IsGood Pc = Unit {0}
 IsGood (WordAt addr) = addr + 4 ≤ 2 ^ 32
 
-module _ (sc : Scenario) (step pc : ℕ) (near : sc.step ≤ most_steps) (none : sc.marks ≡ []) (low : step < sc.step) where
+module _ (sc : Scenario) (step pc : ℕ) (short : Bool) (near : sc.step ≤ most_steps) (none : sc.marks ≡ [])
+    (low : step < sc.step) where
   abbrev P : Change → Type 0
-  P change = IsAt sc (At.Step step pc) change
+  P change = IsAt sc (At.Step step pc short) change
 
   one-flip : (target : Target) (mask : ℕ) → IsGood target → P (flip_of step target mask)
   one-flip (Register r) mask good = (refl, good)
@@ -60,17 +61,17 @@ module _ (sc : Scenario) (step pc : ℕ) (near : sc.step ≤ most_steps) (none :
         record { forward = omega arith; within = omega arith; near = omega arith; room = omega arith },
       )
 
-  flips : (target : Target) → IsGood target → All P (flips_at step target)
+  flips : (target : Target) (bits : ℕ) → IsGood target → All P (flips_at step target bits)
   unfolding flips_at
-  flips target good =
-      All-map P (λ bit. flip_of step target (2 ^ bit)) (below 32) (λ i d l. one-flip target _ good)
+  flips target bits good =
+      All-map P (λ bit. flip_of step target (2 ^ bit)) (below bits) (λ i d l. one-flip target _ good)
 
   all-registers : All P (register_flips step)
   unfolding register_flips
   all-registers =
-      all-flat P (λ r. flips_at step (Register (r + 1))) (below 31)
-      (All-weaker (λ r. r < 31) (λ r. All P (flips_at step (Register (r + 1))))
-      (λ r l. flips (Register (r + 1)) (omega arith)) (below 31) (below-small 31))
+      all-flat P (λ r. flips_at step (Register (r + 1)) 32) (below 31)
+      (All-weaker (λ r. r < 31) (λ r. All P (flips_at step (Register (r + 1)) 32))
+      (λ r l. flips (Register (r + 1)) 32 (omega arith)) (below 31) (below-small 31))
 
   all-sets : (value : ℕ) → All P (register_sets step value)
   unfolding register_sets
@@ -79,12 +80,12 @@ module _ (sc : Scenario) (step pc : ℕ) (near : sc.step ≤ most_steps) (none :
       (All-weaker (λ r. r < 31) (λ r. P (Once step (Set (r + 1) value))) (λ r l. (refl, omega arith)) (below 31)
       (below-small 31))
 
-  all-words : All P (word_flips step pc)
+  all-words : All P (word_flips step pc short)
   unfolding word_flips
   all-words = go (nat_le pc 4294967292) refl
     where
-      go : (b : Bool) → nat_le pc 4294967292 ≡ b → All P (if b then flips_at step (WordAt pc) else [])
-      go true e = flips (WordAt pc) (let l : pc ≤ 4294967292 = grind (arith, nat_tests) in omega arith)
+      go : (b : Bool) → nat_le pc 4294967292 ≡ b → All P (if b then flips_at step (WordAt pc) (bits_of short) else [])
+      go true e = flips (WordAt pc) (bits_of short) (let l : pc ≤ 4294967292 = grind (arith, nat_tests) in omega arith)
       go false e = All-nil P
 
   all-when : (b : Bool) (xs : List Change) → All P xs → All P (when b xs)
@@ -94,14 +95,14 @@ module _ (sc : Scenario) (step pc : ℕ) (near : sc.step ≤ most_steps) (none :
   both : (xs ys : List Change) → All P xs → All P ys → All P (xs ++ ys)
   both xs ys = All-append P xs ys
 
-  all-glitches : (models : FaultModels) → All P (glitches_at models step pc)
+  all-glitches : (models : FaultModels) → All P (glitches_at models step pc short)
   unfolding glitches_at
   all-glitches models =
       both _ _ (both _ _ (both _ _ (both _ _ (both _ _
       (all-when models.skip (skip_at step) (All-cons P (Once step Skip) [] (refl, tt) (All-nil P)))
       (all-when models.registers (register_flips step) all-registers))
-      (all-when models.pc (flips_at step Pc) (flips Pc tt)))
-      (all-when models.words (word_flips step pc) all-words))
+      (all-when models.pc (flips_at step Pc 32) (flips Pc 32 tt)))
+      (all-when models.words (word_flips step pc short) all-words))
       (all-when models.zero (register_sets step 0) (all-sets 0)))
       (all-when models.ones (register_sets step 4294967295) (all-sets 4294967295))
 
@@ -116,9 +117,9 @@ all-at sc plan (At.Word addr old) near none low =
 all-at sc plan (At.Half addr old) near none low =
     All-map (IsAt sc (At.Half addr old)) (half_to addr) (word_values old (wanted_halves plan.word_values old))
     (λ i d l. refl)
-all-at sc plan (At.Step step pc) near none low = all-glitches sc step pc near none low plan.models
+all-at sc plan (At.Step step pc short) near none low = all-glitches sc step pc short near none low plan.models
 
 -- a step below the chosen one has a next step
 pub next-below : (last : ℕ) (standing : Standing) → last ≤ most_steps → IsBelow last standing → HasNext standing
-next-below last (At.Step step pc) near low = omega arith
+next-below last (At.Step step pc short) near low = omega arith
 next-below last _ near low = tt

@@ -135,22 +135,23 @@ passes-turn s setup addr mask Overwrites near e fits = never-overwrites s setup 
 
 -- a change there that is one glitch strikes this step
 pub at-once : (sc : Scenario) (standing : Standing) (step at : ℕ) (glitch : Glitch)
-    → (pc : ℕ) × (standing ≡ At.Step step pc) → IsAt sc standing (Once at glitch)
+    → (pc : ℕ) × (short : Bool) × (standing ≡ At.Step step pc short) → IsAt sc standing (Once at glitch)
     → (at ≡ step) × (IsAt sc standing (Once step glitch) × IsRight glitch)
-at-once sc standing step at glitch (pc, is) h =
+at-once sc standing step at glitch (pc, short, is) h =
     let there = subst (λ st. IsAt sc st (Once at glitch)) is h in
     (there.0, (subst (λ st. IsAt sc st (Once step glitch)) (sym is) (refl, there.1), there.1))
 
 -- a spot at a step is just before it
-pub before-there : (sc : Scenario) (step pc : ℕ) (spot : Spot) → spot.standing ≡ At.Step step pc → sc.marks ≡ []
+pub before-there : (sc : Scenario) (step pc : ℕ) (short : Bool) (spot : Spot) → spot.standing ≡ At.Step step pc short
+    → sc.marks ≡ []
     → Stands sc spot.standing → IsBelow sc.step spot.standing → Continues sc spot.standing spot.fork
     → IsBefore sc step spot
-before-there sc step pc spot is unmarked stands under goes =
+before-there sc step pc short spot is unmarked stands under goes =
     let below : step < sc.step = subst (IsBelow sc.step) is under in
     let fork = goes (Once step Skip) (subst (λ st. IsAt sc st (Once step Skip)) (sym is) (refl, tt)) in record {
       unmarked = unmarked;
       below = below;
-      standing = (pc, is);
+      standing = (pc, short, is);
       stands = stands;
       continues = goes;
       shows = subst (λ k. Shows spot.fork.machine (state_before sc k))
@@ -162,7 +163,7 @@ pub fork-at : (sc : Scenario) (step : ℕ) (spot : Spot) → IsBefore sc step sp
 fork-at sc step spot before =
     let standing = before.standing in
     fork-there step sc.step (run_of sc) spot.fork before.below
-    (before.continues (Once step Skip) (subst (λ st. IsAt sc st (Once step Skip)) (sym standing.1) (refl, tt)))
+    (before.continues (Once step Skip) (subst (λ st. IsAt sc st (Once step Skip)) (sym standing.2) (refl, tt)))
 
 -- before the first place the outcome of the unedited run is recalled alone
 pub begun-recall : (with_output : Bool) (sc : Scenario) (recall : Recall) → IsOutlineOf with_output sc recall.unedited

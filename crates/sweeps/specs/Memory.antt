@@ -40,5 +40,5 @@ turned_below sc step end = flat_map (byte_flips step) (filter (is_read_later sc 
 
 -- the changes of the model at a place, if it was asked for
 unfoldable pub memory_at : Scenario → Plan → Standing → List Change
-memory_at sc plan (At.Step step pc) = when plan.models.memory (turned_below sc step (2 ^ 32))
+memory_at sc plan (At.Step step pc half) = when plan.models.memory (turned_below sc step (2 ^ 32))
 memory_at sc plan _ = []

@@ -1,5 +1,5 @@
 -- What a sweep finds at a place: what is there, and the machine from which each run continues that is changed there.
-use Rattle.std.specs.Prelude.{◌≡◌, ℕ, ◌<◌, ◌≤◌, [], Option, Some, None}
+use Rattle.std.specs.Prelude.{◌≡◌, ℕ, ◌<◌, ◌≤◌, Bool, [], Option, Some, None}
 use Rattle.checkpoints.specs.Effects.{LeadsTo, Run}
 use Rattle.checkpoints.specs.Forks.{IsForkFor}
 use Rattle.checkpoints.specs.declared.effect.Effect.TheVariants.{After}
@@ -41,7 +41,7 @@ IsScout sc (Some fork) = (fork.step ≤ sc.step) × Shows fork.machine (state_be
 pub record IsBefore (sc : Scenario) (step : ℕ) (spot : Spot) : Type 0 where
   pub unmarked : sc.marks ≡ []
   pub below : step < sc.step
-  pub standing : (pc : ℕ) × (spot.standing ≡ At.Step step pc)
+  pub standing : (pc : ℕ) × (half : Bool) × (spot.standing ≡ At.Step step pc half)
   pub stands : Stands sc spot.standing
   pub continues : Continues sc spot.standing spot.fork
   pub shows : Shows spot.fork.machine (state_before sc step)

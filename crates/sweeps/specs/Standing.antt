@@ -5,9 +5,9 @@ use Rattle.std.specs.Prelude.{unwrap_or}
 use Rattle.shadow_memory.specs.Ranges.{little_word, window}
 use Rattle.guest_elf.specs.Hooks.{hook_at}
 use Rattle.guest_elf.specs.Images.{is_half_word, is_word, profile_of}
-use Rattle.guest_elf.specs.Profiles.{has_halves}
+use Rattle.guest_elf.specs.Profiles.{has_halves, is_half}
 use Rattle.guest_elf.specs.declared.hook.Hook.{Hook}
-use Rattle.guest_machine.specs.Exec.{is_running}
+use Rattle.guest_machine.specs.Exec.{half_at, is_running}
 use Rattle.guest_machine.specs.Run.{pre}
 use Rattle.guest_machine.specs.State.{Core, State}
 use Rattle.scenario.specs.Edits.{IsTaken, row}
@@ -61,11 +61,16 @@ is_in_code (Some range) pc = nat_le range.first pc && nat_le pc (unwrap_or range
 abbrev pub is_struck : List (ℕ × Hook) → Option Range → Core → Bool
 is_struck hooks code core = is_running core.status && (is_in_code code core.pc && is_none (hook_at hooks core.pc))
 
--- the value of pc before a step below the chosen one, if a fault may strike there
+-- has the next instruction 16 bits? A fetch decides it so, by the half at pc, accessible or not
+abbrev pub is_half_next : State → Bool
+is_half_next s = is_half s.core.isa (half_at s.core s.bytes)
+
+-- the value of pc before a step below the chosen one, and whether the instruction there has 16 bits, if a fault may
+-- strike there
 unfoldable pub standing_step : Scenario → Option Range → ℕ → Option Standing
 standing_step sc code step =
     if nat_lt step sc.step && is_struck sc.setup.hooks code (state_before sc step).core
-    then Some (At.Step step (state_before sc step).core.pc)
+    then Some (At.Step step (state_before sc step).core.pc (is_half_next (state_before sc step)))
     else None
 
 -- what is at a place of a plan
@@ -85,7 +90,7 @@ skipped sc step = (row sc (glitch_edit step Skip)).after
 -- two instructions are left out: that of a step, and that of a later step of the run without it, if a fault may strike
 -- there
 abbrev pub pair_by : ℕ → Option Standing → List Change
-pair_by step (Some (At.Step later pc)) = Twice step Skip later Skip ∷ []
+pair_by step (Some (At.Step later pc half)) = Twice step Skip later Skip ∷ []
 pair_by step _ = []
 
 -- for each of a number of later steps
@@ -96,7 +101,7 @@ pairs_from sc code step (suc n) =
 
 -- the pairs at a place, if they were asked for: with each later step of the plan below the chosen one
 unfoldable pub pairs_at : Scenario → Plan → Standing → List Change
-pairs_at sc plan (At.Step step pc) =
+pairs_at sc plan (At.Step step pc half) =
     if plan.pairs then pairs_from sc plan.code step (min plan.steps.end sc.step - (step + 1)) else []
 pairs_at sc plan _ = []
 
@@ -125,7 +130,7 @@ abbrev pub Stands : Scenario → Standing → Type 0
 Stands sc (At.Byte offset old) = standing_byte sc offset ≡ Some (At.Byte offset old)
 Stands sc (At.Word addr old) = standing_word sc addr ≡ Some (At.Word addr old)
 Stands sc (At.Half addr old) = standing_half sc addr ≡ Some (At.Half addr old)
-Stands sc (At.Step step pc) = (step ≤ most_steps) × (length sc.marks < most_marks)
+Stands sc (At.Step step pc half) = (step ≤ most_steps) × (length sc.marks < most_marks)
 
 -- a second glitch may follow one at a step: at a step up to the chosen one, with room for its mark
 pub record MayFollow (sc : Scenario) (step later : ℕ) : Type 0 where
@@ -139,14 +144,14 @@ abbrev pub IsAt : Scenario → Standing → Change → Type 0
 IsAt sc (At.Byte offset old) (Byte at value) = at ≡ offset
 IsAt sc (At.Word addr old) (Word at value) = at ≡ addr
 IsAt sc (At.Half addr old) (Half at value) = at ≡ addr
-IsAt sc (At.Step step pc) (Once at glitch) = (at ≡ step) × IsRight glitch
-IsAt sc (At.Step step pc) (Twice at glitch later other) =
+IsAt sc (At.Step step pc half) (Once at glitch) = (at ≡ step) × IsRight glitch
+IsAt sc (At.Step step pc half) (Twice at glitch later other) =
     (at ≡ step) × IsRight glitch × IsRight other × MayFollow sc step later
 IsAt sc _ _ = ⊥
 
 -- a step is below another
 abbrev pub IsBelow : ℕ → Standing → Type 0
-IsBelow last (At.Step step pc) = step < last
+IsBelow last (At.Step step pc half) = step < last
 IsBelow last _ = Unit {0}
 
 -- a scenario with a change at this place can be taken back
@@ -154,4 +159,4 @@ abbrev pub GoesBack : Scenario → Standing → Type 0
 GoesBack sc (At.Byte offset old) = IsTaken sc (Input offset old)
 GoesBack sc (At.Word addr old) = Unit {0}
 GoesBack sc (At.Half addr old) = Unit {0}
-GoesBack sc (At.Step step pc) = (1 ≤ length sc.marks) × (length sc.marks ≤ most_marks)
+GoesBack sc (At.Step step pc half) = (1 ≤ length sc.marks) × (length sc.marks ≤ most_marks)

@@ -111,7 +111,11 @@ fn outcome_of_second(
         → IsOutcome with_output scenario.old (Once later other) text.items) }
 {
     let next = fork.go_on(later, scenario.setup(), scenario.marks())?;
-    let standing = Standing::Step { step: later, pc: 0 };
+    let standing = Standing::Step {
+        step: later,
+        pc: 0,
+        is_half: false,
+    };
     let change = Change::Once {
         step: later,
         glitch: other,

@@ -75,7 +75,11 @@ fn meet_pair(
     ensures met { OnOk result ((sc : ScenarioOf) → scenario.old ≡ skipped sc first.step → TakesSteps sc (Once first.step Skip) first.steps
         → CountsMore counts.old counts.new first.with_output sc (Twice first.step Skip later Skip ∷ []) out.old.items out.new.items) }
 {
-    let standing = Standing::Step { step: later, pc: 0 };
+    let standing = Standing::Step {
+        step: later,
+        pc: 0,
+        is_half: false,
+    };
     let second = Change::Once {
         step: later,
         glitch: Glitch::Skip,

@@ -8,12 +8,13 @@ ghost use Rattle.checkpoints.specs.Trails.{LoadsAs, loaded_of};
 ghost use Rattle.checkpoints.specs.Words.{IsCodeIn};
 ghost use Rattle.checkpoints.specs.declared.effect.Effect.TheVariants.{After, Input};
 ghost use Rattle.guest_machine.specs.Shows.{Shows};
+ghost use Rattle.guest_machine.specs.State.{State};
 ghost use Rattle.instructions.specs.Codes.{len_of};
 ghost use Rattle.instructions.specs.declared.code.Code.{Code};
 ghost use Rattle.scenario.specs.Limits.{most_steps};
 ghost use Rattle.scenario.specs.Scenario.{first_state, run_of};
 ghost use Rattle.sweeps.specs.Spots.{Continues, IsFoundAt, IsScout};
-ghost use Rattle.sweeps.specs.Standing.{is_in_code, standing_byte, standing_half, standing_in, standing_step, standing_word, state_before};
+ghost use Rattle.sweeps.specs.Standing.{is_half_next, is_in_code, standing_byte, standing_half, standing_in, standing_step, standing_word, state_before};
 
 use checkpoints::{Fork, Trail};
 use guest_machine::{Machine, Status};
@@ -83,6 +84,15 @@ pub(crate) fn is_in_code(code: Option<Range>, pc: u32) -> bool
     }
 }
 
+/// Returns whether the next instruction has 16 bits, as a fetch decides it. No byte is read if none has.
+#[tactic(auto, unfolding(guest_elf::specs::Profiles::has_halves, guest_elf::specs::Profiles::is_half))]
+fn is_half_next(machine: &Machine) -> bool
+    ensures { (s : State) → Shows machine.now s → result ≡ is_half_next s }
+{
+    let isa = machine.isa();
+    isa.has_halves() && isa.is_half(machine.memory().load(machine.pc(), 2).value)
+}
+
 /// Returns what is at a step below the chosen one, if a fault may strike the machine before it.
 #[tactic(auto, unfolding(crate::specs::Standing::standing_step))]
 pub(crate) fn standing_step(
@@ -98,7 +108,8 @@ pub(crate) fn standing_step(
     let pc = machine.pc();
     let is_running = matches!(machine.status(), Status::Running);
     if is_running && is_in_code(code, pc) && scenario.setup().hooks.at(pc).is_none() {
-        Some(Standing::Step { step, pc })
+        let is_half = is_half_next(machine);
+        Some(Standing::Step { step, pc, is_half })
     } else {
         None
     }

@@ -6,7 +6,7 @@ from dataclasses import dataclass, replace
 from typing import Callable, List, Optional, Tuple, Union
 
 from replaycheck.options import LAST_STEP
-from replaycheck.programs import ISAS
+from replaycheck.programs import ISAS, unit_of
 
 from .lines import NUMBER, BadTable, shown
 from .ranges import Code, Range
@@ -163,7 +163,7 @@ def read_steps(lines, version, limit, isa):
     models = found[3].decode()
     if models_fault(models):
         lines.fault(models_fault(models))
-    return Steps(first, last, models, code, bool(found[6]))
+    return Steps(first, last, models, code, bool(found[6]), unit_of(isa))
 
 
 def read_version(lines):

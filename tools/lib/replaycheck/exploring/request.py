@@ -159,7 +159,7 @@ class Request:
         if last >= self.step:
             raise Fault(f"--at {first}..{last}: runs are compared at step {self.step}, and alterations come before it: --step {last + 1} "
                         "or more")
-        return Steps(first, last, models, code, has_pairs)
+        return Steps(first, last, models, code, has_pairs, self.unit)
 
     # ---- the bytes that are edited
 

@@ -6,7 +6,7 @@ from itertools import takewhile
 
 from replaycheck.assembly import NAMES
 
-from .steps import BIT, BYTE_BITS, LAST_REGISTER, SIZES, TURNED, bit_of, byte_edits, edits_of
+from .steps import BIT, BYTE_BITS, LAST_REGISTER, SIZES, bit_of, byte_edits, edits_of, instruction_of
 
 MOST_COLUMNS, MOST_ROWS, WIDTH, WIDEST = 320, 160, 960, 24
 MANY = 40  # so many rows are tall enough for a text
@@ -144,12 +144,14 @@ class OfModel(OverSteps):
         self.of_rows = LAST_REGISTER if model in OF_REGISTERS else SIZES[model]
         self.each = SIZES[model] // self.of_rows  # edits of a row
         self.outcomes, self.which, self.addresses = array("I"), array("B"), {}
+        self.heights = array("B")  # of each column: an instruction of 16 bits has 16 rows
 
     def add(self, step, outcomes, rank, address):
         """Takes the edits of a step: of each row the worst."""
         self.steps.append(step)
         if address:
             self.addresses[step] = address
+        self.heights.append(len(outcomes) // self.each)
         for begin in range(0, len(outcomes), self.each):
             edits = outcomes[begin:begin + self.each]
             worst = 0 if len(set(edits)) == 1 else max(range(len(edits)), key=lambda it: rank(edits[it]))
@@ -157,12 +159,12 @@ class OfModel(OverSteps):
             self.which.append(worst)
 
     def finish(self, rank, _):
-        self.of_columns = len(self.steps)
+        self.of_columns, self.of_rows, at = len(self.steps), max(self.heights), 0
         self.settle()
-        for column in range(self.of_columns):
-            for row in range(self.of_rows):
-                at = column * self.of_rows + row
+        for column, height in enumerate(self.heights):
+            for row in range(height):
                 self.put(column, row, rank(self.outcomes[at]), self.outcomes[at], (self.steps[column], row, self.which[at]))
+                at += 1
 
     def edit(self, cell):
         step, row, which = cell.edit
@@ -341,9 +343,9 @@ class StepPanels:
     def add(self, place, rank):
         """Takes the edits of a place."""
         texts, outcomes, begin = list(place.edits), list(place.edits.values()), 0
-        address = next((found[1] for found in map(TURNED.match, texts) if found), None) if "words" in self.models else None
+        address, bits = instruction_of(texts) if "words" in self.models else (None, 0)
         for model, panel in self.models.items():
-            size = SIZES[model] if model != "words" or address else 0
+            size = bits if model == "words" else SIZES[model]
             if size:
                 panel.add(place.at, outcomes[begin:begin + size], rank, address)
             begin += size

@@ -4,7 +4,7 @@ from dataclasses import dataclass
 from itertools import takewhile
 from typing import Iterator, List, Optional, Tuple
 
-from .ranges import Places
+from .ranges import WORD, Places
 
 LAST_REGISTER, BITS, ONES, BYTE_BITS, ADDRESSES = 31, 32, 0xFFFFFFFF, 8, 1 << 32
 # The fault models, each with what it does: in the order of a place's edits, but that those of `memory` come after the others.
@@ -17,12 +17,12 @@ MODELS = {
     "zero": "a register set to 0",
     "ones": "a register set to all ones",
 }
-# How many edits a place has; of bytes of memory as many as the run reads later.
+# How many edits a place has; of bytes of memory as many as the run reads later. An instruction of 16 bits has as many of `words` as bits.
 SIZES = {"skip": 1, "registers": LAST_REGISTER * BITS, "pc": BITS, "words": BITS, "zero": LAST_REGISTER, "ones": LAST_REGISTER}
 SETTING = {"zero", "ones"}  # the models that make bits defined
 REGISTERS = [f"x{number}" for number in range(1, LAST_REGISTER + 1)]
 MASKS = [f"0x{1 << bit:08x}" for bit in range(BITS)]
-TURNED = re.compile(r"flip [0-9]+ (0x[0-9a-f]{8}) [^ ]+; ")  # a word of the program, for one step
+TURNED = re.compile(r"flip [0-9]+ (0x[0-9a-f]{8}) [^ ]+; ")  # an instruction of the program, for one step
 BIT = re.compile(r"flip [0-9]+ (0x[0-9a-f]{8}) (0x[0-9a-f]{8})")  # a bit of a word, from there on
 PAIR = re.compile(r"skip ([0-9]+); skip ([0-9]+)")
 
@@ -30,13 +30,15 @@ PAIR = re.compile(r"skip ([0-9]+); skip ([0-9]+)")
 @dataclass(frozen=True)
 class Steps(Places):
     """Steps of the unedited run, from a first to a last one, at which the machine is altered. `values` are the fault models, as they
-    were given, between commas; `code` is the range of pc at which it is, if that is narrowed."""
+    were given, between commas; `code` is the range of pc at which it is, if that is narrowed. `unit` is how many bytes the shortest
+    instruction has."""
 
     first: int
     last: int
     values: str
     code: Optional[Tuple[int, int]] = None
     has_pairs: bool = False
+    unit: int = WORD
 
     kind = "steps"
     stride = 1
@@ -107,19 +109,22 @@ class Steps(Places):
 
     # ---- the edits of a place
 
-    def singles(self, step: int, address: Optional[str]) -> Iterator[str]:
-        """The edits of a step but for those of memory and pairs. `address` is that of the word at its pc, if it is known."""
+    def singles(self, step: int, address: Optional[str], bits: int) -> Iterator[str]:
+        """The edits of a step but for those of memory and pairs. `address` is that of the instruction at its pc, which has this number of
+        bits, if it is known."""
         for model in self.models:
-            yield from edits_of(model, step, address)
+            yield from edits_of(model, step, address, bits)
 
     def has_all(self, step: int, edits: List[str]) -> bool:
         """Whether these are all edits of a step, in order. Which bytes are read later depends on the run, and which second steps pairs
         have on the run with the first skip."""
-        found = next((it[1] for it in map(TURNED.match, edits) if it), None)
-        wanted = list(self.singles(step, found))
+        found, bits = instruction_of(edits)
+        wanted = list(self.singles(step, found, bits))
         rest = edits[len(wanted):]
         turned = list(takewhile(BIT.fullmatch, rest))
         pairs = rest[len(turned):]
+        if found and bits not in range(BYTE_BITS * self.unit, BITS + 1, BYTE_BITS * self.unit):
+            return False
         if edits[:len(wanted)] != wanted or turned and not self.has_memory or pairs and not self.has_pairs:
             return False
         if turned_bytes(step, turned) is None:
@@ -130,6 +135,12 @@ class Steps(Places):
                 return False
             last = int(it[2])
         return not (found and self.code) or self.code[0] <= int(found, 16) <= self.code[1]
+
+
+def instruction_of(edits: List[str]) -> Tuple[Optional[str], int]:
+    """The address of the instruction that edits of a step invert, if there are some, and the number of its bits."""
+    turned = [it[1] for it in map(TURNED.match, edits) if it]
+    return (turned[0], len(turned)) if turned else (None, 0)
 
 
 def byte_edits(step: int, address: int) -> Iterator[str]:
@@ -156,8 +167,8 @@ def turned_bytes(step: int, edits: List[str]) -> Optional[List[int]]:
     return found
 
 
-def edits_of(model: str, step: int, address: Optional[str]) -> Iterator[str]:
-    """The edits of a model at a step."""
+def edits_of(model: str, step: int, address: Optional[str], bits: int = BITS) -> Iterator[str]:
+    """The edits of a model at a step, of the instruction at an address of this number of bits."""
     if model == "skip":
         yield f"skip {step}"
     elif model == "registers":
@@ -165,7 +176,7 @@ def edits_of(model: str, step: int, address: Optional[str]) -> Iterator[str]:
     elif model == "pc":
         yield from (f"flip {step} pc {mask}" for mask in MASKS)
     elif model == "words" and address:
-        yield from (f"flip {step} {address} {mask}; flip {step + 1} {address} {mask}" for mask in MASKS)
+        yield from (f"flip {step} {address} {mask}; flip {step + 1} {address} {mask}" for mask in MASKS[:bits])
     elif model in ("zero", "ones"):
         yield from (f"set {step} {it} 0x{0 if model == 'zero' else ONES:08x}" for it in REGISTERS)
 

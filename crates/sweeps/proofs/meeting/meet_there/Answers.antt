@@ -5,11 +5,11 @@ use Rattle.sweeps.proofs.meeting.meet_there.Goals as goal
 
 pub meet_step-requires-clause-before : goal.meet_step-requires-clause-before
 meet_step-requires-clause-before c =
-    before-there c.args.scenario.now c.in-Step.step c.in-Step.pc c.args.spot.now c.in-Step.is c.requires.unmarked
-    c.requires.stands c.requires.below c.requires.fork
+    before-there c.args.scenario.now c.in-Step.step c.in-Step.pc c.in-Step.is_half c.args.spot.now c.in-Step.is
+    c.requires.unmarked c.requires.stands c.requires.below c.requires.fork
 
 pub meet_step-requires-clause-runs : goal.meet_step-requires-clause-runs
 meet_step-requires-clause-runs c =
     sym (c.is_running.ensures (state_before c.args.scenario.now c.in-Step.step)
-    (before-there c.args.scenario.now c.in-Step.step c.in-Step.pc c.args.spot.now c.in-Step.is c.requires.unmarked
-    c.requires.stands c.requires.below c.requires.fork).shows) ∙ c.if-is_running.true
+    (before-there c.args.scenario.now c.in-Step.step c.in-Step.pc c.in-Step.is_half c.args.spot.now c.in-Step.is
+    c.requires.unmarked c.requires.stands c.requires.below c.requires.fork).shows) ∙ c.if-is_running.true

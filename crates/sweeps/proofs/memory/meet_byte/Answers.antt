@@ -18,7 +18,8 @@ meet_turned-requires-clause-at c =
     let at = c.requires.turning.before.standing in
     subst (All (IsAt c.args.scenario.now c.args.spot.now.standing)) (sym (c.deref.ensures.value
     ∙ c.in_ok-changes.ensures))
-    (turns-at c.args.scenario.now c.args.spot.now.standing c.args.turning.step at.0 c.args.addr c.ranges.addr.fits at.1)
+    (turns-at c.args.scenario.now c.args.spot.now.standing c.args.turning.step at.0 c.args.addr at.1
+    c.ranges.addr.fits at.2)
 
 pub returns-clause-met : goal.returns-clause-met
 returns-clause-met c =

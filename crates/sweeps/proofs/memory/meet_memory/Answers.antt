@@ -24,20 +24,20 @@ returns-then-not-plan-clause-met c =
     let sc = c.args.scenario.now in
     subst (λ (xs : List Change). CountsMore c.args.counts.now c.args.counts.now c.args.with_output sc xs
     c.args.out.now.items c.args.out.now.items)
-    (sym (memory-off sc c.args.plan.now c.args.spot.now.standing c.in-Step.step c.in-Step.pc c.in-Step.is
-    c.if-not-plan.true))
+    (sym (memory-off sc c.args.plan.now c.args.spot.now.standing c.in-Step.step c.in-Step.pc c.in-Step.is_half
+    c.in-Step.is c.if-not-plan.true))
     (counts-none c.args.counts.now c.args.with_output sc c.args.out.now.items)
 
 pub first_accesses-requires-clause-before : goal.first_accesses-requires-clause-before
 first_accesses-requires-clause-before c =
-    (before-there c.args.scenario.now c.in-Step.step c.in-Step.pc c.args.spot.now c.in-Step.is c.requires.unmarked
-    c.requires.stands c.requires.below c.requires.fork).shows
+    (before-there c.args.scenario.now c.in-Step.step c.in-Step.pc c.in-Step.is_half c.args.spot.now c.in-Step.is
+    c.requires.unmarked c.requires.stands c.requires.below c.requires.fork).shows
 
 pub meet_bytes-requires-clause-turning : goal.meet_bytes-requires-clause-turning
 meet_bytes-requires-clause-turning c =
     let sc = c.args.scenario.now in record {
-      before = before-there sc c.in-Step.step c.in-Step.pc c.args.spot.now c.in-Step.is c.requires.unmarked
-          c.requires.stands c.requires.below c.requires.fork;
+      before = before-there sc c.in-Step.step c.in-Step.pc c.in-Step.is_half c.args.spot.now c.in-Step.is
+          c.requires.unmarked c.requires.stands c.requires.below c.requires.fork;
       touched = subst (λ setup. IsTouched c.args.spot.now.fork.machine setup c.in_ok-touched.touched) c.setup.ensures
           c.in_ok-touched.ensures;
     }
@@ -47,7 +47,7 @@ returns-clause-met c =
     let sc = c.args.scenario.now in
     let step = c.in-Step.step in
     let wo = c.args.with_output in
-    let all = memory-on sc c.args.plan.now c.args.spot.now.standing step c.in-Step.pc c.in-Step.is
+    let all = memory-on sc c.args.plan.now c.args.spot.now.standing step c.in-Step.pc c.in-Step.is_half c.in-Step.is
     c.if-not-plan.false in
     on_ok_weaker c.meet_bytes.result (λ on.
     subst (λ (xs : List Change). CountsMore c.args.counts.now c.meet_bytes.new.counts wo sc xs c.args.out.now.items

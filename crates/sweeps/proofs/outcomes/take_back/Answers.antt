@@ -21,5 +21,5 @@ returns-in-Half c sc change stands at left =
 
 pub returns-in-Step : goal.returns-in-Step
 returns-in-Step c sc change stands at left =
-    put-back-step sc c.args.scenario.now c.unmark.new.scenario c.in-Step.step c.in-Step.pc c.args.standing change
-    c.in-Step.is at left c.unmark.ensures
+    put-back-step sc c.args.scenario.now c.unmark.new.scenario c.in-Step.step c.in-Step.pc c.in-Step.is_half
+    c.args.standing change c.in-Step.is at left c.unmark.ensures

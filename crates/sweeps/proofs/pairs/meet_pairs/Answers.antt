@@ -45,8 +45,8 @@ returns-then-not-plan-clause-met c =
     let sc = c.args.scenario.now in
     subst (λ (xs : List Change). CountsMore c.args.counts.now c.args.counts.now c.args.with_output sc xs
     c.args.out.now.items c.args.out.now.items)
-    (sym (pairs-off sc c.args.plan.now c.args.spot.now.standing c.in-Step.step c.in-Step.pc c.in-Step.is
-    c.if-not-plan.true))
+    (sym (pairs-off sc c.args.plan.now c.args.spot.now.standing c.in-Step.step c.in-Step.pc c.in-Step.is_half
+    c.in-Step.is c.if-not-plan.true))
     (counts-none c.args.counts.now c.args.with_output sc c.args.out.now.items)
 
 pub returns-then-end-step-clause-met : goal.returns-then-end-step-clause-met
@@ -56,8 +56,8 @@ returns-then-end-step-clause-met c =
     ∙ ap (min c.args.plan.now.steps.end) c.step-last.ensures in
     subst (λ (xs : List Change). CountsMore c.args.counts.now c.args.counts.now c.args.with_output sc xs
     c.args.out.now.items c.args.out.now.items)
-    (sym (pairs-short sc c.args.plan.now c.args.spot.now.standing c.in-Step.step c.in-Step.pc c.in-Step.is
-    (subst (λ n. n ≤ c.in-Step.step) end c.if-end-step.true)))
+    (sym (pairs-short sc c.args.plan.now c.args.spot.now.standing c.in-Step.step c.in-Step.pc c.in-Step.is_half
+    c.in-Step.is (subst (λ n. n ≤ c.in-Step.step) end c.if-end-step.true)))
     (counts-none c.args.counts.now c.args.with_output sc c.args.out.now.items)
 
 pub returns-clause-met : goal.returns-clause-met
@@ -69,7 +69,8 @@ returns-clause-met c =
     let step = c.in-Step.step in
     let end : c.min-end.result ≡ min c.args.plan.now.steps.end sc.step = c.min-end.ensures
     ∙ ap (min c.args.plan.now.steps.end) c.step-last.ensures in
-    let all = pairs-on sc c.args.plan.now c.args.spot.now.standing step c.in-Step.pc c.in-Step.is c.if-not-plan.false in
+    let all = pairs-on sc c.args.plan.now c.args.spot.now.standing step c.in-Step.pc c.in-Step.is_half c.in-Step.is
+    c.if-not-plan.false in
     on_ok_weaker c.meet_after.result (λ met.
     subst (λ (xs : List Change). CountsMore old c.meet_after.new.counts wo sc xs out c.meet_after.new.out.items)
     (ap (λ n. pairs_from sc c.args.plan.now.code step (n - (step + 1))) end ∙ sym all)
