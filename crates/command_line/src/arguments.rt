@@ -58,7 +58,7 @@ fn isa_option<'a>(alloc: Global) -> Arg<'a>
     ensures local { result.global ≡ false }
 {
     let help =
-        "The instruction set: rv32im, rv32imc with 16-bit instructions, or rv32imac with atomic ones";
+        "The instruction set: rv32im, rv32imc with 16-bit instructions and control registers, or rv32imac with atomic ones too";
     default_option(alloc, "isa", "NAME", "rv32im", help)
 }
 
