@@ -79,10 +79,18 @@ impl Machine {
         (self.moved() as usize).min(self.input.len() - self.position)
     }
 
-    /// What ECALL does with memory if it is `read` of the input: where, and with how many bytes.
-    pub fn read_access(&self) -> Option<(Access, u32, u32)> {
-        let reads = self.argument(A7) == READ && self.argument(A0) == 0;
-        reads.then(|| (Access::Write, self.argument(A1), self.given() as u32))
+    /// Whether there is room for so many bytes of output.
+    fn has_room(&self, count: u32) -> bool {
+        self.output + count <= MOST_WRITTEN
+    }
+
+    /// What ECALL does with memory if it is `read` of the input, or a `write` that finds room: where, and with how many bytes.
+    pub fn call_access(&self) -> Option<(Access, u32, u32)> {
+        match (self.argument(A7), self.argument(A0)) {
+            (READ, 0) => Some((Access::Write, self.argument(A1), self.given() as u32)),
+            (WRITE, 1 | 2) if self.has_room(self.moved()) => Some((Access::Read, self.argument(A1), self.moved())),
+            _ => None,
+        }
     }
 
     /// `read`: the buffer is tested for as many bytes as may come, and takes those that do, with no undefined bits.
@@ -117,7 +125,7 @@ impl Machine {
         if !matches!(self.argument(A0), 1 | 2) {
             return self.answer(BAD_DESCRIPTOR);
         }
-        if self.output + count > MOST_WRITTEN {
+        if !self.has_room(count) {
             return self.answer(NO_ROOM);
         }
         self.note(Access::Read, self.argument(A1), count);

@@ -583,7 +583,7 @@ impl Machine {
                 Some((Access::Read, base.wrapping_add(imm_i(word)), 1 << (funct3 % 4)))
             }
             STORE if funct3 < 3 => Some((Access::Write, base.wrapping_add(imm_s(word)), 1 << funct3)),
-            _ if word == ECALL => self.read_access(),
+            _ if word == ECALL => self.call_access(),
             _ if base % 4 != 0 => None,
             _ => match self.atomic(word)? {
                 Atomic::LoadReserved => Some((Access::Read, base, 4)),
