@@ -1,4 +1,5 @@
-use Rattle.std.proofs.Common.{rules, arith, ◌≡◌, ◌∙◌, ◌≤◌, ◌||◌, if◌then◌else◌, ℕ, ℤ, Bool, true, false, cond, ap, ap₂, refl, pos, Some}
+use Rattle.std.proofs.Common.{rules, arith, ◌≡◌, ◌∙◌, ◌≤◌, ◌||◌, if◌then◌else◌, ℕ, ℤ, Bool, true, false, cond, ap, ap₂}
+use Rattle.std.proofs.Common.{refl, pos, Some}
 use Rattle.std.proofs.Common.{le-ltb, ltb-false}
 use Rattle.std.proofs.lemmas.Int.{to_z_pos}
 use Rattle.std.specs.Int.{cast_signed, cast_unsigned, int_max, int_min, w64}
