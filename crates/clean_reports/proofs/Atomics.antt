@@ -30,7 +30,7 @@ use Rattle.guest_machine.specs.Effects.{Effect, moved_to, raising, stopped, stop
 use Rattle.guest_machine.specs.Errors.{access_errors, value_errors}
 use Rattle.guest_machine.specs.Exec.{taken_from}
 use Rattle.guest_machine.specs.Spans.{span_at}
-use Rattle.clean_reports.specs.Agreement.{ValuesAgree, RegistersAgree, MemoriesAgree}
+use Rattle.clean_reports.specs.Agreement.{ValuesAgree, MemoriesAgree}
 use Rattle.clean_reports.specs.Uses.{NoUse}
 use Rattle.clean_reports.proofs.Bits.{window-lt, bytes-of}
 use Rattle.clean_reports.proofs.Values.{known-agrees, computed-agree}

@@ -89,6 +89,7 @@ module _ (c : Core) (stands : HeapIsOpen c) (size redzone : ℕ) (kind : RangeKi
   -- so its shadow stays
   old-shadow : (a : ℕ) → (a < p - redzone) ⊎ (p + max size 1 + redzone ≤ a) → new-core.shadow a ≡ c.shadow a
   old-shadow a side =
+      let most = stands.region.within in
       let above = is-place.above in
       let below = is-place.below in
       made-outside _ p size a kind
@@ -100,6 +101,7 @@ module _ (c : Core) (stands : HeapIsOpen c) (size redzone : ℕ) (kind : RangeKi
 
   new-shadow : (a : ℕ) → p ≤ a → a < p + size → new-core.shadow a ≡ shadow_of kind
   new-shadow a low high =
+      let most = stands.region.within in
       let below = is-place.below in
       made-inside _ p size a kind (is-inside p size a low high (omega arith))
 
@@ -110,6 +112,8 @@ module _ (c : Core) (stands : HeapIsOpen c) (size redzone : ℕ) (kind : RangeKi
       record {
         region = subst (λ r. AreInRegion (allocated c.blocks r size (here c) redzone)) e
             (keeps-region.allocated c.blocks size (here c) redzone stands.region);
+        beside = stands.beside;
+        stack = stands.stack;
         apart = subst (λ r. AreApart (allocated c.blocks r size (here c) redzone)) e
             (keeps-apart.allocated c.blocks size (here c) redzone stands.region stands.apart);
         fits = λ q b there. elim (live-put c.blocks.live p (Some made-block) q b there).either [
@@ -139,6 +143,7 @@ module _ (c : Core) (stands : HeapIsOpen c) (size redzone : ℕ) (kind : RangeKi
   hidden : (a : ℕ) → p - redzone ≤ a → a < p + max size 1 + redzone → (a < p) ⊎ (p + size ≤ a)
       → (new-core.shadow a).accessible ≡ false
   hidden a low high side =
+      let most = stands.region.within in
       let above = is-place.above in
       let below = is-place.below in
       ap (λ (s : Shadow). s.accessible) (made-outside _ p size a kind (is-outside p size a side (omega arith))
@@ -193,6 +198,7 @@ module _ (c : Core) (stands : HeapIsOpen c) (x volume : ℕ) (trace : List ℕ) 
   is-released : released_at c.blocks x trace ≡ Done (freed_by trace b)
   is-released =
       let above = (stands.region.live x b there).above in
+      let some = stands.region.some in
       ap (λ t. cond t Nothing (done_or trace (c.blocks.live x))) (ne_eqb x 0 (omega arith)) ∙ ap (done_or trace) there
 
   -- each block that is left lies outside of the freed one
@@ -210,9 +216,12 @@ module _ (c : Core) (stands : HeapIsOpen c) (x volume : ℕ) (trace : List ℕ) 
   pub released-open : HeapIsOpen left-core
   unfolding freed
   released-open =
+      let most = stands.region.within in
       let fits = stands.fits x b there in
       let at = begins in
       record {
+        beside = stands.beside;
+        stack = stands.stack;
         region = subst (λ r. AreInRegion (after_release r volume c.blocks)) is-released
             (keeps-region.released c.blocks x trace volume stands.region);
         apart = subst (λ r. AreApart (after_release r volume c.blocks)) is-released
@@ -238,7 +247,8 @@ module _ (c : Core) (stands : HeapIsOpen c) (x volume : ℕ) (trace : List ℕ) 
     | inr r ↦ elim (cases_lt a (b.start + b.size)) [
       | inl m ↦
           absurd (false≢true (sym (ap (λ (s : Shadow). s.accessible) (made-inside c.shadow b.start b.size a NoAccess
-          (is-inside b.start b.size a r m (let fits = stands.fits x b there in let at = begins in omega arith))))
+          (is-inside b.start b.size a r m (let most = stands.region.within in
+          let fits = stands.fits x b there in let at = begins in omega arith))))
           ∙ can))
       | inr n ↦ from-old (inr n)
     ]
@@ -246,6 +256,7 @@ module _ (c : Core) (stands : HeapIsOpen c) (x volume : ℕ) (trace : List ℕ) 
     where
       from-old : (a < b.start) ⊎ (b.start + b.size ≤ a) → IsInLive left-core a
       from-old side =
+          let most = stands.region.within in
           let fits = stands.fits x b there in
           let at = begins in
           let was = closed a low high (sym (ap (λ (s : Shadow). s.accessible) (made-outside c.shadow b.start b.size a

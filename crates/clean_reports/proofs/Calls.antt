@@ -4,7 +4,6 @@ use Rattle.std.proofs.Common.{false, cond, refl, sym, ap, ◌∙◌, subst, subs
 use Rattle.std.proofs.Common.{Option, Some, None, ◌==◌, nat_le, nat_lt, slice_index}
 use Rattle.std.proofs.Math.Path.{fun_ext}
 use Rattle.std.proofs.lemmas.Bool.{false≢true, ltb-true}
-use Rattle.definedness.specs.declared.Bits.{Bits}
 use Rattle.error_events.specs.declared.event.Event.{Event}
 use Rattle.error_events.specs.declared.kind.Kind.TheVariants.{Param}
 use Rattle.error_events.specs.declared.kind.ParameterFault.TheVariants.{Contains, Uninit, Unaddressable}
@@ -25,7 +24,7 @@ use Rattle.guest_machine.specs.Calls.{errors_from, failure, ebadf, enospc, enosy
 use Rattle.guest_machine.specs.Calls.{moved_len, is_output, output_room, bytes_taken, write_call}
 use Rattle.guest_machine.specs.Calls.{most_moved, appends}
 use Rattle.guest_machine.specs.Exec.{taken_from, read_uses, write_uses}
-use Rattle.clean_reports.specs.Agreement.{AreBytes, RegistersAgree, MemoriesAgree}
+use Rattle.clean_reports.specs.Agreement.{AreBytes, MemoriesAgree}
 use Rattle.clean_reports.specs.Uses.{NoUse, is_use}
 use Rattle.clean_reports.proofs.Values.{known-agrees}
 use Rattle.clean_reports.proofs.Memory.{good-from, good-byte, stored-agrees}
@@ -175,7 +174,7 @@ none-bad c start n none = go (first_bad c.shadow start n true) none
     always true = refl
     always false = refl
 
-    go : (o : Option Bad) → NoUse (buffer_event c.blocks (here c) WriteBuffer o) → o ≡ None
+    go : (o : Option Bad) → NoUse (buffer_event c.stack c.blocks (here c) WriteBuffer o) → o ≡ None
     go None none = refl
     go (Some bad) none = absurd (false≢true (sym none.0 ∙ always bad.accessible))
 

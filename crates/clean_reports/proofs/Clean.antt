@@ -18,7 +18,8 @@ use Rattle.clean_reports.proofs.Steps.{StepAgrees, step-agrees}
 
 -- a run and a disturbed one, and one from another start
 module _ (image : Image) (start : State) (setup : Setup) (law : StepAgrees setup) (marks : List Alteration) (n : ℕ)
-    (begins : IsStartOf image start) (loose : DefineNothing start.core.isa marks) (hide : HideNothing marks)
+    (begins : IsStartOf image start) (loose : DefineNothing start.core.isa marks)
+    (hide : HideNothing start.core.blocks.begin marks)
     (none : NoUse (pre start setup marks n).events) where
   pub run-agrees : (states : ℕ → State) → IsDisturbed start setup marks n states
       → StatesAgree (post start setup marks n) (after_marks n marks (states n))

@@ -1,5 +1,5 @@
 -- Effects that agree, of instructions of control registers, of a fence of fetches and of a wait for an interrupt.
-use Rattle.std.proofs.Common.{◌≡◌, ℕ, ◌/◌, ◌%◌, ◌^◌, ◌<◌, ◌==◌, ◌&&◌, ◌||◌, not, Bool, true, false, cond, refl, arith}
+use Rattle.std.proofs.Common.{ℕ, ◌/◌, ◌%◌, ◌^◌, ◌<◌, ◌==◌, ◌&&◌, ◌||◌, not, Bool, true, false, cond, refl, arith}
 use Rattle.std.proofs.Common.{[], None}
 use Rattle.definedness.specs.declared.Bits.{Bits}
 use Rattle.guest_elf.specs.Profiles.{has_controls}

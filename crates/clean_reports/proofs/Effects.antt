@@ -29,7 +29,7 @@ use Rattle.guest_machine.specs.Effects.{branch, followed, linked_jump, jump, jum
 use Rattle.guest_machine.specs.Effects.{load_upper, add_upper}
 use Rattle.guest_machine.specs.Exec.{written_to, taken_from, accessed}
 use Rattle.guest_machine.specs.Spans.{span_at}
-use Rattle.clean_reports.specs.Agreement.{ValuesAgree, RegistersAgree, MemoriesAgree}
+use Rattle.clean_reports.specs.Agreement.{ValuesAgree, MemoriesAgree}
 use Rattle.clean_reports.specs.Uses.{NoUse}
 use Rattle.clean_reports.proofs.Bits.{extended-agree, extended-lt, window-lt, bytes-of}
 use Rattle.clean_reports.proofs.Values.{known-agrees, computed-agree, undecided-agree, passes-agree}
@@ -58,7 +58,7 @@ pub none-about : (c : Core) (n start len : ℕ) → NoUse (access_errors c (Read
 unfolding event_about
 none-about c n start len none = go (first_inaccessible c.shadow start len) none
   where
-    go : (o : Option ℕ) → NoUse (event_about c.blocks (here c) (Read n) o) → o ≡ None
+    go : (o : Option ℕ) → NoUse (event_about c.stack c.blocks (here c) (Read n) o) → o ≡ None
     go None none = refl
     go (Some a) none = absurd (false≢true (sym none.0))
 

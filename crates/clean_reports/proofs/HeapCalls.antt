@@ -6,7 +6,6 @@ use Rattle.std.proofs.lemmas.Bool.{false≢true, and_parts, cases_lt}
 use Rattle.std.proofs.lemmas.Bool.Decides.{nat_tests}
 use Rattle.std.specs.Option.{option_map}
 use Rattle.std.specs.Int.{bit_at}
-use Rattle.definedness.specs.declared.Bits.{Bits}
 use Rattle.error_events.specs.declared.event.Event.{Event}
 use Rattle.error_events.specs.declared.kind.Kind.TheVariants.{Value}
 use Rattle.shadow_memory.specs.Ranges.{window, written, above, is_in, changed_in}
@@ -15,11 +14,11 @@ use Rattle.shadow_memory.specs.declared.cells.RangeKind.{RangeKind}
 use Rattle.shadow_memory.specs.declared.cells.RangeKind.TheVariants.{NoAccess, Undefined, Defined}
 use Rattle.run_values.specs.declared.span.Span.{Span}
 use Rattle.run_values.specs.declared.status.Stop.TheVariants.{Misaligned}
-use Rattle.memory_map.specs.Regions.{heap_begin, heap_end}
+use Rattle.memory_map.specs.Regions.{greatest_heap_begin}
 use Rattle.heap_blocks.specs.declared.block.Block.{Block}
 use Rattle.guest_elf.specs.declared.hook.Hook.{Hook}
 use Rattle.guest_elf.specs.declared.hook.Hook.TheVariants.{Malloc, Free, Calloc, Realloc}
-use Rattle.guest_heap.specs.Blocks.{Blocks, greatest_size, IsPlace, Meets, IsKept, Places}
+use Rattle.guest_heap.specs.Blocks.{Blocks, end_of, greatest_size, IsPlace, Meets, IsKept, Places}
 use Rattle.guest_heap.specs.Steps.{place, is_free, is_place, starts, BeginsAt}
 use Rattle.guest_heap.specs.declared.released.Released.{Released}
 use Rattle.guest_heap.specs.declared.released.Released.TheVariants.{Done, Nothing, Invalid}
@@ -40,7 +39,7 @@ use Rattle.guest_machine.specs.HeapCalls.{between, heap_call}
 use Rattle.guest_machine.specs.NamedCalls.{return_address, named_tested, named_errors, returned_to, named_by}
 use Rattle.guest_machine.specs.Exec.{taken_from, heap_uses, named_uses_by, work_uses}
 use Rattle.guest_machine.specs.Exec.{moved_from, moved_into, Uses}
-use Rattle.clean_reports.specs.Agreement.{RegistersAgree, MemoriesAgree}
+use Rattle.clean_reports.specs.Agreement.{MemoriesAgree}
 use Rattle.clean_reports.specs.Uses.{NoUse}
 use Rattle.clean_reports.specs.Heap.{BlocksAreOpen}
 use Rattle.clean_reports.proofs.Bits.{Under}
@@ -57,16 +56,17 @@ use Rattle.clean_reports.proofs.Effects.{EffectsAgree}
 use Rattle.clean_reports.proofs.Calls.{carried-along, test-errors, call-known, call-tested, call-raises, call-others}
 
 -- the place of a new block is an address
-place-lt : (blocks : Blocks) (size redzone p : ℕ) → place blocks size redzone ≡ Some p → p < 2 ^ 32
+place-lt : (blocks : Blocks) (size redzone p : ℕ) → blocks.begin ≤ greatest_heap_begin
+    → place blocks size redzone ≡ Some p → p < 2 ^ 32
 unfolding place is_place
-place-lt blocks size redzone p e =
-    let first = first-some (is_place blocks size redzone) starts p e in
+place-lt blocks size redzone p most e =
+    let first = first-some (is_place blocks size redzone) (starts blocks.begin) p e in
     let free = is_free blocks (p - redzone) (p + max size 1 + redzone) in
-    let below = nat_le (p + max size 1 + redzone) heap_end in
-    let above = nat_le (heap_begin + redzone) p in
+    let below = nat_le (p + max size 1 + redzone) (end_of blocks) in
+    let above = nat_le (blocks.begin + redzone) p in
     let first-two = (and_parts (nat_le size greatest_size) (above && (below && free)) first.passes).1 in
     let last-two = (and_parts above (below && free) first-two).1 in
-    let low : p + max size 1 + redzone ≤ heap_end = leb-true (p + max size 1 + redzone) heap_end
+    let low : p + max size 1 + redzone ≤ end_of blocks = leb-true (p + max size 1 + redzone) (end_of blocks)
     (and_parts below free last-two).0 in
     omega arith
 
@@ -110,9 +110,10 @@ pub record LiesApart (q redzone y a : ℕ) : Type 0 where
   pub interval : is_in (q - redzone) (redzone + max y 1 + redzone) a ≡ false
   pub block : is_in q y a ≡ false
 
-apart-from : (blocks : Blocks) (x y redzone : ℕ) (b : Block) (q : ℕ) → BeginsAt b x → IsPlace blocks y redzone q
-    → IsKept blocks b → (i : ℕ) → i < min b.size y → LiesApart q redzone y (above x i)
-apart-from blocks x y redzone b q begins is kept i h =
+apart-from : (blocks : Blocks) (x y redzone : ℕ) (b : Block) (q : ℕ) → blocks.begin ≤ greatest_heap_begin
+    → BeginsAt blocks b x → IsPlace blocks y redzone q → IsKept blocks b → (i : ℕ) → i < min b.size y
+    → LiesApart q redzone y (above x i)
+apart-from blocks x y redzone b q most begins is kept i h =
     let low = is.above in
     let high = is.below in
     let begin = begins.start in
@@ -173,12 +174,12 @@ frees c qs a f g m Invalid n es others volume small same = record {
 module _ (c : Core) (qs : Held) (a : HeldAgree (held-of c) qs) (f g : ℕ → ℕ)
     (m : MemoriesAgree c.shadow f g) where
   -- malloc
-  gives : (size redzone : ℕ) (kind : RangeKind) → (kind ≡ Defined → ⊥) → (o : Option ℕ)
+  gives : (opened : BlocksAreOpen c) (size redzone : ℕ) (kind : RangeKind) → (kind ≡ Defined → ⊥) → (o : Option ℕ)
       → place c.blocks size redzone ≡ o
       → EffectsAgree f g None None (quiet (block_at c o size redzone kind))
       (quiet (block_at (swap c qs) o size redzone kind))
   unfolding block_at set_register
-  gives size redzone kind loose None e = record {
+  gives opened size redzone kind loose None e = record {
     registers = set-in qs 10 (known 0);
     core = refl;
     agree = set-in-agrees (held-of c) qs a 10 _ _ (known-agrees 0 (omega arith));
@@ -186,10 +187,12 @@ module _ (c : Core) (qs : Held) (a : HeldAgree (held-of c) qs) (f g : ℕ → �
     output = refl;
     memory = m;
   }
-  gives size redzone kind loose (Some p) e = record {
+  gives opened size redzone kind loose (Some p) e = record {
     registers = set-in qs 10 (known p);
     core = refl;
-    agree = set-in-agrees (held-of c) qs a 10 _ _ (known-agrees p (place-lt c.blocks size redzone p e));
+    agree =
+        set-in-agrees (held-of c) qs a 10 _ _
+        (known-agrees p (place-lt c.blocks size redzone p opened.region.within e));
     raised = refl;
     output = refl;
     memory = made-agrees _ f g
@@ -198,11 +201,11 @@ module _ (c : Core) (qs : Held) (a : HeldAgree (held-of c) qs) (f g : ℕ → �
   }
 
   -- calloc
-  zeroes : (size redzone : ℕ) → (o : Option ℕ) → place c.blocks size redzone ≡ o
+  zeroes : (opened : BlocksAreOpen c) (size redzone : ℕ) → (o : Option ℕ) → place c.blocks size redzone ≡ o
       → EffectsAgree f g (option_map (λ p. span_at p size) o) (option_map (λ p. span_at p size) o)
       (quiet (block_at c o size redzone Defined)) (quiet (block_at (swap c qs) o size redzone Defined))
   unfolding block_at set_register
-  zeroes size redzone None e = record {
+  zeroes opened size redzone None e = record {
     registers = set-in qs 10 (known 0);
     core = refl;
     agree = set-in-agrees (held-of c) qs a 10 _ _ (known-agrees 0 (omega arith));
@@ -210,10 +213,12 @@ module _ (c : Core) (qs : Held) (a : HeldAgree (held-of c) qs) (f g : ℕ → �
     output = refl;
     memory = m;
   }
-  zeroes size redzone (Some p) e = record {
+  zeroes opened size redzone (Some p) e = record {
     registers = set-in qs 10 (known p);
     core = refl;
-    agree = set-in-agrees (held-of c) qs a 10 _ _ (known-agrees p (place-lt c.blocks size redzone p e));
+    agree =
+        set-in-agrees (held-of c) qs a 10 _ _
+        (known-agrees p (place-lt c.blocks size redzone p opened.region.within e));
     raised = refl;
     output = refl;
     memory = filled-agrees _ f g
@@ -268,7 +273,7 @@ module _ (c : Core) (qs : Held) (a : HeldAgree (held-of c) qs) (f g : ℕ → �
       (λ i s. stored_shadow (loaded_undef (both-shadow y redzone q (above x i))) s) (window f x n) (window g x n)
       (λ i k h. stored-bytes (both-shadow y redzone q k).accessible _ (both-shadow y redzone q k) _ _ refl
       (under i h (sym (kept-shadow y redzone q (above x i)
-      (apart-from c.blocks x y redzone b q begins least.place kept i h)))
+      (apart-from c.blocks x y redzone b q opened.region.within begins least.place kept i h)))
       (opened.opened x b move.live i (omega (arith, h)))))
       (λ i k. stored-bits (both-shadow y redzone q k).accessible _ (both-shadow y redzone q k)
       (loaded-lt (both-shadow y redzone q (above x i)).accessible _ (both.bits (above x i))) (both.bits k))
@@ -292,7 +297,8 @@ module _ (c : Core) (qs : Held) (a : HeldAgree (held-of c) qs) (f g : ℕ → �
       → EffectsAgree f g (moved_into what y) (moved_into what y) (resize-by c x y redzone volume what f)
       (resize-by (swap c qs) x y redzone volume what g)
   unfolding resized resize_errors set_register
-  resizes opened x y redzone volume Allocates e = gives y redzone Undefined not-un (place c.blocks y redzone) refl
+  resizes opened x y redzone volume Allocates e =
+      gives opened y redzone Undefined not-un (place c.blocks y redzone) refl
   resizes opened x y redzone volume Refuses e = record {
     registers = set-in qs 10 (known 0);
     core = refl;
@@ -312,7 +318,7 @@ module _ (c : Core) (qs : Held) (a : HeldAgree (held-of c) qs) (f g : ℕ → �
   }
   resizes opened x y redzone volume (Moves b q) e =
       let full = full-of x y redzone b q in
-      let small = place-lt c.blocks y redzone q (is-move c.blocks x y redzone b q e).place in
+      let small = place-lt c.blocks y redzone q opened.region.within (is-move c.blocks x y redzone b q e).place in
       let moved = frees full qs a (written f q (min b.size y) (window f x (min b.size y)))
       (written g q (min b.size y) (window g x (min b.size y)))
       (copies opened x y redzone b q (is-move c.blocks x y redzone b q e)) (released_here full x) q []
@@ -336,10 +342,10 @@ module _ (c : Core) (qs : Held) (a : HeldAgree (held-of c) qs) (f g : ℕ → �
       (work_uses function c.blocks x y redzone).writes
       (work-by c function x y redzone volume f) (work-by (swap c qs) function x y redzone volume g)
   unfolding heap_work work_uses
-  works opened Malloc x y redzone volume = gives x redzone Undefined not-un (place c.blocks x redzone) refl
+  works opened Malloc x y redzone volume = gives opened x redzone Undefined not-un (place c.blocks x redzone) refl
   works opened Free x y redzone volume =
       frees c qs a f g m (released_here c x) 0 _ _ volume (omega arith) (free-same (released_here c x) x)
-  works opened Calloc x y redzone volume = zeroes (x * y) redzone (place c.blocks (x * y) redzone) refl
+  works opened Calloc x y redzone volume = zeroes opened (x * y) redzone (place c.blocks (x * y) redzone) refl
   works opened Realloc x y redzone volume =
       resizes opened x y redzone volume (resizing c.blocks x y redzone) refl
 

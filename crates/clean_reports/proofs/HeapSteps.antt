@@ -1,16 +1,19 @@
 -- Each step keeps the heap open and closed.
 use Rattle.std.proofs.Common.{◌≡◌, ℕ, ◌+◌, ◌-◌, ◌*◌, ◌/◌, ◌%◌, ◌^◌, ◌<◌, ◌≤◌, ◌&&◌, min, Bool, true, false}
-use Rattle.std.proofs.Common.{cond, length, refl, sym, ap, ◌∙◌, subst, inl, inr, arith, List, [], ◌∷◌, ◌++◌, Option}
+use Rattle.std.proofs.Common.{cond, length, refl, sym, ap, ap₂, ◌∙◌, subst, max, ◌⊎◌, inl, inr}
+use Rattle.std.proofs.Common.{arith, List, [], ◌∷◌, ◌++◌, Option}
 use Rattle.std.proofs.Common.{Some, None}
 use Rattle.std.proofs.Common.{◌==◌, nat_lt, nat_le, leb-true, slice_index}
-use Rattle.std.proofs.lemmas.Bool.{false≢true, cases_eq, and_parts, ltb-true}
+use Rattle.std.proofs.lemmas.Bool.{false≢true, cases_eq, cases_lt, and_parts, ltb-true, ltb-false}
 use Rattle.definedness.specs.declared.Bits.{Bits}
 use Rattle.shadow_memory.specs.Ranges.{is_in, offset, changed_in, above, byte_of}
 use Rattle.shadow_memory.specs.Shadows.{Shadow, shadow_of, made_so, stored_undef, stored_shadow, copied_undef}
 use Rattle.shadow_memory.specs.Shadows.{loaded_undef}
 use Rattle.shadow_memory.specs.declared.cells.RangeKind.{RangeKind}
 use Rattle.shadow_memory.specs.declared.cells.RangeKind.TheVariants.{NoAccess, Undefined, Defined}
-use Rattle.memory_map.specs.Regions.{heap_begin, heap_end, stack_begin, stack_end}
+use Rattle.memory_map.specs.Regions.{greatest_stack_end, heap_size, meet}
+use Rattle.memory_map.specs.declared.regions.StackRegion.{StackRegion}
+use Rattle.guest_heap.specs.Blocks.{end_of}
 use Rattle.heap_blocks.specs.declared.block.Block.{Block}
 use Rattle.guest_heap.specs.Blocks.{Blocks, freed_by, done_or}
 use Rattle.guest_heap.specs.Steps.{place}
@@ -82,22 +85,31 @@ Stands b c = HeapIsOpen c × IfClosed b c
 
 pub record LeavesHeap (c e : Core) : Type 0 where
   pub blocks : e.blocks ≡ c.blocks
-  pub same : (a : ℕ) → heap_begin ≤ a → a < heap_end → (e.shadow a).accessible ≡ (c.shadow a).accessible
+  pub stack : e.stack ≡ c.stack
+  pub same : (a : ℕ) → c.blocks.begin ≤ a → a < end_of c.blocks → (e.shadow a).accessible ≡ (c.shadow a).accessible
 
 pub then : (c d e : Core) → LeavesHeap c d → LeavesHeap d e → LeavesHeap c e
 then c d e p q = record {
   blocks = q.blocks ∙ p.blocks;
-  same = λ a low high. q.same a low high ∙ p.same a low high;
+  stack = q.stack ∙ p.stack;
+  same = λ a low high.
+      (let P : Blocks → Type 0 = λ x. x.begin ≤ a in
+      let Q : Blocks → Type 0 = λ x. a < end_of x in
+      q.same a (subst P (sym p.blocks) low) (subst Q (sym p.blocks) high) ∙ p.same a low high);
 }
 
 pub as-is : (c : Core) → LeavesHeap c c
-as-is c = record { blocks = refl; same = λ a low high. refl }
+as-is c = record { blocks = refl; stack = refl; same = λ a low high. refl }
 
 open-on : (c e : Core) → LeavesHeap c e → HeapIsOpen c → HeapIsOpen e
 open-on c e l h = record {
   region = subst (λ (x : Blocks). Rattle.guest_heap.specs.Steps.AreInRegion x) (sym l.blocks) h.region;
   apart = subst (λ (x : Blocks). Rattle.guest_heap.specs.Steps.AreApart x) (sym l.blocks) h.apart;
-  fits = λ p b there. h.fits p b (ap (λ (x : Blocks). x.live p) (sym l.blocks) ∙ there);
+  beside = ap₂ (λ (x : Blocks) (y : StackRegion). meet x.begin y.begin y.end) l.blocks l.stack ∙ h.beside;
+  stack = subst (λ (y : StackRegion). y.end ≤ greatest_stack_end) (sym l.stack) h.stack;
+  fits = λ p b there.
+      (let P : Blocks → Type 0 = λ x. p + b.size ≤ end_of x in
+      subst P (sym l.blocks) (h.fits p b (ap (λ (x : Blocks). x.live p) (sym l.blocks) ∙ there)));
   opened = λ p b there i k.
       (let was = ap (λ (x : Blocks). x.live p) (sym l.blocks) ∙ there in
       let fits = h.fits p b was in
@@ -107,7 +119,11 @@ open-on c e l h = record {
 
 closed-on : (c e : Core) → LeavesHeap c e → HeapIsClosed c → HeapIsClosed e
 closed-on c e l h a low high can =
-    let was = h a low high (sym (l.same a low high) ∙ can) in
+    let P : Blocks → Type 0 = λ x. x.begin ≤ a in
+    let Q : Blocks → Type 0 = λ x. a < end_of x in
+    let over = subst P l.blocks low in
+    let under = subst Q l.blocks high in
+    let was = h a over under (sym (l.same a over under) ∙ can) in
     record {
       start = was.start;
       block = was.block;
@@ -124,7 +140,7 @@ on false c e l h = (open-on c e l h.0, tt)
 
 pub sets : (c : Core) (r : ℕ) (x : Bits) → LeavesHeap c (set_register c r x)
 unfolding set_register
-sets c r x = record { blocks = refl; same = λ a low high. refl }
+sets c r x = record { blocks = refl; stack = refl; same = λ a low high. refl }
 
 tests : (c : Core) (r : ℕ) → LeavesHeap c (tested c r)
 unfolding tested
@@ -143,17 +159,18 @@ all-tests c r (p ∷ ps) = then c (tested c r) (tested_from (tested c r) (r + 1)
 call-tests : (c : Core) (first : ℕ) (ps : List Parameter) → LeavesHeap c (tested_from (tested c first) 10 ps)
 call-tests c first ps = then c (tested c first) _ (tests c first) (all-tests (tested c first) 10 ps)
 
-changes : (c e : Core) (start n : ℕ) (change : ℕ → Shadow → Shadow) → e.blocks ≡ c.blocks
-    → ((i a : ℕ) → heap_begin ≤ a → a < heap_end → is_in start n a ≡ true
+changes : (c e : Core) (start n : ℕ) (change : ℕ → Shadow → Shadow) → e.blocks ≡ c.blocks → e.stack ≡ c.stack
+    → ((i a : ℕ) → c.blocks.begin ≤ a → a < end_of c.blocks → is_in start n a ≡ true
     → (change i (c.shadow a)).accessible ≡ (c.shadow a).accessible)
     → e.shadow ≡ changed_in c.shadow start n change → LeavesHeap c e
 unfolding changed_in
-changes c e start n change blocks each is = record {
+changes c e start n change blocks stack each is = record {
   blocks = blocks;
+  stack = stack;
   same = λ a low high. ap (λ (s : ℕ → Shadow). (s a).accessible) is ∙ go a low high (is_in start n a) refl;
 }
   where
-    go : (a : ℕ) → heap_begin ≤ a → a < heap_end → (b : Bool) → is_in start n a ≡ b
+    go : (a : ℕ) → c.blocks.begin ≤ a → a < end_of c.blocks → (b : Bool) → is_in start n a ≡ b
         → (cond b (change (offset start a) (c.shadow a)) (c.shadow a)).accessible ≡ (c.shadow a).accessible
     go a low high true e = each (offset start a) a low high e
     go a low high false e = refl
@@ -169,62 +186,79 @@ stored-same undef s = go s.accessible refl
 pub stores : (c : Core) (start n undef : ℕ) → LeavesHeap c (stored_core c start n undef)
 unfolding stored_undef
 stores c start n undef =
-    changes c (stored_core c start n undef) start n (λ i s. stored_shadow (byte_of undef i) s) refl
+    changes c (stored_core c start n undef) start n (λ i s. stored_shadow (byte_of undef i) s) refl refl
     (λ i a low high e. stored-same (byte_of undef i) (c.shadow a)) refl
 
 copies : (c : Core) (from to n : ℕ) → LeavesHeap c (copied c from to n)
 unfolding copied_undef
 copies c from to n =
-    changes c (copied c from to n) to n (λ i s. stored_shadow (loaded_undef (c.shadow (above from i))) s) refl
+    changes c (copied c from to n) to n (λ i s. stored_shadow (loaded_undef (c.shadow (above from i))) s) refl refl
     (λ i a low high e. stored-same (loaded_undef (c.shadow (above from i))) (c.shadow a)) refl
 
 -- a range outside of the heap region
 misses : (c : Core) (start n : ℕ) (kind : RangeKind)
-    → ((a : ℕ) → heap_begin ≤ a → a < heap_end → is_in start n a ≡ false) → LeavesHeap c (ranged c start n kind)
+    → ((a : ℕ) → c.blocks.begin ≤ a → a < end_of c.blocks → is_in start n a ≡ false)
+    → LeavesHeap c (ranged c start n kind)
 unfolding made_so
 misses c start n kind miss =
-    changes c (ranged c start n kind) start n (λ i s. shadow_of kind) refl
+    changes c (ranged c start n kind) start n (λ i s. shadow_of kind) refl refl
     (λ i a low high e. absurd (false≢true (sym (miss a low high) ∙ e))) refl
 
 -- the stack pointer rule --
 
-in-stack : (x : Bits) → is_stack_pointer x ≡ true → (stack_begin ≤ x.value) × (x.value ≤ stack_end)
-in-stack x e =
-    let region = (and_parts (x.undef == 0) (is_in_stack x.value) e).1 in
-    let parts = and_parts (nat_le stack_begin x.value) (nat_le x.value stack_end) region in
-    (leb-true stack_begin x.value parts.0, leb-true x.value stack_end parts.1)
+in-stack : (stack : StackRegion) (x : Bits) → is_stack_pointer stack x ≡ true
+    → (stack.begin ≤ x.value) × (x.value ≤ stack.end)
+in-stack stack x e =
+    let region = (and_parts (x.undef == 0) (is_in_stack stack x.value) e).1 in
+    let parts = and_parts (nat_le stack.begin x.value) (nat_le x.value stack.end) region in
+    (leb-true stack.begin x.value parts.0, leb-true x.value stack.end parts.1)
 
-frames : (c : Core) (low high : ℕ) (kind : RangeKind) → stack_begin ≤ low → low ≤ high → high ≤ stack_end
-    → LeavesHeap c (framed c low high kind)
+-- a range of the stack's region has no address of the heap's
+clear-of : (heap begin end low high a : ℕ) → meet heap begin end ≡ false → end ≤ greatest_stack_end → begin ≤ low
+    → low ≤ high → high ≤ end → heap ≤ a → a < heap + heap_size → is_in low (high - low) a ≡ false
+unfolding meet
+clear-of heap begin end low high a apart small over order under l h =
+    let none = ltb-false (max heap begin) (min (heap + heap_size) end) apart in
+    go none (cases_lt a low)
+  where
+    go : min (heap + heap_size) end ≤ max heap begin → (a < low) ⊎ (low ≤ a) → is_in low (high - low) a ≡ false
+    go none (inl less) = is-outside low (high - low) a (inl less) (omega arith)
+    go none (inr more) = is-outside low (high - low) a (inr (omega arith)) (omega arith)
+
+frames : (c : Core) (low high : ℕ) (kind : RangeKind) → HeapIsOpen c → c.stack.begin ≤ low → low ≤ high
+    → high ≤ c.stack.end → LeavesHeap c (framed c low high kind)
 unfolding framed
-frames c low high kind over order under = go (nat_le (high - low) largest_frame)
+frames c low high kind stands over order under = go (nat_le (high - low) largest_frame)
   where
     go : (b : Bool) → LeavesHeap c (cond b (ranged c low (high - low) kind) c)
-    go true = misses c low (high - low) kind (λ a l h. is-outside low (high - low) a (inl (omega arith)) (omega arith))
+    go true =
+        misses c low (high - low) kind
+        (λ a l h. clear-of c.blocks.begin c.stack.begin c.stack.end low high a stands.beside stands.stack over order
+        under l h)
     go false = as-is c
 
-moves : (c : Core) (old new : ℕ) → stack_begin ≤ old → old ≤ stack_end → stack_begin ≤ new → new ≤ stack_end
-    → LeavesHeap c (stack_moved c old new)
+moves : (c : Core) (old new : ℕ) → HeapIsOpen c → c.stack.begin ≤ old → old ≤ c.stack.end → c.stack.begin ≤ new
+    → new ≤ c.stack.end → LeavesHeap c (stack_moved c old new)
 unfolding stack_moved
-moves c old new p q r s = go (nat_lt new old) (nat_lt old new) refl refl
+moves c old new stands p q r s = go (nat_lt new old) (nat_lt old new) refl refl
   where
     go : (b d : Bool) → nat_lt new old ≡ b → nat_lt old new ≡ d
         → LeavesHeap c (cond b (framed c new old Undefined) (cond d (framed c old new NoAccess) c))
-    go true d e f = let less = ltb-true new old e in frames c new old Undefined r (omega arith) q
-    go false true e f = let less = ltb-true old new f in frames c old new NoAccess p (omega arith) s
+    go true d e f = let less = ltb-true new old e in frames c new old Undefined stands r (omega arith) q
+    go false true e f = let less = ltb-true old new f in frames c old new NoAccess stands p (omega arith) s
     go false false e f = as-is c
 
-rules : (c : Core) (x : Bits) → LeavesHeap c (stack_ruled x c)
+rules : (c : Core) (x : Bits) → HeapIsOpen c → LeavesHeap c (stack_ruled x c)
 unfolding stack_ruled
-rules c x = go (is_stack_pointer x && is_stack_pointer (register c 2)) refl
+rules c x stands = go (is_stack_pointer c.stack x && is_stack_pointer c.stack (register c 2)) refl
   where
-    go : (b : Bool) → (is_stack_pointer x && is_stack_pointer (register c 2)) ≡ b
+    go : (b : Bool) → (is_stack_pointer c.stack x && is_stack_pointer c.stack (register c 2)) ≡ b
         → LeavesHeap c (cond b (stack_moved c x.value (register c 2).value) c)
     go true e =
-        let parts = and_parts (is_stack_pointer x) (is_stack_pointer (register c 2)) e in
-        let old = in-stack x parts.0 in
-        let new = in-stack (register c 2) parts.1 in
-        moves c x.value (register c 2).value old.0 old.1 new.0 new.1
+        let parts = and_parts (is_stack_pointer c.stack x) (is_stack_pointer c.stack (register c 2)) e in
+        let old = in-stack c.stack x parts.0 in
+        let new = in-stack c.stack (register c 2) parts.1 in
+        moves c x.value (register c 2).value stands old.0 old.1 new.0 new.1
     go false e = as-is c
 
 -- jumps --
@@ -236,17 +270,17 @@ links c next hint rd to = go (is_aligned c.isa to)
     go : (b : Bool) → LeavesHeap c
         (cond b (moved_to (set_register (followed c next hint to) rd (known next)) to)
         (stopped c Misaligned))
-    go true = record { blocks = refl; same = λ a low high. refl }
-    go false = record { blocks = refl; same = λ a low high. refl }
+    go true = record { blocks = refl; stack = refl; same = λ a low high. refl }
+    go false = record { blocks = refl; stack = refl; same = λ a low high. refl }
 
 branches : (b : Bool) (c : Core) (next to : ℕ) → LeavesHeap c (branched b c next to)
 unfolding branched jumped
 branches true c next to = go (is_aligned c.isa to)
   where
     go : (b : Bool) → LeavesHeap c (cond b (moved_to c to) (stopped c Misaligned))
-    go true = record { blocks = refl; same = λ a low high. refl }
-    go false = record { blocks = refl; same = λ a low high. refl }
-branches false c next to = record { blocks = refl; same = λ a low high. refl }
+    go true = record { blocks = refl; stack = refl; same = λ a low high. refl }
+    go false = record { blocks = refl; stack = refl; same = λ a low high. refl }
+branches false c next to = record { blocks = refl; stack = refl; same = λ a low high. refl }
 
 branch-tests : (c : Core) (u : Bool) (rs1 rs2 : ℕ) → LeavesHeap c (cond u (defined (defined c rs1) rs2) c)
 branch-tests c true rs1 rs2 =
@@ -326,7 +360,7 @@ works b Realloc c h x y redzone volume taken =
     resizes b c h x y redzone volume (resizing c.blocks x y redzone) refl
 
 pub goes : (c : Core) (to : ℕ) → LeavesHeap c (moved_to c to)
-goes c to = record { blocks = refl; same = λ a low high. refl }
+goes c to = record { blocks = refl; stack = refl; same = λ a low high. refl }
 
 heap-calls : (b : Bool) (function : Hook) (c : Core) → Stands b c → (next redzone volume : ℕ) (taken : ℕ → ℕ)
     → Stands b (heap_call function c next redzone volume taken).core
@@ -345,19 +379,21 @@ unfolding named_by
 named-calls b true function c h redzone volume taken =
     let now = tested_from (tested c 1) 10 (heap_parameters function) in
     let done = heap_work function now (argument c 10) (argument c 11) redzone volume taken in
-    on b done.core (returned_to (return_address c) done.core) (record { blocks = refl; same = λ a low high. refl })
+    on b done.core (returned_to (return_address c) done.core)
+    (record { blocks = refl; stack = refl; same = λ a low high. refl })
     (works b function now (on b c now (call-tests c 1 (heap_parameters function)) h) (argument c 10)
     (argument c 11) redzone
     volume taken)
 named-calls b false function c h redzone volume taken =
-    on b c (stopped (tested c 1) Misaligned) (record { blocks = (tests c 1).blocks; same = (tests c 1).same }) h
+    let l = tests c 1 in
+    on b c (stopped (tested c 1) Misaligned) (record { blocks = l.blocks; stack = l.stack; same = l.same }) h
 
 -- calls by number --
 
 -- the result of a call, after its tests
 answers : (c now : Core) (next n : ℕ) → LeavesHeap c now → LeavesHeap c (moved_to (answered now n) next)
 unfolding set_register
-answers c now next n l = record { blocks = l.blocks; same = l.same }
+answers c now next n l = record { blocks = l.blocks; stack = l.stack; same = l.same }
 
 module _ (b : Bool) (c : Core) (h : Stands b c) (next : ℕ) (terms : Terms) (given : List ℕ) (taken : ℕ → ℕ) where
   abbrev StandsAt : ℕ → Type 0
@@ -406,7 +442,7 @@ module _ (b : Bool) (c : Core) (h : Stands b c) (next : ℕ) (terms : Terms) (gi
 
   exits : (p : Parameter) → Stands b (exited (after (p ∷ [])) (argument c 10 % 256))
   exits p =
-      let l = call-tests c 17 (p ∷ []) in on b c _ (record { blocks = l.blocks; same = l.same }) h
+      let l = call-tests c 17 (p ∷ []) in on b c _ (record { blocks = l.blocks; stack = l.stack; same = l.same }) h
 
   exit : StandsAt 93
   unfolding call_effect parameters_of
@@ -468,19 +504,20 @@ module _ (b : Bool) (c : Core) (h : Stands b c) (next : ℕ) (terms : Terms) (gi
   -- an atomic instruction
   admitted-left : (atomic : Atomic) (rd rs1 rs2 : ℕ) → LeavesHeap c (admitted c next atomic rd rs1 rs2 taken).core
   unfolding set_register
-  admitted-left LoadReserved rd rs1 rs2 = let l = tests c rs1 in record { blocks = l.blocks; same = l.same }
+  admitted-left LoadReserved rd rs1 rs2 =
+      let l = tests c rs1 in record { blocks = l.blocks; stack = l.stack; same = l.same }
   admitted-left StoreConditional rd rs1 rs2 =
-      let l = go (is_reserved c rs1) in record { blocks = l.blocks; same = l.same }
+      let l = go (is_reserved c rs1) in record { blocks = l.blocks; stack = l.stack; same = l.same }
     where
       go : (p : Bool) → LeavesHeap c (cond p (resulting rd 0 (store c next Word rs1 rs2 0))
           (resulting rd 1 (not_stored c next rs1))).core
       go true =
           let l = then c (tested c rs1) _ (tests c rs1) (stores (tested c rs1) (target c rs1 0) 4
-          (register (tested c rs1) rs2).undef) in record { blocks = l.blocks; same = l.same }
-      go false = let l = tests c rs1 in record { blocks = l.blocks; same = l.same }
+          (register (tested c rs1) rs2).undef) in record { blocks = l.blocks; stack = l.stack; same = l.same }
+      go false = let l = tests c rs1 in record { blocks = l.blocks; stack = l.stack; same = l.same }
   admitted-left (Updating update) rd rs1 rs2 =
       let l = then c (tested c rs1) _ (tests c rs1) (stores (tested c rs1) (atomic_start c rs1) 4 _) in
-      record { blocks = l.blocks; same = l.same }
+      record { blocks = l.blocks; stack = l.stack; same = l.same }
 
   atomics-left : (atomic : Atomic) (rd rs1 rs2 : ℕ) → LeavesHeap c (atomic_effect c next atomic rd rs1 rs2 taken).core
   unfolding atomic_effect
@@ -489,8 +526,8 @@ module _ (b : Bool) (c : Core) (h : Stands b c) (next : ℕ) (terms : Terms) (gi
       go : (p q : Bool) → LeavesHeap c (cond p (admitted c next atomic rd rs1 rs2 taken)
           (cond q (raising (stopped (tested c rs1) Misaligned) (value_errors c rs1)) (stops c Illegal))).core
       go true q = admitted-left atomic rd rs1 rs2
-      go false true = let l = tests c rs1 in record { blocks = l.blocks; same = l.same }
-      go false false = record { blocks = refl; same = λ a low high. refl }
+      go false true = let l = tests c rs1 in record { blocks = l.blocks; stack = l.stack; same = l.same }
+      go false false = record { blocks = refl; stack = refl; same = λ a low high. refl }
 
   -- one of a control register, a fence of fetches, or a wait for an interrupt
   controls-left : (access : ControlAccess) (rd number : ℕ) (operand : ControlOperand)
@@ -501,23 +538,23 @@ module _ (b : Bool) (c : Core) (h : Stands b c) (next : ℕ) (terms : Terms) (gi
       go : (p : Bool) → LeavesHeap c (cond p (results_in (record c {
         controls = controls_after c access number operand;
       }) next rd (control c number)) (stops c Illegal)).core
-      go true = record { blocks = refl; same = λ a low high. refl }
-      go false = record { blocks = refl; same = λ a low high. refl }
+      go true = record { blocks = refl; stack = refl; same = λ a low high. refl }
+      go false = record { blocks = refl; stack = refl; same = λ a low high. refl }
 
   barrier-left : LeavesHeap c (barrier c next).core
   unfolding barrier
   barrier-left = go (has_controls c.isa)
     where
       go : (p : Bool) → LeavesHeap c (cond p (quiet (moved_to c next)) (stops c Illegal)).core
-      go true = record { blocks = refl; same = λ a low high. refl }
-      go false = record { blocks = refl; same = λ a low high. refl }
+      go true = record { blocks = refl; stack = refl; same = λ a low high. refl }
+      go false = record { blocks = refl; stack = refl; same = λ a low high. refl }
 
   -- each row
   pub rows : (row : Option Instruction) → Stands b (row_effect c next row terms given taken).core
   unfolding row_effect set_register call_at branch_tested
-  rows None = on b c _ (record { blocks = refl; same = λ a low high. refl }) h
-  rows (Some (LoadUpper rd imm)) = on b c _ (record { blocks = refl; same = λ a low high. refl }) h
-  rows (Some (AddUpper rd imm)) = on b c _ (record { blocks = refl; same = λ a low high. refl }) h
+  rows None = on b c _ (record { blocks = refl; stack = refl; same = λ a low high. refl }) h
+  rows (Some (LoadUpper rd imm)) = on b c _ (record { blocks = refl; stack = refl; same = λ a low high. refl }) h
+  rows (Some (AddUpper rd imm)) = on b c _ (record { blocks = refl; stack = refl; same = λ a low high. refl }) h
   rows (Some (Jump rd imm)) = on b c _ (links c next _ rd ((c.pc + imm) % 2 ^ 32)) h
   rows (Some (JumpRegister rd rs1 imm)) =
       on b c _ (then c (tested c rs1) _ (tests c rs1) (links (tested c rs1) next _ rd (target c rs1 imm / 2 * 2))) h
@@ -525,16 +562,18 @@ module _ (b : Bool) (c : Core) (h : Stands b c) (next : ℕ) (terms : Terms) (gi
       on b c _ (then c _ _ (branch-tests c (is_undefined c test rs1 rs2) rs1 rs2)
       (branches _ (cond (is_undefined c test rs1 rs2) (defined (defined c rs1) rs2) c) next ((c.pc + imm) % 2 ^ 32))) h
   rows (Some (Load width signed rd rs1 imm)) =
-      let l = tests c rs1 in on b c _ (record { blocks = l.blocks; same = l.same }) h
+      let l = tests c rs1 in on b c _ (record { blocks = l.blocks; stack = l.stack; same = l.same }) h
   rows (Some (Store width rs1 rs2 imm)) =
       let l = then c (tested c rs1) _ (tests c rs1) (stores (tested c rs1) (target c rs1 imm) (width_len width)
       (register (tested c rs1) rs2).undef) in
-      on b c _ (record { blocks = l.blocks; same = l.same }) h
-  rows (Some (Immediate operation rd rs1 imm)) = on b c _ (record { blocks = refl; same = λ a low high. refl }) h
-  rows (Some (Registers operation rd rs1 rs2)) = on b c _ (record { blocks = refl; same = λ a low high. refl }) h
-  rows (Some Fence) = on b c _ (record { blocks = refl; same = λ a low high. refl }) h
+      on b c _ (record { blocks = l.blocks; stack = l.stack; same = l.same }) h
+  rows (Some (Immediate operation rd rs1 imm)) =
+      on b c _ (record { blocks = refl; stack = refl; same = λ a low high. refl }) h
+  rows (Some (Registers operation rd rs1 rs2)) =
+      on b c _ (record { blocks = refl; stack = refl; same = λ a low high. refl }) h
+  rows (Some Fence) = on b c _ (record { blocks = refl; stack = refl; same = λ a low high. refl }) h
   rows (Some CallRow) = calls (argument c 17)
-  rows (Some Breakpoint) = on b c _ (record { blocks = refl; same = λ a low high. refl }) h
+  rows (Some Breakpoint) = on b c _ (record { blocks = refl; stack = refl; same = λ a low high. refl }) h
   rows (Some (insns.LoadReserved rd rs1)) = on b c _ (atomics-left LoadReserved rd rs1 0) h
   rows (Some (insns.StoreConditional rd rs1 rs2)) = on b c _ (atomics-left StoreConditional rd rs1 rs2) h
   rows (Some (insns.Update update rd rs1 rs2)) = on b c _ (atomics-left (Updating update) rd rs1 rs2) h
@@ -548,13 +587,13 @@ none-taken c = go (is_running c.status) (is_aligned c.isa c.pc) (fetch_fault c)
     go : (b d : Bool) (o : Option ℕ)
         → LeavesHeap c (cond b (cond d (jump_fault c o) (stops c Misaligned)) (quiet c)).core
     go true true None = as-is c
-    go true true (Some n) = record { blocks = refl; same = λ a low high. refl }
-    go true false o = record { blocks = refl; same = λ a low high. refl }
+    go true true (Some n) = record { blocks = refl; stack = refl; same = λ a low high. refl }
+    go true false o = record { blocks = refl; stack = refl; same = λ a low high. refl }
     go false d o = as-is c
 
 fault-left : (c : Core) (fault : Option ℕ) → LeavesHeap c (jump_fault c fault).core
 fault-left c None = as-is c
-fault-left c (Some n) = record { blocks = refl; same = λ a low high. refl }
+fault-left c (Some n) = record { blocks = refl; stack = refl; same = λ a low high. refl }
 
 deeds : (b : Bool) (c : Core) → Stands b c → (terms : Terms) (deed : Deed) (given : List ℕ) (taken : ℕ → ℕ)
     → Stands b (outcome c terms deed given taken).core
@@ -562,7 +601,7 @@ deeds b c h terms (Takes code) given taken =
     let next = next_of c (len_of code) in
     let row = rows b c h next terms given taken (row_of_code code) in
     on b (row_effect c next (row_of_code code) terms given taken).core _
-    (rules (row_effect c next (row_of_code code) terms given taken).core (register c 2)) row
+    (rules (row_effect c next (row_of_code code) terms given taken).core (register c 2) row.0) row
 deeds b c h terms Cut given taken = on b c _ (fault-left c (word_fault c)) h
 deeds b c h terms (CallsByName function) given taken =
     named-calls b (returns c) function c h terms.redzone terms.volume taken
@@ -572,5 +611,5 @@ pub steps : (b : Bool) (setup : Setup) (s : State) → Stands b s.core → Stand
 unfolding exec effect_at outcome_at
 steps b setup s h =
     let effect = outcome_at s.core s.bytes s.position (length s.output) setup in
-    on b effect.core _ (record { blocks = refl; same = λ a low high. refl })
+    on b effect.core _ (record { blocks = refl; stack = refl; same = λ a low high. refl })
     (deeds b s.core h _ (deed_at s.core s.bytes setup.hooks) _ _)

@@ -16,6 +16,7 @@ pub mod Steps
 pub mod Runs
 pub mod Reports
 pub mod Blocks
+pub mod StartRegions
 pub mod HeapSteps
 pub mod Programs
 pub mod HeapRuns

@@ -7,7 +7,8 @@ use Rattle.std.proofs.lemmas.Bool.{cases_lt, cases_eq}
 use Rattle.definedness.specs.declared.Bits.{Bits}
 use Rattle.shadow_memory.specs.Shadows.{made_so, shadow_of}
 use Rattle.shadow_memory.specs.declared.cells.RangeKind.TheVariants.{NoAccess, Defined}
-use Rattle.guest_elf.specs.Images.{loaded_at}
+use Rattle.guest_elf.specs.Images.{loaded_at, profile_of}
+use Rattle.memory_map.specs.Regions.{first_stack_bytes}
 use Rattle.guest_elf.specs.declared.image.Image.{Image}
 use Rattle.run_values.specs.declared.alteration.Alteration.{Alteration}
 use Rattle.guest_machine.specs.State.{Core, State}
@@ -26,6 +27,7 @@ use Rattle.clean_reports.proofs.Clean.{law-of}
 use Rattle.clean_reports.proofs.HeapRuns.{blocks-open, heap-stays-open}
 use Rattle.clean_reports.proofs.Memory.{changed-bits, kind-bits}
 use Rattle.clean_reports.proofs.Registers.{set-agrees}
+use Rattle.clean_reports.proofs.StartRegions.{lie}
 use Rattle.clean_reports.proofs.Runs.{after-agree, begun, fewer, loose-along, marks-events, runs-agree, states-sym}
 use Rattle.clean_reports.proofs.Runs.{states-trans}
 use Rattle.clean_reports.proofs.Steps.{StepAgrees}
@@ -52,10 +54,12 @@ zeros-agree = record {
   each = λ r. subst (λ x. ValuesAgree x x) (sym (copies-same 32 r (known 0))) (known-agrees 0 (omega arith));
 }
 
-shadows-small : (image : Image) → AreBytes (λ a. (made_so (image_shadows image) stack_start 16 Defined a).undef)
+shadows-small : (image : Image)
+    → AreBytes (λ a. (made_so (image_shadows image) (stack_start image) first_stack_bytes Defined a).undef)
 unfolding made_so
 shadows-small image =
-    changed-bits (image_shadows image) stack_start 16 (λ i s. shadow_of Defined) (λ a. go (is_some (loaded_at image a)))
+    changed-bits (image_shadows image) (stack_start image) first_stack_bytes (λ i s. shadow_of Defined)
+    (λ a. go (is_some (loaded_at image a)))
     (λ i a. kind-bits Defined)
   where
     go : (b : Bool) → (cond b (shadow_of Defined) (shadow_of NoAccess)).undef < 2 ^ 8
@@ -75,9 +79,9 @@ core-agrees image core bytes is small = (
   },
   (
     subst (λ (c : Core). RegistersAgree c.registers c.registers) (sym is)
-        (set-agrees (replicate 32 (known 0)) (replicate 32 (known 0)) zeros-agree 2 (known stack_start)
-        (known stack_start)
-        (known-agrees stack_start (omega arith))),
+        (set-agrees (replicate 32 (known 0)) (replicate 32 (known 0)) zeros-agree 2 (known (stack_start image))
+        (known (stack_start image))
+        (known-agrees (stack_start image) (let end = (lie (profile_of image).regions).end in omega arith))),
     subst (λ (c : Core). ControlsAgree c.controls c.controls) (sym is) (λ number. known-agrees 0 (omega arith)),
   ),
 )
@@ -94,6 +98,7 @@ start-itself image start begins small =
       frames = refl;
       blocks = refl;
       isa = refl;
+      stack = refl;
       reserved = refl;
       controls = parts.1.1;
       steps = refl;
@@ -123,6 +128,7 @@ noise-agrees s noise d small = record {
   frames = refl;
   blocks = refl;
   isa = refl;
+  stack = refl;
   reserved = refl;
   controls = d.controls;
   steps = refl;
@@ -141,7 +147,7 @@ noise-agrees s noise d small = record {
 
 module _ (image : Image) (start : State) (setup : Setup) (law : StepAgrees setup) (marks : List Alteration)
     (begins : IsStartOf image start) (small : AreBytes start.bytes) (loose : DefineNothing start.core.isa marks)
-    (hide : HideNothing marks) where
+    (hide : HideNothing start.core.blocks.begin marks) where
   -- no use before a step, so none before an earlier one
   one-fewer : (k : ℕ) → NoUse (pre start setup marks (suc k)).events → NoUse (pre start setup marks k).events
   unfolding pre

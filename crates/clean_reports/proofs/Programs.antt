@@ -8,7 +8,7 @@ use Rattle.std.specs.List.{list_any}
 use Rattle.std.specs.Option.{option_or}
 use Rattle.std.proofs.lemmas.Bool.{cases_lt, ltb-false, or_parts}
 use Rattle.guest_elf.specs.Fields.{byte_at}
-use Rattle.guest_elf.specs.File.{IsImageOf, early_refusal, first_loaded, has_bad_segment, has_overlap, is_bad_segment}
+use Rattle.guest_elf.specs.File.{IsImageFor, early_refusal, first_loaded, has_bad_segment, has_overlap, is_bad_segment}
 use Rattle.guest_elf.specs.File.{has_bad_symbols, has_bad_table, has_bad_version, has_interpreter, is_not_class_32}
 use Rattle.guest_elf.specs.File.{is_not_elf, is_not_executable, is_not_little_endian, is_not_risc_v, is_too_large}
 use Rattle.guest_elf.specs.File.{late_refusal, loaded_from, loaded_in, loads_of, meets_region, ranges_meet, refusal}
@@ -18,7 +18,11 @@ use Rattle.guest_elf.specs.declared.fault.ElfFault.TheVariants.{NotElf, NotClass
 use Rattle.guest_elf.specs.declared.fault.ElfFault.TheVariants.{NotExecutable, NotRiscV, BadTable, Interpreter}
 use Rattle.guest_elf.specs.declared.fault.ElfFault.TheVariants.{BadSegment, Overlap, TooLarge, BadSymbols}
 use Rattle.guest_elf.specs.declared.image.Image.{Image}
-use Rattle.memory_map.specs.Regions.{heap_begin, heap_end}
+use Rattle.memory_map.specs.Regions.{first_stack_bytes, heap_size}
+use Rattle.memory_map.specs.declared.regions.Regions.{Regions}
+use Rattle.guest_elf.proofs.Splitting.{loads_good}
+use Rattle.guest_elf.specs.Images.{profile_of}
+use Rattle.guest_elf.specs.declared.profile.Profile.{Profile}
 use Rattle.guest_machine.specs.Effects.{no_bytes}
 use Rattle.guest_machine.specs.Run.{image_bytes, stack_start, start_state}
 use Rattle.clean_reports.specs.Laws.{ProgramsAreBytes}
@@ -61,26 +65,26 @@ no-bad-segment file none =
     (is_not_risc_v file) (has_bad_table file) (has_interpreter file) (has_bad_segment file)
     NotElf NotClass32 NotLittleEndian BadVersion NotExecutable NotRiscV BadTable Interpreter BadSegment none
 
-no-overlap : (file : List ℕ) → late_refusal file ≡ None → has_overlap file ≡ false
+no-overlap : (regions : Regions) (file : List ℕ) → late_refusal regions file ≡ None → has_overlap regions file ≡ false
 unfolding late_refusal
-no-overlap file e =
-    (not-taken (has_overlap file) Overlap
-    (cond (is_too_large file) (Some TooLarge) (cond (has_bad_symbols file) (Some BadSymbols) None)) e).0
+no-overlap regions file e =
+    (not-taken (has_overlap regions file) Overlap
+    (cond (is_too_large regions file) (Some TooLarge) (cond (has_bad_symbols file) (Some BadSymbols) None)) e).0
 
 -- nothing is loaded there --
 
 -- a segment with these fields that is neither bad nor meets the heap region loads nothing there
-none-from : (byte : ℕ → Option ℕ) (vaddr filesz memsz a : ℕ) → nat_lt memsz filesz ≡ false
-    → ranges_meet vaddr (vaddr + memsz) heap_begin heap_end ≡ false → heap_begin ≤ a → a < heap_end
+none-from : (byte : ℕ → Option ℕ) (heap vaddr filesz memsz a : ℕ) → nat_lt memsz filesz ≡ false
+    → ranges_meet vaddr (vaddr + memsz) heap (heap + heap_size) ≡ false → heap ≤ a → a < heap + heap_size
     → cond (nat_lt a vaddr) None
     (cond (nat_lt a (vaddr + filesz)) (byte a) (cond (nat_lt a (vaddr + memsz)) (Some 0) None)) ≡ None
-none-from byte vaddr filesz memsz a fits apart low high = elim (cases_lt a vaddr) [
+none-from byte heap vaddr filesz memsz a fits apart low high = elim (cases_lt a vaddr) [
   | inl under ↦
       ap (λ b. cond b None (cond (nat_lt a (vaddr + filesz)) (byte a) (cond (nat_lt a (vaddr + memsz)) (Some 0) None)))
       (lt-ltb a vaddr under)
   | inr over ↦
       let end : vaddr + memsz ≤ a =
-      (let clear = ltb-false (max vaddr heap_begin) (min (vaddr + memsz) heap_end) apart in omega arith) in
+      (let clear = ltb-false (max vaddr heap) (min (vaddr + memsz) (heap + heap_size)) apart in omega arith) in
       let file : vaddr + filesz ≤ a = (let few = ltb-false memsz filesz fits in omega arith) in
       ap (λ b. cond b None (cond (nat_lt a (vaddr + filesz)) (byte a) (cond (nat_lt a (vaddr + memsz)) (Some 0) None)))
       (le-ltb a vaddr over)
@@ -112,18 +116,31 @@ module _ {X : Type 0} (loads : X → ℕ → Option ℕ) (first : List X → ℕ
       go None here rest = rest
       go (Some b) here rest = here
 
-pub none-in-heap : (file : List ℕ) (image : Image) → IsImageOf file image → (a : ℕ) → heap_begin ≤ a → a < heap_end
+-- nothing of an image is in the heap region
+abbrev pub LoadsNoneInHeap : Image → Type 0
+LoadsNoneInHeap image =
+    (a : ℕ) → (profile_of image).regions.heap ≤ a → a < (profile_of image).regions.heap + heap_size
     → loaded_at image a ≡ None
+
+none-of : (regions : Regions) (file : List ℕ) → refusal regions file ≡ None → (a : ℕ) → regions.heap ≤ a
+    → a < regions.heap + heap_size → loaded_in regions file a ≡ None
 unfolding refusal has_bad_segment has_overlap loaded_in is_bad_segment meets_region loaded_from
-none-in-heap file image is a low high =
-    let parts = neither (early_refusal file) (late_refusal file) is.accepted in
-    let apart = or_parts (list_any meets_region (loads_of file)) _ (no-overlap file parts.1) in
-    is.loads a
-    ∙ none-among (loaded_from file) (first_loaded file) (λ a. refl) (λ h hs a. refl) (is_bad_segment (length file))
-    meets_region a
-    (λ h good apart. none-from (λ a. Some (byte_at file (h.offset + (a - h.vaddr)))) h.vaddr h.filesz h.memsz a
-    (or_parts _ _ (or_parts _ _ good).0).0 (or_parts _ _ apart).0 low high) (loads_of file)
-    (no-bad-segment file parts.0) apart.0
+none-of regions file accepted a low high =
+    let parts = neither (early_refusal file) (late_refusal regions file) accepted in
+    let apart = or_parts (list_any (meets_region regions) (loads_of regions file)) _
+    (no-overlap regions file parts.1) in
+    none-among (loaded_from file) (first_loaded file) (λ a. refl) (λ h hs a. refl) (is_bad_segment (length file))
+    (meets_region regions) a
+    (λ h good apart. none-from (λ a. Some (byte_at file (h.offset + (a - h.vaddr)))) regions.heap h.vaddr h.filesz
+    h.memsz a (or_parts _ _ (or_parts _ _ good).0).0 (or_parts _ _ apart).0 low high) (loads_of regions file)
+    (loads_good regions file (no-bad-segment file parts.0)) apart.0
+
+pub none-in-heap : (profile : Profile) (file : List ℕ) (image : Image) → IsImageFor profile file image
+    → LoadsNoneInHeap image
+none-in-heap profile file image is a low high =
+    let P : Profile → Type 0 = λ p. (p.regions.heap ≤ a) × (a < p.regions.heap + heap_size) in
+    let within = subst P is.read_for (low, high) in
+    is.loads a ∙ none-of profile.regions file is.accepted a within.0 within.1
 
 -- a program begins with bytes --
 
@@ -136,9 +153,10 @@ byte-from byte false false false fits = omega arith
 
 pub programs-are-bytes : (file : List ℕ) → ((k : ℕ) → slice_index file k < 2 ^ 8) → ProgramsAreBytes file
 unfolding start_state loaded_in loaded_from byte_at
-programs-are-bytes file fits image is =
-    written-bytes (image_bytes image) stack_start 16 no_bytes
+programs-are-bytes file fits profile image is =
+    written-bytes (image_bytes image) (stack_start image) first_stack_bytes no_bytes
     (λ a. subst (λ o. unwrap_or o 0 < 2 ^ 8) (sym (is.loads a))
     (byte-among (loaded_from file) (first_loaded file) (λ a. refl) (λ h hs a. refl) a
     (λ h. byte-from (byte_at file (h.offset + (a - h.vaddr))) (nat_lt a h.vaddr) (nat_lt a (h.vaddr + h.filesz))
-    (nat_lt a (h.vaddr + h.memsz)) (fits (h.offset + (a - h.vaddr)))) (loads_of file))) (λ a. omega arith)
+    (nat_lt a (h.vaddr + h.memsz)) (fits (h.offset + (a - h.vaddr))))
+    (loads_of profile.regions file))) (λ a. omega arith)

@@ -1,6 +1,6 @@
 -- Effects that agree, of each row of the instruction table.
 use Rattle.std.proofs.Common.{◌≡◌, ℕ, ◌^◌, ◌<◌, min, Bool, true, false, cond, refl}
-use Rattle.std.proofs.Common.{sym, subst, arith, List, [], ◌∷◌, length, drop, Option, Some, None}
+use Rattle.std.proofs.Common.{sym, subst, arith, [], ◌∷◌, length, drop, Option, Some, None}
 use Rattle.std.proofs.Common.{slice_index, All, Any, IfSome, ◌==◌, ◌≤◌, ◌-◌, inl, inr}
 use Rattle.std.specs.Prelude.{find}
 use Rattle.std.specs.Option.{option_map}
@@ -8,7 +8,6 @@ use Rattle.std.proofs.Math.Pow.{pow_mono}
 use Rattle.std.proofs.lemmas.Bool.{cases_lt, cases_eq, ne_eqb}
 use Rattle.std.proofs.lemmas.List.{get_or_past}
 use Rattle.std.proofs.lemmas.List.Elements.{All-get_or, All-take, All-drop}
-use Rattle.definedness.specs.declared.Bits.{Bits}
 use Rattle.rv_decode.specs.declared.Op.{Op}
 use Rattle.rv_decode.specs.Table.{Form, R, I, Shift, S, B, U, J, Bare, Row, rows, has_fixed_bits, with_fields, insn_of}
 use Rattle.rv_decode.specs.Table.{insn}
@@ -45,7 +44,7 @@ use Rattle.guest_machine.specs.Calls.{heap_parameters}
 use Rattle.guest_machine.specs.Exec.{Terms, intake_of, left_at, given_at, taken_from, terms_of}
 use Rattle.guest_machine.specs.Exec.{calls_heap, row_asks, call_asks, row_uses, call_uses, row_effect, call_effect}
 use Rattle.guest_machine.specs.declared.setup.Setup.{Setup}
-use Rattle.clean_reports.specs.Agreement.{AreBytes, RegistersAgree, MemoriesAgree}
+use Rattle.clean_reports.specs.Agreement.{AreBytes, MemoriesAgree}
 use Rattle.clean_reports.specs.Uses.{NoUse}
 use Rattle.clean_reports.specs.Heap.{BlocksAreOpen}
 use Rattle.clean_reports.specs.Disturbed.{HasBytes}

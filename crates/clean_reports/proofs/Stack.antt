@@ -1,6 +1,6 @@
 -- The stack pointer rule and the fetched code agree.
 use Rattle.std.proofs.Common.{◌≡◌, ℕ, ◌*◌, ◌-◌, ◌<◌, ◌&&◌, Bool, true, false, cond, refl, sym, ap}
-use Rattle.std.proofs.Common.{◌∙◌, subst, subst₂, inl, inr, arith, List, Option, Some, None, ◌==◌, nat_le, nat_lt}
+use Rattle.std.proofs.Common.{◌∙◌, subst, subst₂, inl, inr, arith, Option, Some, None, ◌==◌, nat_le, nat_lt}
 use Rattle.std.proofs.Common.{ne_eqb}
 use Rattle.std.specs.Prelude.{is_none}
 use Rattle.std.proofs.lemmas.Bool.{cases_eq, and_parts, eqb-true, false≢true}
@@ -14,6 +14,7 @@ use Rattle.instructions.specs.Widths.{width_len}
 use Rattle.instructions.specs.declared.width.Width.{Width}
 use Rattle.instructions.specs.declared.width.Width.TheVariants.{Byte, Half, Word}
 use Rattle.shadow_memory.specs.Shadows.{first_inaccessible}
+use Rattle.memory_map.specs.declared.regions.StackRegion.{StackRegion}
 use Rattle.guest_machine.specs.State.{Core}
 use Rattle.guest_machine.specs.Registers.{register}
 use Rattle.guest_machine.specs.Errors.{fetch_undef}
@@ -21,7 +22,7 @@ use Rattle.guest_machine.specs.StackPointer.{is_stack_pointer, is_in_stack, fram
 use Rattle.guest_machine.specs.StackPointer.{largest_frame}
 use Rattle.guest_machine.specs.StackPointer.{ranged}
 use Rattle.guest_machine.specs.Exec.{half_at, word_at, word_fault}
-use Rattle.clean_reports.specs.Agreement.{ValuesAgree, RegistersAgree, MemoriesAgree}
+use Rattle.clean_reports.specs.Agreement.{ValuesAgree, MemoriesAgree}
 use Rattle.clean_reports.proofs.Bits.{window-lt}
 use Rattle.clean_reports.proofs.Values.{same-bits}
 use Rattle.clean_reports.proofs.Memory.{accessible-from, numbers-agree, made-agrees, window-bytes}
@@ -35,16 +36,17 @@ pub record Reshades (c : Core) (qs : Held) (f g : ℕ → ℕ) (e h : Core) : Ty
   pub registers : held-of e ≡ held-of c
   pub memory : MemoriesAgree e.shadow f g
 
-pointer-same : (x y : Bits) → ValuesAgree x y → is_stack_pointer x ≡ is_stack_pointer y
-pointer-same x y v = elim (cases_eq x.undef 0) [
-  | inl none ↦ ap is_stack_pointer (same-bits x y v none)
+pointer-same : (stack : StackRegion) (x y : Bits) → ValuesAgree x y
+    → is_stack_pointer stack x ≡ is_stack_pointer stack y
+pointer-same stack x y v = elim (cases_eq x.undef 0) [
+  | inl none ↦ ap (is_stack_pointer stack) (same-bits x y v none)
   | inr some ↦
-      ap (λ b. b && is_in_stack x.value) (ne_eqb x.undef 0 some)
-      ∙ sym (ap (λ b. b && is_in_stack y.value) (ne_eqb y.undef 0 (λ e. some (v.undef ∙ e))))
+      ap (λ b. b && is_in_stack stack x.value) (ne_eqb x.undef 0 some)
+      ∙ sym (ap (λ b. b && is_in_stack stack y.value) (ne_eqb y.undef 0 (λ e. some (v.undef ∙ e))))
 ]
 
-pointer-known : (x : Bits) → is_stack_pointer x ≡ true → x.undef ≡ 0
-pointer-known x e = eqb-true x.undef 0 (and_parts (x.undef == 0) (is_in_stack x.value) e).0
+pointer-known : (stack : StackRegion) (x : Bits) → is_stack_pointer stack x ≡ true → x.undef ≡ 0
+pointer-known stack x e = eqb-true x.undef 0 (and_parts (x.undef == 0) (is_in_stack stack x.value) e).0
 
 is-none : (o : Option ℕ) → is_none o ≡ true → o ≡ None
 is-none None e = refl
@@ -92,22 +94,23 @@ module _ (c : Core) (qs : Held) (a : HeldAgree (held-of c) qs) (f g : ℕ → �
   rules x y v =
       subst₂ (λ p q. Reshades c qs f g (cond p (stack_moved c x.value (register c 2).value) c)
       (cond q (stack_moved (swap c qs) y.value (register (swap c qs) 2).value) (swap c qs)))
-      refl both (go (is_stack_pointer x && is_stack_pointer (register c 2)) refl)
+      refl both (go (is_stack_pointer c.stack x && is_stack_pointer c.stack (register c 2)) refl)
     where
       new : ValuesAgree (register c 2) (register (swap c qs) 2)
       new = register-agrees c qs a 2
 
-      both : (is_stack_pointer x && is_stack_pointer (register c 2))
-          ≡ (is_stack_pointer y && is_stack_pointer (register (swap c qs) 2))
-      both = λ i. pointer-same x y v i && pointer-same (register c 2) (register (swap c qs) 2) new i
+      both : (is_stack_pointer c.stack x && is_stack_pointer c.stack (register c 2))
+          ≡ (is_stack_pointer c.stack y && is_stack_pointer c.stack (register (swap c qs) 2))
+      both = λ i. pointer-same c.stack x y v i && pointer-same c.stack (register c 2) (register (swap c qs) 2) new i
 
-      go : (t : Bool) → (is_stack_pointer x && is_stack_pointer (register c 2)) ≡ t
+      go : (t : Bool) → (is_stack_pointer c.stack x && is_stack_pointer c.stack (register c 2)) ≡ t
           → Reshades c qs f g (cond t (stack_moved c x.value (register c 2).value) c)
           (cond t (stack_moved (swap c qs) y.value (register (swap c qs) 2).value) (swap c qs))
       go true e =
-          let parts = and_parts (is_stack_pointer x) (is_stack_pointer (register c 2)) e in
-          let p = same-bits x y v (pointer-known x parts.0) in
-          let q = same-bits (register c 2) (register (swap c qs) 2) new (pointer-known (register c 2) parts.1) in
+          let parts = and_parts (is_stack_pointer c.stack x) (is_stack_pointer c.stack (register c 2)) e in
+          let p = same-bits x y v (pointer-known c.stack x parts.0) in
+          let q = same-bits (register c 2) (register (swap c qs) 2) new
+          (pointer-known c.stack (register c 2) parts.1) in
           subst (λ (r : Core). Reshades c qs f g (stack_moved c x.value (register c 2).value) r)
           (λ i. stack_moved (swap c qs) (p i).value (q i).value) (moves x.value (register c 2).value)
       go false e = unshaded

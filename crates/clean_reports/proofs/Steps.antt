@@ -2,7 +2,6 @@
 use Rattle.std.proofs.Common.{◌≡◌, ℕ, ◌+◌, ◌^◌, Bool, true, false, cond, refl, sym, ap, arith}
 use Rattle.std.proofs.Common.{◌∙◌, subst, subst₂, List, ◌++◌, length, Option, Some, None, ◌==◌}
 use Rattle.std.proofs.lemmas.Nat.{mod_below}
-use Rattle.definedness.specs.declared.Bits.{Bits}
 use Rattle.error_events.specs.declared.kind.Kind.TheVariants.{Value}
 use Rattle.guest_elf.specs.declared.hook.Hook.{Hook}
 use Rattle.error_events.specs.declared.event.Event.{Event}
@@ -209,6 +208,7 @@ module _ (setup : Setup) (s : State) (qs : Held) (g : ℕ → ℕ) (bytes : HasB
         frames = ap (λ (k : Core). k.frames) (sym x.core);
         blocks = ap (λ (k : Core). k.blocks) (sym x.core);
         isa = ap (λ (k : Core). k.isa) (sym x.core);
+        stack = ap (λ (k : Core). k.stack) (sym x.core);
         reserved = ap (λ (k : Core). k.reserved) (sym x.core);
         controls = subst (λ (k : Core). ControlsAgree
             (after s setup deed).core.controls k.controls) (sym x.core) x.agree.controls;
@@ -248,6 +248,7 @@ step-agrees setup bytes s t opened d none =
         frames = d.frames i;
         blocks = d.blocks i;
         isa = d.isa i;
+        stack = d.stack i;
         reserved = d.reserved i;
         controls = t.core.controls;
         steps = d.steps i;

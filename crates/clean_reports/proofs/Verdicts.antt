@@ -1,5 +1,5 @@
 -- Verdicts: what marks do, and what is certified.
-use Rattle.std.proofs.Common.{◌≡◌, ℕ, ◌-◌, ◌^◌, ◌<◌, ◌≤◌, ◌⊎◌, ◌&&◌, ◌==◌, Bool, true, false, cond, refl, sym, ap}
+use Rattle.std.proofs.Common.{◌≡◌, ◌+◌, ℕ, ◌^◌, ◌<◌, ◌≤◌, ◌⊎◌, ◌&&◌, ◌==◌, Bool, true, false, cond, refl, sym, ap}
 use Rattle.std.proofs.Common.{◌∙◌}
 use Rattle.std.proofs.Common.{arith, subst, List, [], ◌∷◌, Option, Some, None, inl, inr, nat_lt, find}
 use Rattle.std.specs.List.{list_any}
@@ -11,14 +11,15 @@ use Rattle.error_events.specs.declared.event.Event.{Event}
 use Rattle.error_events.specs.declared.event.Group.{Group}
 use Rattle.guest_elf.specs.declared.image.Image.{Image}
 use Rattle.guest_elf.specs.declared.profile.Isa.{Isa}
-use Rattle.memory_map.specs.Regions.{heap_begin, heap_end}
+use Rattle.memory_map.specs.Regions.{heap_size}
 use Rattle.shadow_memory.specs.Ranges.{is_in}
 use Rattle.run_values.specs.declared.alteration.Act.{Act}
 use Rattle.run_values.specs.declared.alteration.Act.TheVariants.{Make, Set, Flip, Write, Turn, Skip}
 use Rattle.run_values.specs.declared.alteration.Alteration.{Alteration}
 use Rattle.shadow_memory.specs.declared.cells.RangeKind.{RangeKind}
-use Rattle.guest_machine.specs.State.{State}
-use Rattle.guest_machine.specs.Run.{post}
+use Rattle.guest_elf.specs.Images.{profile_of}
+use Rattle.guest_machine.specs.State.{Core, State}
+use Rattle.guest_machine.specs.Run.{post, start_state}
 use Rattle.guest_machine.specs.declared.setup.Setup.{Setup}
 use Rattle.clean_reports.specs.Disturbed.{HasBytes, IsStartOf}
 use Rattle.clean_reports.specs.Marks.{DefineNothing, DefinesNothing, HideNothing, HidesNothing, MissesHeap, defines}
@@ -32,63 +33,79 @@ use Rattle.clean_reports.proofs.Groups.{first-group, none-is-use}
 use Rattle.clean_reports.proofs.Halving.{marked-events}
 use Rattle.clean_reports.proofs.Reports.{reports-agree}
 use Rattle.clean_reports.proofs.Runs.{states-sym}
+use Rattle.clean_reports.proofs.StartRegions.{lie}
 use Rattle.clean_reports.proofs.Steps.{step-agrees}
 
 -- marks none of which is in the way --
 
-misses : (addr len a : ℕ) → is_in addr len heap_begin ≡ false
-    → (nat_lt 0 len && is_in heap_begin (heap_end - heap_begin) addr) ≡ false → heap_begin ≤ a → a < heap_end
+misses : (heap addr len a : ℕ) → heap + heap_size ≤ 2 ^ 32 → is_in addr len heap ≡ false
+    → (nat_lt 0 len && is_in heap heap_size addr) ≡ false → heap ≤ a → a < heap + heap_size
     → is_in addr len a ≡ false
-misses addr len a one other low high = grind (arith, nat_tests)
+misses heap addr len a end one other low high = grind (arith, nat_tests)
 
-misses-heap : (addr len : ℕ) → meets_heap addr len ≡ false → MissesHeap addr len
-misses-heap addr len e a low high =
-    let parts = or_parts (is_in addr len heap_begin) _ e in
-    misses addr len a parts.0 parts.1 low high
+misses-heap : (heap addr len : ℕ) → heap + heap_size ≤ 2 ^ 32 → meets_heap heap addr len ≡ false
+    → MissesHeap heap addr len
+misses-heap heap addr len end e a low high =
+    let parts = or_parts (is_in addr len heap) _ e in
+    misses heap addr len a end parts.0 parts.1 low high
 
-either : (b : Bool) (addr len : ℕ) (kind : RangeKind) → hides kind ≡ b → (b && meets_heap addr len) ≡ false
-    → (hides kind ≡ false) ⊎ MissesHeap addr len
-either false addr len kind is e = inl is
-either true addr len kind is e = inr (misses-heap addr len e)
+either : (b : Bool) (heap addr len : ℕ) (kind : RangeKind) → heap + heap_size ≤ 2 ^ 32 → hides kind ≡ b
+    → (b && meets_heap heap addr len) ≡ false → (hides kind ≡ false) ⊎ MissesHeap heap addr len
+either false heap addr len kind end is e = inl is
+either true heap addr len kind end is e = inr (misses-heap heap addr len end e)
 
-defines-nothing : (isa : Isa) (act : Act) → hinders isa act ≡ false → DefinesNothing isa act
-defines-nothing isa (Make addr len kind) e = (or_parts (defines kind) (hides kind && meets_heap addr len) e).0
-defines-nothing isa (Set register value undef) e =
+defines-nothing : (isa : Isa) (heap : ℕ) (act : Act) → hinders isa heap act ≡ false → DefinesNothing isa act
+defines-nothing isa heap (Make addr len kind) e =
+    (or_parts (defines kind) (hides kind && meets_heap heap addr len) e).0
+defines-nothing isa heap (Set register value undef) e =
     let parts = and_parts (undef == all_bits) (is_word value) (not-false _ e) in
     (ltb-true value (2 ^ 32) parts.1, eqb-true undef all_bits parts.0)
-defines-nothing isa (Flip register mask) e = ltb-true mask (2 ^ 32) (not-false _ e)
-defines-nothing isa (Write addr width value) e = absurd (true≢false e)
-defines-nothing isa (Turn addr mask) e = ltb-true addr (2 ^ 32) (not-false _ e)
-defines-nothing isa Skip e = e
-defines-nothing isa _ e = tt
+defines-nothing isa heap (Flip register mask) e = ltb-true mask (2 ^ 32) (not-false _ e)
+defines-nothing isa heap (Write addr width value) e = absurd (true≢false e)
+defines-nothing isa heap (Turn addr mask) e = ltb-true addr (2 ^ 32) (not-false _ e)
+defines-nothing isa heap Skip e = e
+defines-nothing isa heap _ e = tt
 
-hides-nothing : (isa : Isa) (act : Act) → hinders isa act ≡ false → HidesNothing act
-hides-nothing isa (Make addr len kind) e =
-    either (hides kind) addr len kind refl (or_parts (defines kind) (hides kind && meets_heap addr len) e).1
-hides-nothing isa _ e = tt
+hides-nothing : (isa : Isa) (heap : ℕ) (act : Act) → heap + heap_size ≤ 2 ^ 32 → hinders isa heap act ≡ false
+    → HidesNothing heap act
+hides-nothing isa heap (Make addr len kind) end e =
+    either (hides kind) heap addr len kind end refl
+    (or_parts (defines kind) (hides kind && meets_heap heap addr len) e).1
+hides-nothing isa heap _ end e = tt
 
-pub define-nothing : (isa : Isa) (marks : List Alteration) → NoneInTheWay isa marks → DefineNothing isa marks
-define-nothing isa [] none = tt
-define-nothing isa (m ∷ ms) none =
-    let parts = or_parts (is_in_the_way isa m) (list_any (is_in_the_way isa) ms) none in
-    (defines-nothing isa m.act parts.0, define-nothing isa ms parts.1)
+pub define-nothing : (isa : Isa) (heap : ℕ) (marks : List Alteration) → NoneInTheWay isa heap marks
+    → DefineNothing isa marks
+define-nothing isa heap [] none = tt
+define-nothing isa heap (m ∷ ms) none =
+    let parts = or_parts (is_in_the_way isa heap m) (list_any (is_in_the_way isa heap) ms) none in
+    (defines-nothing isa heap m.act parts.0, define-nothing isa heap ms parts.1)
 
-pub hide-nothing : (isa : Isa) (marks : List Alteration) → NoneInTheWay isa marks → HideNothing marks
-hide-nothing isa [] none = tt
-hide-nothing isa (m ∷ ms) none =
-    let parts = or_parts (is_in_the_way isa m) (list_any (is_in_the_way isa) ms) none in
-    (hides-nothing isa m.act parts.0, hide-nothing isa ms parts.1)
+pub hide-nothing : (isa : Isa) (heap : ℕ) (marks : List Alteration) → heap + heap_size ≤ 2 ^ 32
+    → NoneInTheWay isa heap marks → HideNothing heap marks
+hide-nothing isa heap [] end none = tt
+hide-nothing isa heap (m ∷ ms) end none =
+    let parts = or_parts (is_in_the_way isa heap m) (list_any (is_in_the_way isa heap) ms) none in
+    (hides-nothing isa heap m.act end parts.0, hide-nothing isa heap ms end parts.1)
 
 -- what is certified --
 
+-- the heap's region ends at an address
+end-fits : (image : Image) (start : State) → IsStartOf image start → start.core.blocks.begin + heap_size ≤ 2 ^ 32
+unfolding start_state
+end-fits image start begins =
+    let most = (lie (profile_of image).regions).within in
+    subst (λ (c : Core). c.blocks.begin + heap_size ≤ 2 ^ 32) (sym begins.core) (omega arith)
+
 pub certified : (image : Image) (start : State) (setup : Setup) (marks : List Alteration) (n : ℕ)
     → IsStartOf image start
-    → HasBytes setup → NoneInTheWay start.core.isa marks → NoUse (post start setup marks n).events
+    → HasBytes setup → NoneInTheWay start.core.isa start.core.blocks.begin marks
+    → NoUse (post start setup marks n).events
     → IsCertified image start setup marks n
 certified image start setup marks n begins bytes clear none =
     let before = subst NoUse (marked-events start setup marks n) none in
     let agree = run-agrees image start setup (step-agrees setup bytes) marks n begins
-    (define-nothing start.core.isa marks clear) (hide-nothing start.core.isa marks clear) before in
+    (define-nothing start.core.isa start.core.blocks.begin marks clear)
+    (hide-nothing start.core.isa start.core.blocks.begin marks (end-fits image start begins) clear) before in
     record {
       runs = agree;
       reports = λ states run rules options step input_len text. (

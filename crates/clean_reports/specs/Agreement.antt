@@ -52,6 +52,7 @@ pub record StatesAgree (s t : State) : Type 0 where
   pub frames : s.core.frames ≡ t.core.frames
   pub blocks : s.core.blocks ≡ t.core.blocks
   pub isa : s.core.isa ≡ t.core.isa
+  pub stack : s.core.stack ≡ t.core.stack
   pub reserved : s.core.reserved ≡ t.core.reserved
   pub controls : ControlsAgree s.core.controls t.core.controls
   pub steps : s.core.steps ≡ t.core.steps

@@ -1,8 +1,9 @@
 -- What may be accessed in the heap region: the bytes of the live blocks, and no others.
-use Rattle.std.specs.Prelude.{◌≡◌, ℕ, ◌+◌, ◌<◌, ◌≤◌, Some, true}
+use Rattle.std.specs.Prelude.{◌≡◌, ℕ, ◌+◌, ◌<◌, ◌≤◌, Some, true, false}
 use Rattle.heap_blocks.specs.declared.block.Block.{Block}
 use Rattle.guest_heap.specs.Steps.{AreInRegion, AreApart}
-use Rattle.memory_map.specs.Regions.{heap_begin, heap_end}
+use Rattle.guest_heap.specs.Blocks.{end_of}
+use Rattle.memory_map.specs.Regions.{greatest_stack_end, meet}
 use Rattle.shadow_memory.specs.Ranges.{above}
 use Rattle.guest_machine.specs.State.{Core}
 
@@ -12,11 +13,14 @@ pub record BlocksAreOpen (core : Core) : Type 0 where
   pub opened : (p : ℕ) (b : Block) → core.blocks.live p ≡ Some b → (i : ℕ) → i < b.size
       → (core.shadow (above p i)).accessible ≡ true
 
--- the same, and blocks don't overlap and end in the region
+-- the same, blocks don't overlap and end in the region, and the stack's region ends at an address and has none of the
+-- heap's
 pub record HeapIsOpen (core : Core) : Type 0 where
   pub region : AreInRegion core.blocks
+  pub beside : meet core.blocks.begin core.stack.begin core.stack.end ≡ false
+  pub stack : core.stack.end ≤ greatest_stack_end
   pub apart : AreApart core.blocks
-  pub fits : (p : ℕ) (b : Block) → core.blocks.live p ≡ Some b → p + b.size ≤ heap_end
+  pub fits : (p : ℕ) (b : Block) → core.blocks.live p ≡ Some b → p + b.size ≤ end_of core.blocks
   pub opened : (p : ℕ) (b : Block) → core.blocks.live p ≡ Some b → (i : ℕ) → i < b.size
       → (core.shadow (p + i)).accessible ≡ true
 
@@ -31,4 +35,5 @@ pub record IsInLive (core : Core) (a : ℕ) : Type 0 where
 -- no byte of the heap region may be accessed except those of live blocks
 abbrev pub HeapIsClosed : Core → Type 0
 HeapIsClosed core =
-    (a : ℕ) → heap_begin ≤ a → a < heap_end → (core.shadow a).accessible ≡ true → IsInLive core a
+    (a : ℕ) → core.blocks.begin ≤ a → a < end_of core.blocks → (core.shadow a).accessible ≡ true
+    → IsInLive core a

@@ -1,9 +1,10 @@
 -- The laws: what undefined and inaccessible bytes hold has no influence on a run without uses. An `input` is a list of
 -- bytes: each law with an input is the contract of a function that takes it as a slice.
 use Rattle.std.specs.Prelude.{◌≡◌, ℕ, ◌<◌, ◌≤◌, ◌↔◌, List, []}
-use Rattle.guest_elf.specs.File.{IsImageOf}
+use Rattle.guest_elf.specs.File.{IsImageFor}
+use Rattle.guest_elf.specs.declared.profile.Profile.{Profile}
 use Rattle.guest_elf.specs.declared.image.Image.{Image}
-use Rattle.memory_map.specs.Regions.{heap_begin, heap_end}
+use Rattle.guest_heap.specs.Blocks.{end_of}
 use Rattle.shadow_memory.specs.Ranges.{above}
 use Rattle.error_events.specs.declared.kind.Kind.{Kind}
 use Rattle.run_values.specs.declared.alteration.Alteration.{Alteration}
@@ -47,7 +48,8 @@ ReportsAgree =
 abbrev pub CleanRuns : List ℕ → Type 0
 CleanRuns input =
     (image : Image) (start : State) (setup : Setup) (marks : List Alteration) (states : ℕ → State) (n : ℕ)
-    → IsStartOf image start → setup.input ≡ input → DefineNothing start.core.isa marks → HideNothing marks
+    → IsStartOf image start → setup.input ≡ input → DefineNothing start.core.isa marks
+    → HideNothing start.core.blocks.begin marks
     → IsDisturbed start setup marks n states → NoUse (pre start setup marks n).events
     → StatesAgree (post start setup marks n) (after_marks n marks (states n))
 
@@ -55,7 +57,8 @@ CleanRuns input =
 abbrev pub PowerOn : List ℕ → Type 0
 PowerOn input =
     (image : Image) (start other : State) (setup : Setup) (marks : List Alteration) (n : ℕ)
-    → IsStartOf image start → setup.input ≡ input → DefineNothing start.core.isa marks → HideNothing marks
+    → IsStartOf image start → setup.input ≡ input → DefineNothing start.core.isa marks
+    → HideNothing start.core.blocks.begin marks
     → StatesAgree start other
     → NoUse (pre start setup marks n).events
     → StatesAgree (post start setup marks n) (post other setup marks n)
@@ -64,7 +67,8 @@ PowerOn input =
 abbrev pub CleanReports : List ℕ → Type 0
 CleanReports input =
     (image : Image) (start : State) (setup : Setup) (marks : List Alteration) (states : ℕ → State) (n : ℕ)
-    → IsStartOf image start → setup.input ≡ input → DefineNothing start.core.isa marks → HideNothing marks
+    → IsStartOf image start → setup.input ≡ input → DefineNothing start.core.isa marks
+    → HideNothing start.core.blocks.begin marks
     → IsDisturbed start setup marks n states → NoUse (pre start setup marks n).events
     → (rules : List Rule) (options : Options) (step input_len : ℕ) (text : List ℕ)
     → IsReport (post start setup marks n) image rules options step input_len text
@@ -75,35 +79,37 @@ CleanReports input =
 pub record DisturbedRunsExist (input : List ℕ) : Type 0 where
   pub itself : (image : Image) (start : State) (setup : Setup) (marks : List Alteration) (n : ℕ)
       → IsStartOf image start → AreBytes start.bytes → setup.input ≡ input → DefineNothing start.core.isa marks
-      → HideNothing marks
+      → HideNothing start.core.blocks.begin marks
       → NoUse (pre start setup marks n).events
       → IsDisturbed start setup marks n (pre start setup marks)
   pub noisy : (image : Image) (start : State) (setup : Setup) (marks : List Alteration) (n : ℕ)
       → IsStartOf image start → AreBytes start.bytes → setup.input ≡ input → DefineNothing start.core.isa marks
-      → HideNothing marks
+      → HideNothing start.core.blocks.begin marks
       → NoUse (pre start setup marks n).events → (noise : ℕ → ℕ → ℕ) → ((k : ℕ) → AreBytes (noise k))
       → IsDisturbed start setup marks n (noisy_run start setup marks noise)
 
 -- a program that was read from a file of bytes begins with bytes
 abbrev pub ProgramsAreBytes : List ℕ → Type 0
-ProgramsAreBytes file = (image : Image) → IsImageOf file image → AreBytes (start_state image).bytes
+ProgramsAreBytes file =
+    (profile : Profile) (image : Image) → IsImageFor profile file image → AreBytes (start_state image).bytes
 
 -- if marks hide nothing of the heap, each byte of a live block may be accessed at every step
 abbrev pub HeapStaysOpen : Type 0
 HeapStaysOpen =
     (image : Image) (start : State) (setup : Setup) (marks : List Alteration) → IsStartOf image start
-    → HideNothing marks
+    → HideNothing start.core.blocks.begin marks
     → (k : ℕ) → HeapIsOpen (post start setup marks k).core
 
 -- if marks miss the heap, and the program was read from a file, no other byte of the heap region may be accessed
 abbrev pub HeapStaysClosed : Type 0
 HeapStaysClosed =
-    (file : List ℕ) (image : Image) (start : State) (setup : Setup) (marks : List Alteration) → IsImageOf file image
-    → IsStartOf image start → MissTheHeap marks
+    (profile : Profile) (file : List ℕ) (image : Image) (start : State) (setup : Setup) (marks : List Alteration)
+    → IsImageFor profile file image → IsStartOf image start → MissTheHeap start.core.blocks.begin marks
     → (k : ℕ) → HeapIsOpen (post start setup marks k).core × HeapIsClosed (post start setup marks k).core
 
 -- so a load or a store that raises no error accesses only bytes of live blocks, as far as it is in the heap region
 abbrev pub AccessesAreLive : Type 0
 AccessesAreLive =
     (core : Core) (kind : Kind) (start n : ℕ) → HeapIsClosed core → access_errors core kind start n ≡ []
-    → (i : ℕ) → i < n → heap_begin ≤ above start i → above start i < heap_end → IsInLive core (above start i)
+    → (i : ℕ) → i < n → core.blocks.begin ≤ above start i → above start i < end_of core.blocks
+    → IsInLive core (above start i)

@@ -20,15 +20,16 @@ use Rattle.clean_reports.specs.declared.verdict.FirstUse.{FirstUse}
 use Rattle.clean_reports.specs.declared.verdict.Verdict.{Verdict}
 use Rattle.clean_reports.specs.declared.verdict.Verdict.TheVariants.{Clean, Mark as ByMark, Use}
 
--- no mark of a list is in the way of a run with an instruction set
-abbrev pub NoneInTheWay : Isa → List Alteration → Type 0
-NoneInTheWay isa marks = list_any (is_in_the_way isa) marks ≡ false
+-- no mark of a list is in the way of a run with an instruction set and a heap region that begins at an address
+abbrev pub NoneInTheWay : Isa → ℕ → List Alteration → Type 0
+NoneInTheWay isa heap marks = list_any (is_in_the_way isa heap) marks ≡ false
 
 -- the mark at an index is the first that is in the way
-pub record IsFirstInTheWay (isa : Isa) (marks : List Alteration) (index : ℕ) (mark : Alteration) : Type 0 where
+pub record IsFirstInTheWay (isa : Isa) (heap : ℕ) (marks : List Alteration) (index : ℕ)
+    (mark : Alteration) : Type 0 where
   pub at : slice_get marks index ≡ Some mark
-  pub stands : is_in_the_way isa mark ≡ true
-  pub first : NoneInTheWay isa (take index marks)
+  pub stands : is_in_the_way isa heap mark ≡ true
+  pub first : NoneInTheWay isa heap (take index marks)
 
 -- step k raises the first use of a run
 pub record RaisesFirstUse (start : State) (setup : Setup) (marks : List Alteration) (k : ℕ) : Type 0 where
@@ -47,10 +48,12 @@ pub record IsFirstUse (start : State) (setup : Setup) (marks : List Alteration) 
 
 -- the verdict on a run up to step n: on marks first, and then on errors, including suppressed ones
 abbrev pub IsVerdict : State → Setup → List Alteration → ℕ → Verdict → Type 0
-IsVerdict start setup marks n Clean = NoneInTheWay start.core.isa marks × NoUse (post start setup marks n).events
-IsVerdict start setup marks n (ByMark index mark) = IsFirstInTheWay start.core.isa marks index mark
+IsVerdict start setup marks n Clean =
+    NoneInTheWay start.core.isa start.core.blocks.begin marks × NoUse (post start setup marks n).events
+IsVerdict start setup marks n (ByMark index mark) =
+    IsFirstInTheWay start.core.isa start.core.blocks.begin marks index mark
 IsVerdict start setup marks n (Use found) =
-    NoneInTheWay start.core.isa marks × IsFirstUse start setup marks n found
+    NoneInTheWay start.core.isa start.core.blocks.begin marks × IsFirstUse start setup marks n found
 
 -- What is certified of a run up to step n: each disturbed run agrees with it, and has the same reports
 pub record IsCertified (image : Image) (start : State) (setup : Setup) (marks : List Alteration) (n : ℕ) : Type 0 where

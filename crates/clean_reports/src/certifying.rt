@@ -83,7 +83,7 @@ pub fn certify(
     ensures loaded { loaded_of trail.new ≡ loaded_of trail.old }
 {
     let machine = trail.at_altered(step, setup, marks)?;
-    if let Some((index, mark)) = first_in_the_way(machine.isa(), marks) {
+    if let Some((index, mark)) = first_in_the_way(machine.isa(), machine.heap_begin(), marks) {
         return Ok(Verdict::Mark(index, mark));
     }
     let Some(group) = first_use(machine.groups()) else {

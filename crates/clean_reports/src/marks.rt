@@ -1,13 +1,12 @@
 //! The marks that are in the way of a clean run.
 ghost use Rattle.std.specs.Prelude.{◌≡◌, IfNone, IfSome};
-ghost use Rattle.memory_map.specs.Regions.{heap_begin};
 ghost use Rattle.shadow_memory.specs.Ranges.{is_in};
 ghost use Rattle.clean_reports.specs.Marks.{hinders, is_word, meets_heap};
 ghost use Rattle.clean_reports.specs.Verdicts.{IsFirstInTheWay, NoneInTheWay};
 
 use guest_elf::Isa;
 use guest_machine::{Act, Alteration};
-use memory_map::{HEAP_BEGIN, HEAP_END};
+use memory_map::HEAP_SIZE;
 use shadow_memory::RangeKind;
 
 /// The undefined bits of a register that has no defined one.
@@ -20,11 +19,11 @@ fn is_in(start: u32, len: u32, address: u32) -> bool
     address.wrapping_sub(start) < len
 }
 
-/// Returns whether a range has a byte of the heap region.
-fn meets_heap(addr: u32, len: u32) -> bool
-    ensures { result ≡ meets_heap addr len }
+/// Returns whether a range has a byte of the heap region that begins at `heap`.
+fn meets_heap(heap: u32, addr: u32, len: u32) -> bool
+    ensures { result ≡ meets_heap heap addr len }
 {
-    is_in(addr, len, HEAP_BEGIN) || (len > 0 && is_in(HEAP_BEGIN, HEAP_END - HEAP_BEGIN, addr))
+    is_in(addr, len, heap) || (len > 0 && is_in(heap, HEAP_SIZE, addr))
 }
 
 /// Returns whether a number fits a word, as each does.
@@ -36,14 +35,14 @@ fn is_word(n: u32) -> bool
 
 /// Returns whether what a mark does is in the way of a clean run: it makes bits defined, or takes them as defined, or makes bytes of the heap
 /// region inaccessible.
-fn hinders(isa: Isa, act: &Act) -> bool
-    ensures { result ≡ hinders isa act.now }
+fn hinders(isa: Isa, heap: u32, act: &Act) -> bool
+    ensures { result ≡ hinders isa heap act.now }
 {
     match act {
         Act::Make { addr, len, kind } => match kind {
             RangeKind::Defined => true,
             RangeKind::Undefined => false,
-            RangeKind::NoAccess => meets_heap(*addr, *len),
+            RangeKind::NoAccess => meets_heap(heap, *addr, *len),
         },
         Act::Set { value, undef, .. } => !(*undef == ALL_BITS && is_word(*value)),
         Act::Flip { mask, .. } => !is_word(*mask),
@@ -54,13 +53,18 @@ fn hinders(isa: Isa, act: &Act) -> bool
     }
 }
 
-/// Returns the first mark that is in the way of a run with an instruction set, with the mark's index.
-pub(crate) fn first_in_the_way(isa: Isa, marks: &[Alteration]) -> Option<(usize, Alteration)>
-    ensures some { IfSome result (λ found. IsFirstInTheWay isa marks.now found.0 found.1) }
-    ensures none { IfNone result (NoneInTheWay isa marks.now) }
+/// Returns the first mark that is in the way of a run with an instruction set and a heap region that begins at `heap`, with the mark's
+/// index.
+pub(crate) fn first_in_the_way(
+    isa: Isa,
+    heap: u32,
+    marks: &[Alteration],
+) -> Option<(usize, Alteration)>
+    ensures some { IfSome result (λ found. IsFirstInTheWay isa heap marks.now found.0 found.1) }
+    ensures none { IfNone result (NoneInTheWay isa heap marks.now) }
 {
     for (index, mark) in marks.iter().enumerate() {
-        if hinders(isa, &mark.act) {
+        if hinders(isa, heap, &mark.act) {
             return Some((index, *mark));
         }
     }

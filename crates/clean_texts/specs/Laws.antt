@@ -28,7 +28,7 @@ CleanTexts input =
     (image : Image) (start : State) (setup : Setup) (marks : List Alteration) (n : ℕ) (rules : List Rule)
     (options : Options)
     (step input_len : ℕ) (text : List ℕ)
-    → IsStartOf image start → setup.input ≡ input → NoneInTheWay start.core.isa marks
+    → IsStartOf image start → setup.input ≡ input → NoneInTheWay start.core.isa start.core.blocks.begin marks
     → IsReport (post start setup marks n) image rules options step input_len text → EndsWithNoErrors text
     → IsCertified image start setup marks n
 
@@ -36,7 +36,8 @@ CleanTexts input =
 abbrev pub PrintedTexts : List ℕ → Type 0
 PrintedTexts input =
     (sc : Scenario) (text : List ℕ)
-    → sc.setup.input ≡ input → NoneInTheWay (first_state sc).core.isa sc.marks → IsReportOf sc text
+    → sc.setup.input ≡ input → NoneInTheWay (first_state sc).core.isa (first_state sc).core.blocks.begin sc.marks
+    → IsReportOf sc text
     → EndsWithNoErrors text
     → IsCertified sc.image (first_state sc) sc.setup sc.marks sc.step
 

@@ -11,6 +11,7 @@ use Rattle.clap.specs.Simple.{on_top}
 use Rattle.clap.specs.declared.builder.ValueParser.TheVariants.{Signed}
 use Rattle.clap.specs.declared.builder.action.ArgAction.TheVariants.{SetTrue}
 use Rattle.command_line.specs.declared.order.Order.{Order}
+use Rattle.command_line.specs.declared.order.ProfileWords.{ProfileWords}
 use Rattle.command_line.specs.declared.order.SweepWords.{SweepWords}
 use Rattle.command_line.specs.declared.order.Task.{Task}
 use Rattle.command_line.specs.declared.order.Task.TheVariants.{Report, Session, Look, Sweep, Certify}
@@ -44,10 +45,21 @@ default_option name default = record (option name) { defaults = default ∷ [] }
 abbrev pub isa_option : Rule
 isa_option = default_option (codes "isa") (codes "rv32im")
 
--- a command on a program with an input and an instruction set: its file and options
+-- `--heap-region` and `--stack-region`, likewise
+abbrev pub heap_option : Rule
+heap_option = default_option (codes "heap-region") (codes "0x40000000")
+
+abbrev pub stack_option : Rule
+stack_option = default_option (codes "stack-region") (codes "0x7f000000..0x80000000")
+
+-- a command, with the options for what its program's file is read for
+abbrev pub with_profile : App → App
+with_profile app = with_rule (with_rule (with_rule app isa_option) heap_option) stack_option
+
+-- a command on a program with an input: its file and options
 abbrev pub input_command : Text → App
 input_command name =
-    with_rule (with_rule (with_rule (new_app name) file_argument) (option (codes "input"))) isa_option
+    with_profile (with_rule (with_rule (new_app name) file_argument) (option (codes "input")))
 
 -- and one with suppressions too
 abbrev pub program_command : Text → App
@@ -216,12 +228,18 @@ IsTaskOf name rows Session =
     × (bytes_eq name (codes "look") ≡ false) × (bytes_eq name (codes "certify") ≡ false)
     × (bytes_eq name (codes "exec") ≡ false)
 
+-- what a file is read for, of what was found
+pub record IsProfileOf (rows : List Row) (asked : ProfileWords) : Type 0 where
+  pub isa : Some asked.isa.now ≡ first_of (codes "isa") rows
+  pub heap : Some asked.heap.now ≡ first_of (codes "heap-region") rows
+  pub stack : Some asked.stack.now ≡ first_of (codes "stack-region") rows
+
 -- the order of what was found for a command's arguments
 pub record IsOrderOf (name : Text) (rows : List Row) (order : Order) : Type 0 where
   pub file : Some order.file.now ≡ first_of (codes "FILE") rows
   pub input : input_path order ≡ first_of (codes "input") rows
   pub rules : rules_path order ≡ first_of (codes "supp") rows
-  pub isa : Some order.isa.now ≡ first_of (codes "isa") rows
+  pub profile : IsProfileOf rows order.profile
   pub task : IsTaskOf name rows order.task
 
 -- the order of a command line's arguments: of what was found for the command in them

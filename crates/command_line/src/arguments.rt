@@ -2,14 +2,14 @@
 ghost use Rattle.std.specs.Prelude.{◌≡◌, IfErr, IfOk, IfSome, IsSomeAnd, false, map, string_bytes, true};
 ghost use Rattle.clap.specs.Words.{FailsBy, app_of, fault_of, found_of, kind_of, rows_of, rule_of, subcommand_rows_of, takes};
 ghost use Rattle.clap.specs.declared.builder.command.Command.TheViews.{out-Command};
-ghost use Rattle.command_line.specs.Orders.{IsOrderFor, IsOrderOf, IsStepOf, IsSweepOf, IsTaskOf, certify_command, command_line, default_option, file_argument, input_command, isa_option, option, output_flag, program_command, run_command, step_option, sweep_command, sweep_of_bytes, sweep_of_steps, sweep_of_words, with_certify, with_look, with_run, with_session, with_sweep};
+ghost use Rattle.command_line.specs.Orders.{IsOrderFor, IsOrderOf, IsProfileOf, IsStepOf, IsSweepOf, IsTaskOf, certify_command, command_line, default_option, file_argument, heap_option, input_command, isa_option, option, output_flag, program_command, run_command, stack_option, step_option, sweep_command, sweep_of_bytes, sweep_of_steps, sweep_of_words, with_certify, with_look, with_profile, with_run, with_session, with_sweep};
 
 use crate::exec::{exec_command, exec_of};
 use crate::help::{
     ABOUT, AFTER_CERTIFY, AFTER_LOOK, AFTER_RUN, AFTER_SESSION, AFTER_SWEEP, CERTIFY, LOOK, RUN,
     SESSION, SWEEP,
 };
-use crate::order::{Order, SweepWords, Task};
+use crate::order::{Order, ProfileWords, SweepWords, Task};
 use clap::error::ErrorKind;
 use clap::{Arg, ArgAction, ArgMatches, Command, Error, value_parser};
 use std::alloc::{AllocError, Global};
@@ -62,10 +62,40 @@ fn isa_option<'a>(alloc: Global) -> Arg<'a>
     default_option(alloc, "isa", "NAME", "rv32im", help)
 }
 
+/// The option for the heap's region.
+fn heap_option<'a>(alloc: Global) -> Arg<'a>
+    ensures rule { rule_of result ≡ heap_option }
+    ensures local { result.global ≡ false }
+{
+    let help = "Where the heap's 512 MiB begin: a multiple of 0x10000000, from there to 0xd0000000";
+    default_option(alloc, "heap-region", "BEGIN", "0x40000000", help)
+}
+
+/// The option for the stack's region.
+fn stack_option<'a>(alloc: Global) -> Arg<'a>
+    ensures rule { rule_of result ≡ stack_option }
+    ensures local { result.global ≡ false }
+{
+    let help =
+        "The stack's region, from A up to, but not including, B: multiples of 4096, at least 65536 apart";
+    let usual = "0x7f000000..0x80000000";
+    default_option(alloc, "stack-region", "A..B", usual, help)
+}
+
+/// A command, with the options for what its program's file is read for.
+fn with_profile<'a>(alloc: Global, command: Command<'a>) -> Result<Command<'a>, AllocError>
+    ensures shape { IfOk result (λ longer. app_of longer ≡ with_profile (app_of command.entry)) }
+    ensures globals { IfOk result (λ longer. (out-Command longer).has_globals ≡ (out-Command command.entry).has_globals) }
+{
+    let command = command.arg(isa_option(alloc))?;
+    let command = command.arg(heap_option(alloc))?;
+    command.arg(stack_option(alloc))
+}
+
 /// What the help says of an input, unless a command has another one without it.
 const INPUT: &str = "A file with the bytes that the program can read; none without it";
 
-/// A command on a program, with an input, of which its help says this, and an instruction set.
+/// A command on a program, with an input, of which its help says this, and with what its file is read for.
 fn input_command<'a>(
     alloc: Global,
     name: &'a str,
@@ -79,10 +109,10 @@ fn input_command<'a>(
     let command = Command::new(alloc, name).about(about).after_help(after);
     let command = command.arg(file_argument(alloc))?;
     let command = command.arg(option(alloc, "input", "F", input))?;
-    command.arg(isa_option(alloc))
+    with_profile(alloc, command)
 }
 
-/// A command on a program, with an input, of which its help says this, an instruction set, and suppressions.
+/// A command on a program, with an input, of which its help says this, with what its file is read for, and suppressions.
 pub(crate) fn program_command<'a>(
     alloc: Global,
     name: &'a str,
@@ -300,6 +330,17 @@ fn task_of<'a>(name: &str, chosen: &ArgMatches<'a>) -> Option<Task<'a>>
     }
 }
 
+/// What a program's file is read for, of what was found for the arguments of a command.
+fn profile_of<'a>(chosen: &ArgMatches<'a>) -> Option<ProfileWords<'a>>
+    ensures { IfSome result (IsProfileOf (rows_of (found_of chosen.now))) }
+{
+    Some(ProfileWords {
+        isa: chosen.get_str("isa")?,
+        heap: chosen.get_str("heap-region")?,
+        stack: chosen.get_str("stack-region")?,
+    })
+}
+
 /// The order of what was found for the arguments of a command.
 fn order_within<'a>(name: &str, chosen: &ArgMatches<'a>) -> Option<Order<'a>>
     ensures { IfSome result (IsOrderOf name.now (rows_of (found_of chosen.now))) }
@@ -308,7 +349,7 @@ fn order_within<'a>(name: &str, chosen: &ArgMatches<'a>) -> Option<Order<'a>>
         file: chosen.get_str("FILE")?,
         input: chosen.get_str("input"),
         suppressions: chosen.get_str("supp"),
-        isa: chosen.get_str("isa")?,
+        profile: profile_of(chosen)?,
         task: task_of(name, chosen)?,
     })
 }

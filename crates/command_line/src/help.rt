@@ -186,8 +186,9 @@ At each step that the unedited run executes, one fault is tried at a time, of ea
 heap is called by name are left out.
 
 The table, which `replaycheck explore` reads:
-  sweep 1                   its format, 2 with steps or with a line `isa NAME`, which follows where
-                            --isa isn't rv32im; then the files' lengths and SHA-256, and what is asked
+  sweep 1                   its format, 2 with steps or with one of the lines `isa NAME`,
+                            `heap-region BEGIN` and `stack-region A..B`, which follow where these
+                            aren't the usual; then the files' lengths and SHA-256, and what is asked
   outcome K                 an outcome, just before the first row that has it; its lines follow: the
                             state, each error and each shown leak with its trace
   unedited 0                the run with no edit

@@ -9,10 +9,21 @@ pub struct Order<'a> {
     pub input: Option<&'a str>,
     /// The file of suppressions.
     pub suppressions: Option<&'a str>,
-    /// The name of the instruction set that the file is read for, as it was given.
-    pub isa: &'a str,
+    /// What the program's file is read for.
+    pub profile: ProfileWords<'a>,
     /// The command.
     pub task: Task<'a>,
+}
+
+/// What a program's file is read for, as it was given.
+#[derive(Clone, Copy)]
+pub struct ProfileWords<'a> {
+    /// The name of the instruction set.
+    pub isa: &'a str,
+    /// Where the heap's region begins.
+    pub heap: &'a str,
+    /// Where the stack's region begins and ends.
+    pub stack: &'a str,
 }
 
 /// A command on a program.

@@ -19,7 +19,9 @@ use Rattle.line_server.specs.declared.fault.ServeFault.TheVariants.{ReadFailed, 
 use Rattle.line_server.specs.declared.fault.ServeFault.TheVariants.{NoMemory as ServedNoMemory}
 use Rattle.driver.specs.Carried.{Carried, CarriedWithImage, Does, Reports, Serves}
 use Rattle.program_files.specs.Files.{Giving, HasInput, HasRules, IsFront, NoBytes, NoImage, NoProgram, Streams}
-use Rattle.program_files.specs.Files.{Untouched, most_judged, profile_named, streams}
+use Rattle.program_files.specs.Files.{Untouched, most_judged, streams}
+use Rattle.program_files.specs.Profiles.{IsProfileNamed}
+use Rattle.command_line.specs.declared.order.ProfileWords.{ProfileWords}
 use Rattle.ends.specs.Ends.{end_of_serve}
 use Rattle.driver.specs.Certified.{Certifies}
 use Rattle.driver.specs.Once.{IsReportOnce}
@@ -43,19 +45,19 @@ pub untouched : (left held : Option (List ℕ)) → Untouched (streams left held
 untouched left held = (Consumes-nil left, Appends-nil held)
 
 -- a file that was read for a named instruction set, and that is rejected
-pub no-image : {T : Type 0} (gives : Giving) (name path front bytes : List ℕ) (profile : Profile) (fault : ElfFault)
-    → profile_named name ≡ Some profile → IsFront gives path most_judged front → bytes ≡ front
-    → ((fault ≡ Memory) ⊎ (refusal bytes ≡ Some fault))
+pub no-image : {T : Type 0} (gives : Giving) (words : ProfileWords) (path front bytes : List ℕ) (profile : Profile)
+    (fault : ElfFault) → IsProfileNamed words profile → IsFront gives path most_judged front → bytes ≡ front
+    → ((fault ≡ Memory) ⊎ (refusal profile.regions bytes ≡ Some fault))
     → ((early : ElfFault) → early_refusal bytes ≡ Some early → ◌≡◌ {A = Result T ElfFault} (Err fault) (Err early))
-    → NoImage gives name path (Image fault)
-no-image gives name path front bytes profile fault named read same refused least = inr (
+    → NoImage gives words path (Image fault)
+no-image gives words path front bytes profile fault named read same refused least = inr (
   profile,
   named,
   (
     front,
     read,
     (
-      subst (λ (xs : List ℕ). (fault ≡ Memory) ⊎ (refusal xs ≡ Some fault)) same refused,
+      subst (λ (xs : List ℕ). (fault ≡ Memory) ⊎ (refusal profile.regions xs ≡ Some fault)) same refused,
       λ early e. let told = least early (subst (λ (xs : List ℕ). early_refusal xs ≡ Some early) (sym same) e) in cc,
     ),
   ),
@@ -63,7 +65,7 @@ no-image gives name path front bytes profile fault named read same refused least
 
 -- where the file gives a program, its outcome is that of the command
 pub with-image : (gives : Giving) (order : Order) (action : Action) (profile : Profile) (front bytes : List ℕ)
-    (image : ProgramImage) (old new : Streams) (end : End) → profile_named order.isa.now ≡ Some profile
+    (image : ProgramImage) (old new : Streams) (end : End) → IsProfileNamed order.profile profile
     → IsFront gives order.file.now most_judged front → bytes ≡ front → IsImageFor profile bytes image
     → CarriedWithImage gives order action image old new end → Carried gives order action old new end
 with-image gives order action profile front bytes image old new end named read same is carried = inr (
@@ -75,7 +77,7 @@ with-image gives order action profile front bytes image old new end named read s
 -- if all files give what the order names, what it asks for is done
 pub with-all : (gives : Giving) (order : Order) (action : Action) (profile : Profile) (front bytes : List ℕ)
     (image : ProgramImage) (list : List Rule) (input : List ℕ) (old new : Streams) (end : End)
-    → profile_named order.isa.now ≡ Some profile
+    → IsProfileNamed order.profile profile
     → IsFront gives order.file.now most_judged front → bytes ≡ front → IsImageFor profile bytes image
     → HasRules gives (rules_path order) list → HasInput gives (input_path order) input
     → Does action image list input old new end → Carried gives order action old new end
@@ -148,19 +150,21 @@ module _ (session : Session) (turn : Turn) (said : turn_of session ≡ turn) (wo
       stopped)
 
 -- a file that gives no bytes gives no program
-no-program : (gives : Giving) (path : List ℕ) (end : End) → NoBytes gives path end → NoProgram gives path end
-no-program gives path (Image fault) none = absurd none
-no-program gives path end none = none
+no-program : (gives : Giving) (profile : Profile) (path : List ℕ) (end : End) → NoBytes gives path end
+    → NoProgram gives profile.regions path end
+no-program gives profile path (Image fault) none = absurd none
+no-program gives profile path end none = none
 
-pub no-file : (gives : Giving) (name path : List ℕ) (profile : Profile) (end : End)
-    → profile_named name ≡ Some profile → NoBytes gives path end → NoImage gives name path end
-no-file gives name path profile end named none = inr (profile, named, no-program gives path end none)
+pub no-file : (gives : Giving) (words : ProfileWords) (path : List ℕ) (profile : Profile) (end : End)
+    → IsProfileNamed words profile → NoBytes gives path end → NoImage gives words path end
+no-file gives words path profile end named none =
+    inr (profile, named, no-program gives profile path end none)
 
 -- where the file gives a program, the outcome of a sweep of it is that of the request; the bytes as they were read, as
 -- the program was read from them, and as they are swept
 pub with-program : (gives : Giving) (order : Order) (words : SweepWords) (request : Request) (profile : Profile)
     (front bytes file : List ℕ) (image : ProgramImage) (old : Streams) (held : Option (List ℕ)) (end : End)
-    → profile_named order.isa.now ≡ Some profile
+    → IsProfileNamed order.profile profile
     → IsFront gives order.file.now most_judged front → bytes ≡ front → IsImageFor profile bytes image → file ≡ front
     → SweepsImage gives order words request file image old held end
     → SweepsRequest gives order words request old held end

@@ -74,6 +74,6 @@ CarriedWithImage gives order action image old new end =
 -- that the order names, and then its suppressions and its input, or that name or the program's file ends the program
 abbrev pub Carried : Giving → Order → Action → Streams → Streams → End → Type 0
 Carried gives order action old new end =
-    (NoImage gives order.isa.now order.file.now end × Untouched old new)
-    ⊎ ((image : ProgramImage) × HasImage gives order.isa.now order.file.now image
+    (NoImage gives order.profile order.file.now end × Untouched old new)
+    ⊎ ((image : ProgramImage) × HasImage gives order.profile order.file.now image
     × CarriedWithImage gives order action image old new end)

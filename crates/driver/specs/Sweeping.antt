@@ -18,7 +18,8 @@ use Rattle.suppressions.specs.declared.fault.SuppFault.TheVariants as Supp
 use Rattle.driver.specs.declared.carrying.Action.TheVariants as Action
 use Rattle.driver.specs.Carried.{Carried}
 use Rattle.program_files.specs.Files.{Giving, HasSweepInput, HasText, IsFront, NoImage, NoRulesIn, NoSweepInput, NoText}
-use Rattle.program_files.specs.Files.{Streams, Untouched, most_judged, profile_named}
+use Rattle.program_files.specs.Files.{Streams, Untouched, most_judged}
+use Rattle.program_files.specs.Profiles.{IsProfileNamed}
 use Rattle.sweep_plans.specs.Planned.{IsNoRequest, IsRequestOf}
 use Rattle.sweep_tables.specs.Swept.{Sweeps}
 use Rattle.ends.specs.declared.ends.End.{End}
@@ -55,8 +56,8 @@ SweepsImage gives order words request file image old held end =
 -- suppressions and the input, or that name or the program's file ends the program
 abbrev pub SweepsRequest : Giving → Order → SweepWords → Request → Streams → Option (List ℕ) → End → Type 0
 SweepsRequest gives order words request old held end =
-    (NoImage gives order.isa.now order.file.now end × Appends old.held held [])
-    ⊎ ((profile : Profile) × (file : List ℕ) × (image : ProgramImage) × (profile_named order.isa.now ≡ Some profile)
+    (NoImage gives order.profile order.file.now end × Appends old.held held [])
+    ⊎ ((profile : Profile) × (file : List ℕ) × (image : ProgramImage) × IsProfileNamed order.profile profile
     × IsFront gives order.file.now most_judged file × IsImageFor profile file image
     × SweepsImage gives order words request file image old held end)
 

@@ -103,7 +103,7 @@ fn follow_order<'a, F: Files, R: Read, W: Write>(
     ensures { Carried (F.gives files.now) order.now action
         (streams (R.remaining reader.old) (W.contents writer.old)) (streams (R.remaining reader.new) (W.contents writer.new)) (end_of result) }
 {
-    let profile = profile_named(order.isa)?;
+    let profile = profile_named(order.profile)?;
     let file = read_front(alloc, files, order.file, MOST_READ)?;
     let image = read_for(alloc, &file, profile)?;
     let suppressions = read_suppressions(alloc, files, order.suppressions)?;
@@ -165,7 +165,7 @@ fn follow_sweep<'a, F: Files, R: Read, W: Write>(
         return Err(End::Usage);
     }
     let request = Request::of(alloc, words)?;
-    let profile = profile_named(order.isa)?;
+    let profile = profile_named(order.profile)?;
     let file = read_front(alloc, files, order.file, MOST_READ)?;
     let image = read_for(alloc, &file, profile)?;
     sweep_image(

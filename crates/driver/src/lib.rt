@@ -13,9 +13,9 @@
 //!
 //! # What a caller can rely on
 //!
-//! - [`run_order`]: the program is read for the instruction set that the order names, then the suppressions, then the input, each judged
-//!   before the next is read; the report or the replies are written, and nothing else; and the end is that of what stopped it (`Carried`). A
-//!   sweep's step and arguments are judged before the program, and its places after the input (`CarriedSweep`).
+//! - [`run_order`]: the program is read for the instruction set and the regions that the order names, then the suppressions, then the
+//!   input, each judged before the next is read; the report or the replies are written, and nothing else; and the end is that of what
+//!   stopped it (`Carried`). A sweep's step and arguments are judged before the program, and its places after the input (`CarriedSweep`).
 //! - [`run_once`]: the report of one run from step zero was written (`IsReportOnce`), or a front of it before a write that failed.
 //! - [`tell`]: the exit status is that of the end (`status_of`), and what was written is its line (`line_of`), or a front of it.
 //!

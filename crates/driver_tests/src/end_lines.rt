@@ -28,7 +28,7 @@ fn assert_told(rt: &impl Abort, alloc: Global, rows: &[Told]) {
     }
 }
 
-const ENDS: [Told; 8] = [
+const ENDS: [Told; 11] = [
     (End::Done, 0, b""),
     (End::NotClean, 5, b""),
     (
@@ -47,6 +47,24 @@ const ENDS: [Told; 8] = [
         End::BadIsa("rv64"),
         2,
         b"replaycheck: not one of rv32im, rv32imc, rv32imac: --isa rv64\n",
+    ),
+    (
+        End::BadHeapRegion("0"),
+        2,
+        b"replaycheck: not a multiple of 0x10000000 from 0x10000000 to 0xd0000000: --heap-region 0\n",
+    ),
+    (
+        End::BadStackRegion("1..2"),
+        2,
+        b"replaycheck: not A..B, multiples of 4096 at least 65536 apart: --stack-region 1..2\n",
+    ),
+    (
+        End::RegionsOverlap {
+            heap: "0x70000000",
+            stack: "0x7f000000..0x80000000",
+        },
+        2,
+        b"replaycheck: heap region and stack region overlap: --heap-region 0x70000000 --stack-region 0x7f000000..0x80000000\n",
     ),
     (
         End::NotText,

@@ -1,6 +1,7 @@
 //! How orders are carried out and what they write, over files, readers and writers that fail.
 use crate::shelf::Shelf;
-use command_line::{Order, SweepWords, Task};
+use crate::words::USUAL_PROFILE;
+use command_line::{Order, ProfileWords, SweepWords, Task};
 use driver::{ReadFault, RunFault, read_opened, run_once, run_order, tell};
 use fake_streams::{Room, Script};
 use guest_elf::{Image, read};
@@ -177,15 +178,20 @@ fn status_of(alloc: Global, order: &Order<'_>, shelf: &Shelf<'_>, writer: &mut R
     tell(&end, &mut line)
 }
 
-/// Whether an order on a program, for an instruction set, ends in this way.
-fn is_carried_on(alloc: Global, program: &[u8], isa: &str, case: &Case) -> bool {
+/// Whether an order on a program, read for a profile, ends in this way.
+fn is_carried_on(
+    alloc: Global,
+    program: &[u8],
+    profile: &ProfileWords<'static>,
+    case: &Case,
+) -> bool {
     let (_, (file, has_rules, asked), rules, status, written) = case;
     let (input, task) = task_of(asked);
     let order = Order {
         file,
         input,
         suppressions: if *has_rules { Some("rules") } else { None },
-        isa,
+        profile: *profile,
         task,
     };
     let mut writer = Room::new(alloc, 1 << 20);
@@ -194,29 +200,88 @@ fn is_carried_on(alloc: Global, program: &[u8], isa: &str, case: &Case) -> bool 
 }
 
 /// Whether one on a new program does.
-fn is_carried(alloc: Global, isa: &str, case: &Case) -> Result<bool, AllocError> {
+fn is_carried(
+    alloc: Global,
+    profile: &ProfileWords<'static>,
+    case: &Case,
+) -> Result<bool, AllocError> {
     let file = program(alloc, &EXITS)?;
-    Ok(is_carried_on(alloc, &file, isa, case))
+    Ok(is_carried_on(alloc, &file, profile, case))
 }
 
 /// Asserts that orders are carried out.
 fn assert_carried(rt: &impl Abort, alloc: Global, cases: &[Case]) {
     for case in cases {
         assert!(rt;
-            matches!(is_carried(alloc, "rv32im", case), Ok(true)),
+            matches!(is_carried(alloc, &USUAL_PROFILE, case), Ok(true)),
             "{}",
             case.0
         );
     }
 }
 
-/// The name of an instruction set, and an order for it.
-type Named = (&'static str, Case);
+/// What a file is read for, and an order for that.
+type Named = (ProfileWords<'static>, Case);
 
-/// Orders for an instruction set. One that there isn't ends them before the file is read, and after the arguments of a sweep.
-const NAMED: [Named; 5] = [
+/// Orders for a profile. One that there isn't ends them before the file is read, and after the arguments of a sweep.
+const NAMED: [Named; 9] = [
     (
-        "rv32imc",
+        ProfileWords {
+            heap: "805306368",
+            ..USUAL_PROFILE
+        },
+        (
+            "a report with the heap elsewhere",
+            ("program", false, Asked::Task(Task::Report(3))),
+            b"",
+            0,
+            Written::Around(b"", b""),
+        ),
+    ),
+    (
+        ProfileWords {
+            heap: "0x48000000",
+            ..USUAL_PROFILE
+        },
+        (
+            "no region of a heap",
+            ("program", false, Asked::Task(Task::Report(3))),
+            b"",
+            2,
+            Written::Nothing,
+        ),
+    ),
+    (
+        ProfileWords {
+            stack: "0x7f000000",
+            ..USUAL_PROFILE
+        },
+        (
+            "no region of a stack",
+            ("program", false, Asked::Task(Task::Session)),
+            b"",
+            2,
+            Written::Nothing,
+        ),
+    ),
+    (
+        ProfileWords {
+            heap: "0x70000000",
+            ..USUAL_PROFILE
+        },
+        (
+            "regions that overlap",
+            ("prog", false, Asked::Sweep(None, None, "1/1")),
+            b"",
+            2,
+            Written::Nothing,
+        ),
+    ),
+    (
+        ProfileWords {
+            isa: "rv32imc",
+            ..USUAL_PROFILE
+        },
         (
             "a report for rv32imc",
             ("program", false, Asked::Task(Task::Report(3))),
@@ -226,7 +291,10 @@ const NAMED: [Named; 5] = [
         ),
     ),
     (
-        "rv32imac",
+        ProfileWords {
+            isa: "rv32imac",
+            ..USUAL_PROFILE
+        },
         (
             "a report for rv32imac",
             ("program", false, Asked::Task(Task::Report(3))),
@@ -236,7 +304,10 @@ const NAMED: [Named; 5] = [
         ),
     ),
     (
-        "rv32gc",
+        ProfileWords {
+            isa: "rv32gc",
+            ..USUAL_PROFILE
+        },
         (
             "a session for another set",
             ("prog", false, Asked::Task(Task::Session)),
@@ -246,7 +317,10 @@ const NAMED: [Named; 5] = [
         ),
     ),
     (
-        "RV32IM",
+        ProfileWords {
+            isa: "RV32IM",
+            ..USUAL_PROFILE
+        },
         (
             "a sweep for another set",
             ("prog", false, Asked::Sweep(None, None, "1/1")),
@@ -256,7 +330,10 @@ const NAMED: [Named; 5] = [
         ),
     ),
     (
-        "",
+        ProfileWords {
+            isa: "",
+            ..USUAL_PROFILE
+        },
         (
             "a verdict for none",
             ("program", false, Asked::Task(Task::Certify(3))),
@@ -271,7 +348,7 @@ const NAMED: [Named; 5] = [
 fn sets_are_judged(rt: HostRuntime) {
     for row in &NAMED {
         assert!(rt;
-            matches!(is_carried(rt.alloc(), row.0, &row.1), Ok(true)),
+            matches!(is_carried(rt.alloc(), &row.0, &row.1), Ok(true)),
             "{}",
             row.1.0
         );

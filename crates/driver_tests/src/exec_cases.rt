@@ -1,7 +1,7 @@
 //! What `exec` writes, and how it ends.
 use crate::shelf::Shelf;
-use crate::words::{COPIES, WRITES};
-use command_line::{ExecWords, Order, Task};
+use crate::words::{COPIES, USUAL_PROFILE, WRITES};
+use command_line::{ExecWords, Order, ProfileWords, Task};
 use ends::tell_exec;
 use exec_orders::{Log, exec_order};
 use fake_streams::{Room, Script};
@@ -73,13 +73,13 @@ const ENOUGH: Rooms = Rooms {
     opens: true,
 };
 
-/// A label; a program's words, the name of its instruction set, its arguments, standard input and the rooms; the exit status, the output,
+/// A label; a program's words, what its file is read for, its arguments, standard input and the rooms; the exit status, the output,
 /// and the front of the report.
 #[derive(Clone, Copy)]
 struct Case {
     label: &'static str,
     words: &'static [u32],
-    isa: &'static str,
+    profile: ProfileWords<'static>,
     asked: ExecWords<'static>,
     input: &'static [u8],
     rooms: Rooms,
@@ -92,7 +92,7 @@ struct Case {
 const QUIET: Case = Case {
     label: "",
     words: &WRITES,
-    isa: "rv32im",
+    profile: USUAL_PROFILE,
     asked: PLAIN,
     input: b"",
     rooms: ENOUGH,
@@ -107,7 +107,7 @@ fn comes_out(alloc: Global, file: &[u8], case: &Case) -> bool {
         file: "program",
         input: None,
         suppressions: None,
-        isa: case.isa,
+        profile: case.profile,
         task: Task::Exec(case.asked),
     };
     let shelf = Shelf {
@@ -142,7 +142,7 @@ fn is_executed(alloc: Global, case: &Case) -> Result<bool, AllocError> {
     Ok(comes_out(alloc, &file, case))
 }
 
-const RUNS: [Case; 9] = [
+const RUNS: [Case; 10] = [
     Case {
         label: "output and status",
         status: 7,
@@ -161,14 +161,29 @@ const RUNS: [Case; 9] = [
     },
     Case {
         label: "a named instruction set",
-        isa: "rv32imc",
+        profile: ProfileWords {
+            isa: "rv32imc",
+            ..USUAL_PROFILE
+        },
         status: 7,
         output: b"ok!\n",
         ..QUIET
     },
     Case {
         label: "an unknown instruction set",
-        isa: "rv32gc",
+        profile: ProfileWords {
+            isa: "rv32gc",
+            ..USUAL_PROFILE
+        },
+        status: 125,
+        ..QUIET
+    },
+    Case {
+        label: "no region of a stack",
+        profile: ProfileWords {
+            stack: "0x10000",
+            ..USUAL_PROFILE
+        },
         status: 125,
         ..QUIET
     },

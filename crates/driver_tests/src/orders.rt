@@ -1,6 +1,7 @@
 //! The orders of command lines.
+use crate::words::USUAL_PROFILE;
 use clap::error::ErrorKind;
-use command_line::{Order, SweepWords, Task, read_order};
+use command_line::{Order, ProfileWords, SweepWords, Task, read_order};
 use std::alloc::{AllocError, Global};
 use std::process::Abort;
 
@@ -50,12 +51,17 @@ fn is_task(asked: &Task<'_>, want: &Task<'_>) -> bool {
     }
 }
 
+/// Whether two profiles are.
+fn is_profile(asked: &ProfileWords<'_>, want: &ProfileWords<'_>) -> bool {
+    asked.isa == want.isa && asked.heap == want.heap && asked.stack == want.stack
+}
+
 /// Whether two orders are.
 fn is_order(asked: &Order<'_>, want: &Order<'_>) -> bool {
     asked.file == want.file
         && is_text(asked.input, want.input)
         && is_text(asked.suppressions, want.suppressions)
-        && asked.isa == want.isa
+        && is_profile(&asked.profile, &want.profile)
         && is_task(&asked.task, &want.task)
 }
 
@@ -91,7 +97,7 @@ const REPORTS: [Line; 4] = [
             file: "program",
             input: None,
             suppressions: None,
-            isa: "rv32im",
+            profile: USUAL_PROFILE,
             task: Task::Report(1_048_576),
         },
     ),
@@ -102,7 +108,7 @@ const REPORTS: [Line; 4] = [
             file: "f",
             input: None,
             suppressions: None,
-            isa: "rv32im",
+            profile: USUAL_PROFILE,
             task: Task::Report(4_194_304),
         },
     ),
@@ -113,7 +119,7 @@ const REPORTS: [Line; 4] = [
             file: "f",
             input: None,
             suppressions: None,
-            isa: "rv32im",
+            profile: USUAL_PROFILE,
             task: Task::Report(0),
         },
     ),
@@ -124,7 +130,7 @@ const REPORTS: [Line; 4] = [
             file: "f",
             input: Some("i"),
             suppressions: None,
-            isa: "rv32im",
+            profile: USUAL_PROFILE,
             task: Task::Certify(7),
         },
     ),
@@ -135,7 +141,28 @@ fn reports_are_ordered(rt: HostRuntime) {
     assert_given(&rt, rt.alloc(), &REPORTS);
 }
 
-const SESSIONS: [Line; 3] = [
+const SESSIONS: [Line; 4] = [
+    (
+        "texts of regions, whatever they are",
+        &[
+            "session",
+            "f",
+            "--heap-region",
+            "here",
+            "--stack-region=there",
+        ],
+        Order {
+            file: "f",
+            input: None,
+            suppressions: None,
+            profile: ProfileWords {
+                heap: "here",
+                stack: "there",
+                ..USUAL_PROFILE
+            },
+            task: Task::Session,
+        },
+    ),
     (
         "a name of an instruction set, whatever it is",
         &["session", "f", "--isa", "rv32"],
@@ -143,7 +170,10 @@ const SESSIONS: [Line; 3] = [
             file: "f",
             input: None,
             suppressions: None,
-            isa: "rv32",
+            profile: ProfileWords {
+                isa: "rv32",
+                ..USUAL_PROFILE
+            },
             task: Task::Session,
         },
     ),
@@ -154,7 +184,7 @@ const SESSIONS: [Line; 3] = [
             file: "f",
             input: Some("i"),
             suppressions: Some("s"),
-            isa: "rv32im",
+            profile: USUAL_PROFILE,
             task: Task::Session,
         },
     ),
@@ -165,7 +195,7 @@ const SESSIONS: [Line; 3] = [
             file: "f",
             input: Some("i"),
             suppressions: None,
-            isa: "rv32im",
+            profile: USUAL_PROFILE,
             task: Task::Look,
         },
     ),
@@ -184,7 +214,7 @@ const SWEEPS: [Line; 3] = [
             file: "f",
             input: None,
             suppressions: None,
-            isa: "rv32im",
+            profile: USUAL_PROFILE,
             task: Task::Sweep(SweepWords {
                 step: 1_048_576,
                 bytes: None,
@@ -217,7 +247,7 @@ const SWEEPS: [Line; 3] = [
             file: "f",
             input: None,
             suppressions: None,
-            isa: "rv32im",
+            profile: USUAL_PROFILE,
             task: Task::Sweep(SweepWords {
                 step: 9,
                 bytes: Some("1..2"),
@@ -247,7 +277,7 @@ const SWEEPS: [Line; 3] = [
             file: "f",
             input: None,
             suppressions: None,
-            isa: "rv32im",
+            profile: USUAL_PROFILE,
             task: Task::Sweep(SweepWords {
                 step: 1_048_576,
                 bytes: None,
@@ -273,7 +303,12 @@ fn sweeps_are_ordered(rt: HostRuntime) {
 /// A label, the arguments of a line, and why it has no order.
 type NoOrder = (&'static str, &'static [&'static str], ErrorKind);
 
-const NO_ORDERS: [NoOrder; 11] = [
+const NO_ORDERS: [NoOrder; 12] = [
+    (
+        "a region of the heap twice",
+        &["look", "f", "--heap-region=1", "--heap-region=1"],
+        ErrorKind::ArgumentConflict,
+    ),
     (
         "an instruction set twice",
         &["look", "f", "--isa=rv32im", "--isa=rv32im"],

@@ -1,4 +1,13 @@
-//! Programs that more than one table runs.
+//! Programs that more than one table runs, and what their files are read for where nothing is said of it.
+
+use command_line::ProfileWords;
+
+/// What a file is read for where nothing is said of it.
+pub(crate) const USUAL_PROFILE: ProfileWords<'static> = ProfileWords {
+    isa: "rv32im",
+    heap: "0x40000000",
+    stack: "0x7f000000..0x80000000",
+};
 
 /// Writes `ok!` and a newline, and exits with status 7.
 pub(crate) const WRITES: [u32; 10] = [

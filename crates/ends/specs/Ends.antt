@@ -1,5 +1,6 @@
 -- How the program ends: its exit statuses, its lines on standard error, and the ends for faults.
-use Rattle.std.specs.Prelude.{ℕ, ◌≤◌, List, [], ◌∷◌, ◌++◌, Option, Result, Ok, Err, codes, decimal, length, take}
+use Rattle.std.specs.Prelude.{ℕ, ◌≤◌, Bool, true, false, List, [], ◌∷◌, ◌++◌, Option, Result, Ok, Err, codes, decimal}
+use Rattle.std.specs.Prelude.{length, take}
 use Rattle.std.specs.Io.KnownBytes.{Appends}
 use Rattle.guest_elf.specs.Faults.{number_of}
 use Rattle.guest_elf.specs.declared.fault.ElfFault.{ElfFault}
@@ -7,7 +8,8 @@ use Rattle.guest_elf.specs.declared.fault.ElfFault.TheVariants.{Memory}
 use Rattle.ends.specs.declared.ends.End.{End}
 use Rattle.ends.specs.declared.ends.End.TheVariants.{Done, CannotRead, CannotReadInput, CannotWrite, Usage, NotText}
 use Rattle.ends.specs.declared.ends.End.TheVariants.{BadText, Lone, BytesRefused, WordsRefused, StepsRefused, Image}
-use Rattle.ends.specs.declared.ends.End.TheVariants.{BadIsa, Suppressions}
+use Rattle.ends.specs.declared.ends.End.TheVariants.{BadIsa, BadHeapRegion, BadStackRegion, RegionsOverlap}
+use Rattle.ends.specs.declared.ends.End.TheVariants.{Suppressions}
 use Rattle.ends.specs.declared.ends.End.TheVariants.{SuppressionsTooLong, InputTooLarge, NoMemory, NotClean}
 use Rattle.ends.specs.declared.ends.SweepOption.{SweepOption}
 use Rattle.ends.specs.declared.ends.SweepOption.TheVariants as Sweep
@@ -29,6 +31,9 @@ status_of CannotWrite = 1
 status_of Usage = 2
 status_of NotText = 2
 status_of (BadIsa name) = 2
+status_of (BadHeapRegion text) = 2
+status_of (BadStackRegion text) = 2
+status_of (RegionsOverlap heap stack) = 2
 status_of (BadText option text) = 2
 status_of (Lone option) = 2
 status_of BytesRefused = 3
@@ -74,6 +79,12 @@ lone_text Alone.Faults = codes "replaycheck: --faults needs --at"
 lone_text Alone.CodeRange = codes "replaycheck: --code-range needs --at"
 lone_text Alone.Pairs = codes "replaycheck: --pairs needs --at"
 
+-- the line on regions that overlap, with the texts of both
+abbrev pub overlap_line : List ℕ → List ℕ → List ℕ
+overlap_line heap stack =
+    codes "replaycheck: heap region and stack region overlap: --heap-region " ++ heap
+    ++ line_with (codes " --stack-region ") stack
+
 -- the line on standard error: none if all is done, none for the command line, whose parser has written it, and none if
 -- the run isn't clean, as standard output says why
 abbrev pub line_of : End → List ℕ
@@ -84,6 +95,11 @@ line_of CannotWrite = line_with (codes "replaycheck: cannot write") []
 line_of Usage = []
 line_of NotText = line_with (codes "error: invalid UTF-8 was detected in one or more arguments") []
 line_of (BadIsa name) = line_with (codes "replaycheck: not one of rv32im, rv32imc, rv32imac: --isa ") name.now
+line_of (BadHeapRegion text) =
+    line_with (codes "replaycheck: not a multiple of 0x10000000 from 0x10000000 to 0xd0000000: --heap-region ") text.now
+line_of (BadStackRegion text) =
+    line_with (codes "replaycheck: not A..B, multiples of 4096 at least 65536 apart: --stack-region ") text.now
+line_of (RegionsOverlap heap stack) = overlap_line heap.now stack.now
 line_of (BadText option text) = line_with (complaint option) text.now
 line_of (Lone option) = line_with (lone_text option) []
 line_of BytesRefused = line_with (codes "replaycheck: bytes refused 3") []
@@ -97,6 +113,11 @@ line_of SuppressionsTooLong = line_with (codes "replaycheck: suppressions refuse
 line_of InputTooLarge = line_with (codes "replaycheck: input refused 14") []
 line_of NoMemory = no_memory_line
 line_of NotClean = []
+
+-- is it an end whose line has two texts that were given?
+abbrev pub names_two : End → Bool
+names_two (RegionsOverlap heap stack) = true
+names_two _ = false
 
 -- a line was written, or a front of it
 abbrev pub AppendsFront : Option (List ℕ) → Option (List ℕ) → List ℕ → Type 0

@@ -1,16 +1,19 @@
 //! How the program ends: its error line and exit status.
-ghost use Rattle.std.specs.Prelude.{◌≡◌, [], IsTrue, MatchOption};
+ghost use Rattle.std.specs.Prelude.{◌≡◌, [], IsTrue, MatchOption, false};
 ghost use Rattle.std.specs.Io.KnownBytes.{Appends};
-ghost use Rattle.ends.specs.Ends.{AppendsFront, complaint, end_of_begin, end_of_serve, line_of, line_with, lone_text, status_of};
+ghost use Rattle.ends.specs.Ends.{AppendsFront, complaint, end_of_begin, end_of_serve, line_of, line_with, lone_text, names_two, status_of};
 ghost use Rattle.ends.specs.declared.ends.End.TheVariants.{Image, Suppressions};
 
-use crate::lines::send_line;
+use crate::lines::{send_line, send_two};
 use commands::BeginFault;
 use guest_elf::ElfFault;
 use itoa::Buffer;
 use line_server::ServeFault;
 use std::io::Write;
 use suppressions::SuppFault;
+
+/// What an error line says before the text of the heap's region that overlaps the stack's.
+const OVERLAP: &str = "replaycheck: heap region and stack region overlap: --heap-region ";
 
 /// The rest of a line that is fixed.
 const NOTHING: &[u8] = b"";
@@ -85,6 +88,12 @@ pub enum End<'a> {
     NotText,
     /// No instruction set has this name.
     BadIsa(&'a str),
+    /// The heap's region can't begin there.
+    BadHeapRegion(&'a str),
+    /// The stack's region can't lie there.
+    BadStackRegion(&'a str),
+    /// The two regions have an address in common.
+    RegionsOverlap { heap: &'a str, stack: &'a str },
     /// The text of an option of a sweep is no range, list or part.
     BadText { option: SweepOption, text: &'a str },
     /// An option of a sweep needs another one.
@@ -154,6 +163,7 @@ pub fn tell<W: Write>(end: &End, writer: &mut W) -> u8
     match end {
         End::Done => 0,
         End::CannotRead(_) | End::CannotReadInput | End::CannotWrite => 1,
+        End::BadHeapRegion(_) | End::BadStackRegion(_) | End::RegionsOverlap { .. } => 2,
         End::Usage | End::NotText | End::BadIsa(_) | End::BadText { .. } | End::Lone(_) => 2,
         End::Image(ElfFault::Memory) | End::Suppressions(SuppFault::Memory) | End::NoMemory => 4,
         End::Image(_)
@@ -172,8 +182,22 @@ pub(crate) fn write_line<W: Write>(end: &End, writer: &mut W) -> bool
     ensures line { AppendsFront (W.contents writer.old) (W.contents writer.new) (line_of end.now) }
     ensures whole { IsTrue result → Appends (W.contents writer.old) (W.contents writer.new) (line_of end.now) }
 {
+    match end {
+        End::RegionsOverlap { heap, stack } => {
+            send_two(writer, OVERLAP, heap, " --stack-region ", stack)
+        }
+        _ => write_one(*end, writer),
+    }
+}
+
+/// The same for an end whose line has at most one text that was given.
+fn write_one<W: Write>(end: End, writer: &mut W) -> bool
+    requires { names_two end ≡ false }
+    ensures line { AppendsFront (W.contents writer.old) (W.contents writer.new) (line_of end.entry) }
+    ensures whole { IsTrue result → Appends (W.contents writer.old) (W.contents writer.new) (line_of end.entry) }
+{
     let mut digits = Buffer::new();
-    match pieces_of(*end, &mut digits) {
+    match pieces_of(end, &mut digits) {
         Some((word, rest)) => send_line(writer, word, rest),
         None => true,
     }
@@ -181,10 +205,11 @@ pub(crate) fn write_line<W: Write>(end: &End, writer: &mut W) -> bool
 
 /// The word of the error line, if the end has one, and what follows it.
 fn pieces_of<'a>(end: End<'a>, digits: &'a mut Buffer) -> Option<(&'a str, &'a [u8])>
+    requires { names_two end ≡ false }
     ensures { MatchOption result (line_of end.entry ≡ []) (λ pieces. line_of end.entry ≡ line_with pieces.0.now pieces.1.now) }
 {
     let pieces = match end {
-        End::Done | End::Usage | End::NotClean => return None,
+        End::Done | End::Usage | End::NotClean | End::RegionsOverlap { .. } => return None,
         End::CannotRead(path) => ("replaycheck: cannot read ", path.as_bytes()),
         End::CannotReadInput => ("replaycheck: cannot read standard input", NOTHING),
         End::CannotWrite => ("replaycheck: cannot write", NOTHING),
@@ -215,6 +240,14 @@ fn pieces_of<'a>(end: End<'a>, digits: &'a mut Buffer) -> Option<(&'a str, &'a [
         End::BadIsa(name) => (
             "replaycheck: not one of rv32im, rv32imc, rv32imac: --isa ",
             name.as_bytes(),
+        ),
+        End::BadHeapRegion(text) => (
+            "replaycheck: not a multiple of 0x10000000 from 0x10000000 to 0xd0000000: --heap-region ",
+            text.as_bytes(),
+        ),
+        End::BadStackRegion(text) => (
+            "replaycheck: not A..B, multiples of 4096 at least 65536 apart: --stack-region ",
+            text.as_bytes(),
         ),
         End::BadText { option, text } => (option.complaint(), text.as_bytes()),
     };

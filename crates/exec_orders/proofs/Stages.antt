@@ -19,7 +19,8 @@ use Rattle.guest_elf.specs.declared.image.Image.{Image}
 use Rattle.guest_elf.specs.declared.profile.Profile.{Profile}
 use Rattle.guest_machine.specs.State.{State}
 use Rattle.program_files.specs.Files.{Giving, HasInput, IsFront, NoBytes, NoImage, NoProgram, most_judged}
-use Rattle.program_files.specs.Files.{profile_named}
+use Rattle.program_files.specs.Profiles.{IsProfileNamed}
+use Rattle.command_line.specs.declared.order.ProfileWords.{ProfileWords}
 use Rattle.replay_report.specs.Findings.{HasFindings}
 use Rattle.run_values.specs.declared.alteration.Alteration.{Alteration}
 use Rattle.scenario.specs.Edits.{IsTaken, row}
@@ -163,37 +164,39 @@ no-input gives (Some path) input none has = absurd (some-none path none)
 
 -- ---- the program
 
-pub no-image : {T : Type 0} (gives : Giving) (name path front bytes : List ℕ) (profile : Profile) (fault : ElfFault)
-    → profile_named name ≡ Some profile → IsFront gives path most_judged front → bytes ≡ front
-    → ((fault ≡ Memory) ⊎ (refusal bytes ≡ Some fault))
+pub no-image : {T : Type 0} (gives : Giving) (words : ProfileWords) (path front bytes : List ℕ) (profile : Profile)
+    (fault : ElfFault) → IsProfileNamed words profile → IsFront gives path most_judged front → bytes ≡ front
+    → ((fault ≡ Memory) ⊎ (refusal profile.regions bytes ≡ Some fault))
     → ((early : ElfFault) → early_refusal bytes ≡ Some early → ◌≡◌ {A = Result T ElfFault} (Err fault) (Err early))
-    → NoImage gives name path (Refused fault)
-no-image gives name path front bytes profile fault named read same refused least = inr (
+    → NoImage gives words path (Refused fault)
+no-image gives words path front bytes profile fault named read same refused least = inr (
   profile,
   named,
   (
     front,
     read,
     (
-      subst (λ (xs : List ℕ). (fault ≡ Memory) ⊎ (refusal xs ≡ Some fault)) same refused,
+      subst (λ (xs : List ℕ). (fault ≡ Memory) ⊎ (refusal profile.regions xs ≡ Some fault)) same refused,
       λ early e. let told = least early (subst (λ (xs : List ℕ). early_refusal xs ≡ Some early) (sym same) e) in cc,
     ),
   ),
 )
 
 -- there is no file
-no-program : (gives : Giving) (path : List ℕ) (end : End) → NoBytes gives path end → NoProgram gives path end
-no-program gives path (Refused fault) none = absurd none
-no-program gives path end none = none
+no-program : (gives : Giving) (profile : Profile) (path : List ℕ) (end : End) → NoBytes gives path end
+    → NoProgram gives profile.regions path end
+no-program gives profile path (Refused fault) none = absurd none
+no-program gives profile path end none = none
 
-pub no-file : (gives : Giving) (name path : List ℕ) (profile : Profile) (end : End)
-    → profile_named name ≡ Some profile → NoBytes gives path end → NoImage gives name path end
-no-file gives name path profile end named none = inr (profile, named, no-program gives path end none)
+pub no-file : (gives : Giving) (words : ProfileWords) (path : List ℕ) (profile : Profile) (end : End)
+    → IsProfileNamed words profile → NoBytes gives path end → NoImage gives words path end
+no-file gives words path profile end named none =
+    inr (profile, named, no-program gives profile path end none)
 
 -- with its options judged, and its program read
 pub with-image : (gives : Giving) (order : Order) (asked : ExecWords) (show : LeakKinds) (choices : Choices)
     (profile : Profile) (front bytes : List ℕ) (image : Image) (old new : Pipes) (end : ExecEnd)
-    → IsChoice asked show choices → profile_named order.isa.now ≡ Some profile
+    → IsChoice asked show choices → IsProfileNamed order.profile profile
     → IsFront gives order.file.now most_judged front → bytes ≡ front → IsImageFor profile bytes image
     → WithImage gives order asked show choices.count image old new end → Executed gives order asked old new end
 with-image gives order asked show choices profile front bytes image old new end choice named read same is h = inr (

@@ -199,8 +199,8 @@ WithImage gives order asked show count image old new end =
 -- with options that are none that end it: the program's file is read for the instruction set that the order names
 abbrev pub WithKinds : Giving → Order → ExecWords → LeakKinds → LeakKinds → Pipes → Pipes → ExecEnd → Type 0
 WithKinds gives order asked show count old new end =
-    ((why : End) × (end ≡ Early why) × NoImage gives order.isa.now order.file.now why × IsUntouched old new)
-    ⊎ ((image : Image) × HasImage gives order.isa.now order.file.now image
+    ((why : End) × (end ≡ Early why) × NoImage gives order.profile order.file.now why × IsUntouched old new)
+    ⊎ ((image : Image) × HasImage gives order.profile order.file.now image
     × WithImage gives order asked show count image old new end)
 
 -- an order for `exec` was carried out

@@ -102,7 +102,7 @@ fn follow<'a, F: Files, R: Read, W: Write, L: Log>(
         (pipes (R.remaining reader.new) (W.contents writer.new) (L.contents log.new))) }
 {
     let (show, choices) = choices_of(order, asked)?;
-    let profile = profile_named(order.isa)?;
+    let profile = profile_named(order.profile)?;
     let file = read_front(alloc, files, order.file, MOST_READ)?;
     let image = read_for(alloc, &file, profile)?;
     let mut scenario = prepare(alloc, image, order, asked, show, files)?;

@@ -6,3 +6,4 @@ pub mod Nearest
 pub mod Steps
 pub mod Strings
 pub mod Aligning
+pub mod Splitting

@@ -1,19 +1,18 @@
 -- Whether segments share an address: by pairs, and by neighbours in the order of their addresses.
-use Rattle.std.proofs.Common.{◌≡◌, ◌⊎◌, inl, inr, ℕ, suc, ◌+◌, ◌<◌, ◌≤◌, min, max, Bool, true, false, cond, not, ◌&&◌}
-use Rattle.std.proofs.Common.{◌||◌, ◌==◌, get_or, drop, nat_le, nat_lt, List, []}
+use Rattle.std.proofs.Common.{◌≡◌, ◌⊎◌, inl, inr, ℕ, suc, ◌+◌, ◌<◌, ◌≤◌, min, max, Bool, true, false, cond, ◌&&◌}
+use Rattle.std.proofs.Common.{◌||◌, get_or, drop, nat_le, nat_lt, List, []}
 use Rattle.std.proofs.Common.{◌∷◌, length, refl, sym, ◌∙◌, ap, arith, All}
 use Rattle.std.proofs.Math.Seq.{drop-cons}
 use Rattle.std.proofs.lemmas.List.{drop_all}
-use Rattle.std.proofs.lemmas.Bool.{or_cases, or_left, or_parts, or_right, false≢true}
+use Rattle.std.proofs.lemmas.Bool.{or_cases, or_left, or_right, false≢true}
 use Rattle.std.proofs.lemmas.Bool.Decides.{nat_tests}
-use Rattle.std.proofs.lemmas.List.Elements.{All-cons, All-head, All-tail}
+use Rattle.std.proofs.lemmas.List.Elements.{All-head, All-tail}
 use Rattle.std.proofs.lemmas.List.Folds.{list_any_none}
 use Rattle.std.proofs.lemmas.List.Sorted.{sum_by-IsPermutation, IsPermutation-sym}
 use Rattle.std.proofs.lemmas.List.Sums.{sum_by-cons}
-use Rattle.std.specs.List.{count_by, filter, list_any}
+use Rattle.std.specs.List.{count_by, list_any}
 use Rattle.std.specs.List.Sorted.{IsNonDecreasingBy, IsPermutation}
-use Rattle.guest_elf.specs.File.{any_two_meet, is_bad_segment, is_load, segments_meet}
-use Rattle.guest_elf.proofs.Loading.{good_from_test}
+use Rattle.guest_elf.specs.File.{any_two_meet, segments_meet}
 use Rattle.guest_elf.specs.declared.program.ProgramHeader.{ProgramHeader}
 
 -- whether one begins below `end`, or a later one before its predecessor ends
@@ -228,36 +227,3 @@ pub early_none : (headers : List ProgramHeader) (i end : ℕ) → length headers
     → begins_early end (drop i headers) ≡ false
 unfolding begins_early
 early_none headers i end past = ap (begins_early end) (drop_all i headers past)
-
-loaded_some : (filesz memsz : ℕ) → filesz ≤ memsz → not (filesz == 0 && memsz == 0) ≡ true → 0 < memsz
-loaded_some filesz memsz within some = grind (arith, nat_tests)
-
-and_left_true : (a b : Bool) → (a && b) ≡ true → b ≡ true
-and_left_true true b e = e
-and_left_true false b e = absurd (false≢true e)
-
-load_some : (file_length : ℕ) (header : ProgramHeader) → is_load header ≡ true
-    → is_bad_segment file_length header ≡ false → 0 < header.memsz
-unfolding is_load
-load_some file_length header load good =
-    loaded_some header.filesz header.memsz (good_from_test file_length header good).within (and_left_true _ _ load)
-
-loads_keep : (file_length : ℕ) (b : Bool) (header : ProgramHeader) (later : List ProgramHeader)
-    → (b ≡ true → is_load header ≡ true) →
-    (list_any (is_bad_segment file_length) later ≡ false → All (λ (h : ProgramHeader). 0 < h.memsz) later) →
-    list_any (is_bad_segment file_length) (cond b (header ∷ later) later) ≡ false
-    → All (λ (h : ProgramHeader). 0 < h.memsz) (cond b (header ∷ later) later)
-loads_keep file_length true header later load rest good =
-    let parts = or_parts (is_bad_segment file_length header) (list_any (is_bad_segment file_length) later) good in
-    All-cons (λ (h : ProgramHeader). 0 < h.memsz) header later (load_some file_length header (load refl) parts.0)
-    (rest parts.1)
-loads_keep file_length false header later load rest good = rest good
-
--- a loaded segment that is not bad has an address
-pub loads_some : (file_length : ℕ) (headers : List ProgramHeader)
-    → list_any (is_bad_segment file_length) (filter is_load headers) ≡ false →
-    All (λ (h : ProgramHeader). 0 < h.memsz) (filter is_load headers)
-loads_some file_length [] good = λ k d below. absurd (omega (arith, below))
-loads_some file_length (header ∷ headers) good =
-    loads_keep file_length (is_load header) header (filter is_load headers) (λ e. e) (loads_some file_length headers)
-    good

@@ -4,7 +4,7 @@ use Rattle.std.proofs.Common.{length, refl, sym, ◌∙◌, ap, arith}
 use Rattle.std.proofs.Math.Nat.{sub-zero}
 use Rattle.std.proofs.lemmas.Bool.{or_parts}
 use Rattle.std.specs.List.{filter, list_any, range_with_len}
-use Rattle.guest_elf.specs.File.{any_two_meet, header_at, header_count, headers_of, is_load, loads_of}
+use Rattle.guest_elf.specs.File.{any_two_meet, header_at, header_count, headers_of, is_load, loadable_of}
 use Rattle.guest_elf.specs.declared.program.ProgramHeader.{ProgramHeader}
 
 -- the program headers from an index on
@@ -12,8 +12,8 @@ unfoldable pub headers_after : List ℕ → ℕ → List ProgramHeader
 headers_after file index = map (header_at file) (range_with_len index (header_count file - index))
 
 -- those of them that are loaded
-unfoldable pub loads_after : List ℕ → ℕ → List ProgramHeader
-loads_after file index = filter is_load (headers_after file index)
+unfoldable pub loadable_after : List ℕ → ℕ → List ProgramHeader
+loadable_after file index = filter is_load (headers_after file index)
 
 pub headers_start : (file : List ℕ) → headers_after file 0 ≡ headers_of file
 unfolding headers_after
@@ -32,42 +32,43 @@ headers_step file index listed =
     let one_more : header_count file - index ≡ suc (header_count file - (index + 1)) = omega arith in
     ap (λ n. map (header_at file) (range_with_len index n)) one_more
 
-pub loads_start : (file : List ℕ) → loads_after file 0 ≡ loads_of file
-unfolding loads_after
-loads_start file = ap (filter is_load) (headers_start file)
+pub loadable_start : (file : List ℕ) → loadable_after file 0 ≡ loadable_of file
+unfolding loadable_after
+loadable_start file = ap (filter is_load) (headers_start file)
 
-pub loads_end : (file : List ℕ) (index : ℕ) → header_count file ≤ index → loads_after file index ≡ []
-unfolding loads_after
-loads_end file index past = ap (filter is_load) (headers_end file index past)
+pub loadable_end : (file : List ℕ) (index : ℕ) → header_count file ≤ index → loadable_after file index ≡ []
+unfolding loadable_after
+loadable_end file index past = ap (filter is_load) (headers_end file index past)
 
-pub loads_take : (file : List ℕ) (index : ℕ) → index < header_count file → is_load (header_at file index) ≡ true →
-    loads_after file index ≡ header_at file index ∷ loads_after file (index + 1)
-unfolding loads_after
-loads_take file index listed load =
+pub loadable_take : (file : List ℕ) (index : ℕ) → index < header_count file → is_load (header_at file index) ≡ true →
+    loadable_after file index ≡ header_at file index ∷ loadable_after file (index + 1)
+unfolding loadable_after
+loadable_take file index listed load =
     let header = header_at file index in
     let later = filter is_load (headers_after file (index + 1)) in
     ap (filter is_load) (headers_step file index listed) ∙ ap (λ b. cond b (header ∷ later) later) load
 
-pub loads_skip : (file : List ℕ) (index : ℕ) → index < header_count file → is_load (header_at file index) ≡ false →
-    loads_after file index ≡ loads_after file (index + 1)
-unfolding loads_after
-loads_skip file index listed no_load =
+pub loadable_skip : (file : List ℕ) (index : ℕ) → index < header_count file → is_load (header_at file index) ≡ false →
+    loadable_after file index ≡ loadable_after file (index + 1)
+unfolding loadable_after
+loadable_skip file index listed no_load =
     let header = header_at file index in
     let later = filter is_load (headers_after file (index + 1)) in
     ap (filter is_load) (headers_step file index listed) ∙ ap (λ b. cond b (header ∷ later) later) no_load
 
 -- the header h at the index is loaded, and the next loads follow it
-pub loads_take_at : (file : List ℕ) (index : ℕ) (h : ProgramHeader) → h ≡ header_at file index
+pub loadable_take_at : (file : List ℕ) (index : ℕ) (h : ProgramHeader) → h ≡ header_at file index
     → index < header_count file →
-    is_load h ≡ true → loads_after file index ≡ h ∷ loads_after file (index + 1)
-loads_take_at file index h here listed load =
-    loads_take file index listed (ap is_load (sym here) ∙ load) ∙ ap (λ g. g ∷ loads_after file (index + 1)) (sym here)
+    is_load h ≡ true → loadable_after file index ≡ h ∷ loadable_after file (index + 1)
+loadable_take_at file index h here listed load =
+    loadable_take file index listed (ap is_load (sym here) ∙ load)
+    ∙ ap (λ g. g ∷ loadable_after file (index + 1)) (sym here)
 
 -- the header h at the index is not loaded
-pub loads_skip_at : (file : List ℕ) (index : ℕ) (h : ProgramHeader) → h ≡ header_at file index
+pub loadable_skip_at : (file : List ℕ) (index : ℕ) (h : ProgramHeader) → h ≡ header_at file index
     → index < header_count file →
-    is_load h ≡ false → loads_after file index ≡ loads_after file (index + 1)
-loads_skip_at file index h here listed no_load = loads_skip file index listed (ap is_load (sym here) ∙ no_load)
+    is_load h ≡ false → loadable_after file index ≡ loadable_after file (index + 1)
+loadable_skip_at file index h here listed no_load = loadable_skip file index listed (ap is_load (sym here) ∙ no_load)
 
 -- whether any of a list passes, by its first element
 pub any_cons : (p : ProgramHeader → Bool) (xs : List ProgramHeader) (h : ProgramHeader) (later : List ProgramHeader)

@@ -1,8 +1,8 @@
 -- An ELF32 file as a list of bytes: its fields, the reasons to reject it, and what it loads.
 -- Sources: System V ABI, edition 4.1, chapters 4 and 5 (ELF-32 object file format); RISC-V ELF psABI 1.0 (e_machine).
 use Rattle.std.specs.Prelude.{◌≡◌, ℕ, ◌+◌, ◌-◌, ◌*◌, ◌^◌, ◌<◌, ◌≤◌, min, max, Bool, false, not, ◌&&◌, ◌||◌, ◌==◌}
-use Rattle.std.specs.Prelude.{nat_eq, nat_lt, if◌then◌else◌, List, [], ◌∷◌, length, take, drop, map, filter, sum_by}
-use Rattle.std.specs.Prelude.{Option, Some, None}
+use Rattle.std.specs.Prelude.{nat_eq, nat_le, nat_lt, if◌then◌else◌, List, [], ◌∷◌, length, take, drop, map, filter}
+use Rattle.std.specs.Prelude.{flat_map, sum_by, Option, Some, None}
 use Rattle.std.specs.List.{list_any, range_with_len, starts_with}
 use Rattle.std.specs.Option.{option_or}
 use Rattle.guest_elf.specs.declared.fault.ElfFault.{ElfFault}
@@ -20,7 +20,9 @@ use Rattle.guest_elf.specs.Profiles.{usual}
 use Rattle.guest_elf.specs.declared.profile.Profile.{Profile}
 use Rattle.guest_elf.specs.Sections.{has_bad_section_table, is_bad_table, naming_in, strings_of, symbol_table}
 use Rattle.guest_elf.specs.Segments.{SegmentContent}
-use Rattle.memory_map.specs.Regions.{heap_begin, heap_end, stack_begin, stack_end}
+use Rattle.memory_map.specs.Regions.{heap_size, stack_begin, stack_end}
+use Rattle.memory_map.specs.declared.regions.Regions.{Regions}
+use Rattle.memory_map.specs.declared.regions.StackRegion.{StackRegion}
 
 -- e_entry: the address of the first instruction
 abbrev pub entry_in : List ℕ → ℕ
@@ -64,9 +66,9 @@ is_interpreter header = header.kind == 3
 unfoldable pub is_load : ProgramHeader → Bool
 is_load header = header.kind == 1 && not (header.filesz == 0 && header.memsz == 0)
 
--- the program headers that are loaded
-abbrev pub loads_of : List ℕ → List ProgramHeader
-loads_of file = filter is_load (headers_of file)
+-- the program headers that are to be loaded, as they are in the table
+abbrev pub loadable_of : List ℕ → List ProgramHeader
+loadable_of file = filter is_load (headers_of file)
 
 -- 20: fewer bytes than a header has, or a beginning other than 7F 45 4C 46
 unfoldable pub is_not_elf : List ℕ → Bool
@@ -117,7 +119,48 @@ is_bad_segment file_length header =
 
 -- 28: a loaded segment is bad
 unfoldable pub has_bad_segment : List ℕ → Bool
-has_bad_segment file = list_any (is_bad_segment (length file)) (loads_of file)
+has_bad_segment file = list_any (is_bad_segment (length file)) (loadable_of file)
+
+-- whether the stack's region is another than the usual one
+unfoldable pub is_moved : StackRegion → Bool
+is_moved stack = not (stack.begin == stack_begin && stack.end == stack_end)
+
+-- whether a program header has the whole region of the stack in that part of its memory for which the file has no bytes
+unfoldable pub is_around : StackRegion → ProgramHeader → Bool
+is_around stack header =
+    nat_le (header.vaddr + header.filesz) stack.begin && nat_le stack.end (header.vaddr + header.memsz)
+
+-- what a program header has before the region of the stack: all its bytes from the file, and zeros after them
+abbrev pub front_of : StackRegion → ProgramHeader → ProgramHeader
+front_of stack header = record {
+  kind = header.kind;
+  offset = header.offset;
+  vaddr = header.vaddr;
+  filesz = header.filesz;
+  memsz = stack.begin - header.vaddr;
+}
+
+-- what it has after the region: zeros
+abbrev pub back_of : StackRegion → ProgramHeader → ProgramHeader
+back_of stack header = record {
+  kind = header.kind;
+  offset = 0;
+  vaddr = stack.end;
+  filesz = 0;
+  memsz = header.vaddr + header.memsz - stack.end;
+}
+
+-- the pieces of a program header: where it is around a region that isn't the usual one, those of its front and its back
+-- that aren't empty; otherwise it is whole
+unfoldable pub pieces_of : StackRegion → ProgramHeader → List ProgramHeader
+pieces_of stack header =
+    if is_moved stack && is_around stack header
+    then filter is_load (front_of stack header ∷ back_of stack header ∷ [])
+    else header ∷ []
+
+-- what is loaded: the pieces of the program headers that are to be loaded, in the order of the table
+abbrev pub loads_of : Regions → List ℕ → List ProgramHeader
+loads_of regions file = flat_map (pieces_of regions.stack) (loadable_of file)
 
 -- whether the addresses from a start up to, but not including, an end, and those of another such range have one in
 -- common
@@ -125,10 +168,10 @@ abbrev pub ranges_meet : ℕ → ℕ → ℕ → ℕ → Bool
 ranges_meet start end other_start other_end = nat_lt (max start other_start) (min end other_end)
 
 -- whether a segment has an address of the heap's region or of the stack's
-unfoldable pub meets_region : ProgramHeader → Bool
-meets_region header =
-    ranges_meet header.vaddr (header.vaddr + header.memsz) heap_begin heap_end
-    || ranges_meet header.vaddr (header.vaddr + header.memsz) stack_begin stack_end
+unfoldable pub meets_region : Regions → ProgramHeader → Bool
+meets_region regions header =
+    ranges_meet header.vaddr (header.vaddr + header.memsz) regions.heap (regions.heap + heap_size)
+    || ranges_meet header.vaddr (header.vaddr + header.memsz) regions.stack.begin regions.stack.end
 
 -- whether two segments have an address in common
 unfoldable pub segments_meet : ProgramHeader → ProgramHeader → Bool
@@ -140,14 +183,15 @@ abbrev pub any_two_meet : List ProgramHeader → Bool
 any_two_meet [] = false
 any_two_meet (header ∷ headers) = list_any (segments_meet header) headers || any_two_meet headers
 
--- 29: two loaded segments share an address, or one shares an address with the heap's region or the stack's
-unfoldable pub has_overlap : List ℕ → Bool
-has_overlap file = list_any meets_region (loads_of file) || any_two_meet (loads_of file)
+-- 29: two of what is loaded share an address, or one shares an address with the heap's region or the stack's
+unfoldable pub has_overlap : Regions → List ℕ → Bool
+has_overlap regions file =
+    list_any (meets_region regions) (loads_of regions file) || any_two_meet (loads_of regions file)
 
 -- 30: the file has, or its segments in memory have, more than 16 MiB
-unfoldable pub is_too_large : List ℕ → Bool
-is_too_large file =
-    nat_lt 16777216 (length file) || nat_lt 16777216 (sum_by (λ header. header.memsz) (loads_of file))
+unfoldable pub is_too_large : Regions → List ℕ → Bool
+is_too_large regions file =
+    nat_lt 16777216 (length file) || nat_lt 16777216 (sum_by (λ header. header.memsz) (loads_of regions file))
 
 -- 31: the symbol table is damaged, or a function's name has no end
 unfoldable pub has_bad_symbols : List ℕ → Bool
@@ -168,16 +212,16 @@ early_refusal file =
     else None
 
 -- the first condition that holds, of the conditions 29 to 31
-unfoldable pub late_refusal : List ℕ → Option ElfFault
-late_refusal file =
-    if has_overlap file then Some Overlap
-    else if is_too_large file then Some TooLarge
+unfoldable pub late_refusal : Regions → List ℕ → Option ElfFault
+late_refusal regions file =
+    if has_overlap regions file then Some Overlap
+    else if is_too_large regions file then Some TooLarge
     else if has_bad_symbols file then Some BadSymbols
     else None
 
--- why a file is rejected: the first of the conditions 20 to 31 that holds
-unfoldable pub refusal : List ℕ → Option ElfFault
-refusal file = option_or (early_refusal file) (late_refusal file)
+-- why a file is rejected where heap and stack have these regions: the first of the conditions 20 to 31 that holds
+unfoldable pub refusal : Regions → List ℕ → Option ElfFault
+refusal regions file = option_or (early_refusal file) (late_refusal regions file)
 
 -- the bytes of a program header in the file: p_filesz of them from p_offset on
 abbrev pub bytes_in : List ℕ → ProgramHeader → List ℕ
@@ -187,9 +231,10 @@ bytes_in file header = take header.filesz (drop header.offset file)
 unfoldable pub content_in : List ℕ → ProgramHeader → SegmentContent
 content_in file header = record { vaddr = header.vaddr; memsz = header.memsz; bytes = bytes_in file header }
 
--- the segments of the file: one for each PT_LOAD that is not empty, in the order of the table
-unfoldable pub contents_in : List ℕ → List SegmentContent
-contents_in file = map (content_in file) (loads_of file)
+-- the segments of the file: one for each PT_LOAD that is not empty, or for each of its pieces, in the order of the
+-- table
+unfoldable pub contents_in : Regions → List ℕ → List SegmentContent
+contents_in regions file = map (content_in file) (loads_of regions file)
 
 -- the byte that a program header loads at an address: the file's up to p_filesz, 0 from there up to p_memsz
 unfoldable pub loaded_from : List ℕ → ProgramHeader → ℕ → Option ℕ
@@ -207,8 +252,8 @@ first_loaded file (header ∷ headers) address =
     option_or (loaded_from file header address) (first_loaded file headers address)
 
 -- the byte that the file loads at an address
-unfoldable pub loaded_in : List ℕ → ℕ → Option ℕ
-loaded_in file address = first_loaded file (loads_of file) address
+unfoldable pub loaded_in : Regions → List ℕ → ℕ → Option ℕ
+loaded_in regions file address = first_loaded file (loads_of regions file) address
 
 -- the file has an ELF header
 pub record HasHeader (file : List ℕ) : Type 0 where
@@ -221,7 +266,7 @@ pub record HasTable (file : List ℕ) : Type 0 where
 
 -- the bytes of each loaded segment lie in the file, and its addresses below 2^32
 pub record HasSegments (file : List ℕ) : Type 0 where
-  pub good : list_any (is_bad_segment (length file)) (loads_of file) ≡ false
+  pub good : list_any (is_bad_segment (length file)) (loadable_of file) ≡ false
 
 -- the name of the function at an address, by the naming symbols of the file in the order of their table
 unfoldable pub name_in : List ℕ → ℕ → List ℕ
@@ -236,9 +281,9 @@ hooks_in file = hooks_by (strings_of file (symbol_table file)) (naming_in file (
 -- order, loads what the file does, begins where the file does, names what it names, has its functions of the heap and
 -- has this profile
 pub record IsImageFor (profile : Profile) (file : List ℕ) (image : Image) : Type 0 where
-  pub accepted : refusal file ≡ None
-  pub segments : contents_of image ≡ contents_in file
-  pub loads : (address : ℕ) → loaded_at image address ≡ loaded_in file address
+  pub accepted : refusal profile.regions file ≡ None
+  pub segments : contents_of image ≡ contents_in profile.regions file
+  pub loads : (address : ℕ) → loaded_at image address ≡ loaded_in profile.regions file address
   pub entry : entry_of image ≡ entry_in file
   pub names : (address : ℕ) → name_at image address ≡ name_in file address
   pub hooks : hooks_of image ≡ hooks_in file

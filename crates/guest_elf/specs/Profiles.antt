@@ -1,13 +1,14 @@
 -- What a file is read for, besides its own bytes: an instruction set (RISC-V Unprivileged ISA 20191213, chapter
--- 27, "ISA Extension Naming Conventions").
+-- 27, "ISA Extension Naming Conventions"), and the regions of heap and stack.
 use Rattle.std.specs.Prelude.{ℕ, ◌%◌, ◌==◌, Bool, true, false, not}
 use Rattle.guest_elf.specs.declared.profile.Isa.{Isa}
 use Rattle.guest_elf.specs.declared.profile.Isa.TheVariants.{Rv32im, Rv32imc, Rv32imac}
 use Rattle.guest_elf.specs.declared.profile.Profile.{Profile}
+use Rattle.memory_map.specs.Usual.{usual as usual_regions}
 
 -- where nothing is said of it
 abbrev pub usual : Profile
-usual = record { isa = Rv32im }
+usual = record { isa = Rv32im; regions = usual_regions }
 
 -- IALIGN in bytes: each instruction begins at a multiple of it (sections 1.5 and 16.1)
 unfoldable pub unit : Isa → ℕ

@@ -40,8 +40,8 @@ pub enum ElfFault {
     /// There is a PT_LOAD with p_filesz above p_memsz, or bytes past the end of the file, or an end above 2^32.
     #[error("bad segment")]
     BadSegment,
-    /// A segment shares an address with another, with the heap's region (from 0x40000000 up to 0x60000000) or with the stack's (from
-    /// 0x7F000000 up to 0x80000000).
+    /// A segment shares an address with another, with the heap's region or with the stack's. A segment may be around a region of the stack
+    /// that isn't the usual one.
     #[error("segments overlap")]
     Overlap,
     /// The file or the sum of p_memsz has more than 16,777,216 bytes.

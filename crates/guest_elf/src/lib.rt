@@ -3,14 +3,13 @@
 //!
 //! [`read`] returns an [`Image`], whose segments and names are slices of the file, or the first of the reasons to reject the file, in the
 //! order of their numbers. [`read_for`] does the same for a [`Profile`], which it keeps in the image. Both return for every file. They test
-//! the conditions 20 to 28 before they allocate memory. Then lists grow: of the loaded program headers, of the segments and of the symbols
-//! that name. If one can't grow, they return `Memory`. Of the other calls, only `hooks` allocates memory.
+//! the conditions 20 to 28 before they allocate memory. Then lists grow: of what is loaded, of the segments and of the symbols that name. If one can't grow, they return `Memory`. Of the other calls, only `hooks` allocates memory.
 //!
 //! | Call | What it returns |
 //! |---|---|
 //! | [`read`] | the image of a file, or an [`ElfFault`] |
 //! | [`read_for`] | the same, with a profile other than the usual one |
-//! | [`Profile::USUAL`] | the profile of [`read`]: RV32IM |
+//! | [`Profile::USUAL`] | the profile of [`read`]: RV32IM, and the usual regions of heap and stack |
 //! | [`Isa::aligns`] | whether an instruction may begin at an address |
 //! | [`Image::segments`] | the loaded segments, in the order of the file's program headers |
 //! | [`Image::entry`] | the address of the first instruction |
@@ -28,12 +27,18 @@
 //! `???`. e_flags, e_ehsize, e_shstrndx, p_paddr, p_flags and p_align are ignored, as are program headers of types other than PT_LOAD and
 //! PT_INTERP.
 //!
+//! No segment may have an address of the heap's region or of the stack's, with one exception. Linker scripts of firmware often reserve the
+//! stack inside of the segment of RAM. So where the profile names another region of the stack than the usual one, a segment may be around
+//! it: all of the region lies in that part of the segment's memory for which the file has no bytes. Such a segment is split. What lies
+//! before the region is loaded, and what lies after it; nothing is loaded in the region, so the stack begins undefined. With the usual
+//! regions no segment is split ([`usual_whole`]).
+//!
 //! Reading is fast for files of any content. Whether segments share an address is found from their headers in the order of their addresses.
 //! Whether each name has an end is found by the last zero byte of the string table. A name is found by two binary searches among symbols
 //! that `read` sorted once.
 //!
 //! The layer above uses one contract, that of [`read`]. An image is the file's (`IsImageOf`): the file isn't rejected; the image's segments
-//! are those of the loadable program headers in the order of their table; at each address it loads what the file does and has the file's
+//! are those of the loadable program headers, or of their pieces, in the order of their table; at each address it loads what the file does and has the file's
 //! name; it has the file's functions of the heap; it begins at e_entry; and it has the usual profile, or that of [`read_for`]
 //! (`IsImageFor`). A fault other than `Memory` is the file's refusal, and a
 //! refusal from 20 to 28 is returned whatever memory there is. Callers see of an image `segments_of`, `contents_of`, `entry_of`,
@@ -43,7 +48,8 @@
 //!
 //! - `Fields`: a number in the file, which is a list of bytes.
 //! - `File`: each reason to reject it (`is_not_elf` to `has_bad_symbols`), the first of them (`refusal`), and what the file loads and names
-//!   (`contents_in`, `loaded_in`, `entry_in`, `name_in`).
+//!   (`contents_in`, `loaded_in`, `entry_in`, `name_in`). What is loaded is a list of program headers (`loads_of`): each whole, or its
+//!   `pieces_of`.
 //! - `Sections`: the section headers, the symbol table, its symbols and their names.
 //! - `Names`: the symbol that is nearest to an address, and the name by it (`nearest`, `name_by`).
 //! - `Hooks`: which names are functions of the heap, and those of a symbol table (`hook_named`, `hooks_by`).
@@ -59,9 +65,11 @@ mod fault;
 mod fields;
 mod hook;
 mod image;
+mod laws;
 mod lookups;
 mod names;
 mod overlaps;
+mod pieces;
 mod profile;
 mod program;
 mod reading;
@@ -74,6 +82,7 @@ mod symbols;
 pub use fault::ElfFault;
 pub use hook::Hook;
 pub use image::Image;
+pub use laws::{pieces_stay_good, usual_whole};
 pub use profile::{Isa, Profile};
 pub use reading::{read, read_for};
 pub use segment::Segment;

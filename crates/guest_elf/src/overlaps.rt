@@ -1,26 +1,19 @@
 //! Whether segments share an address, found from their headers in the order of their addresses.
 ghost use Rattle.std.specs.Prelude.{◌≡◌, ◌<◌, All, IfOk};
+ghost use Rattle.std.specs.List.{list_any};
 ghost use Rattle.std.specs.List.Sorted.{IsNonDecreasingBy};
-ghost use Rattle.guest_elf.specs.File.{any_two_meet, has_overlap, loads_of, HasTable, HasSegments};
+ghost use Rattle.guest_elf.specs.File.{any_two_meet, has_overlap, loads_of, meets_region, HasSegments};
 ghost use Rattle.guest_elf.specs.declared.program.ProgramHeader.{ProgramHeader};
 
-use crate::program::{ProgramHeader, header_at, header_count};
-use crate::segments::has_load_in_region;
+use crate::program::ProgramHeader;
+use memory_map::Regions;
 use std::alloc::{AllocError, Global};
 
-/// Returns the program headers that are loaded.
-fn loads_of(alloc: Global, file: &[u8]) -> Result<Vec<ProgramHeader>, AllocError>
-    requires { HasTable file.now }
-    ensures { IfOk result (λ loads. loads.items ≡ loads_of file.now) }
+/// Returns whether one of some segments shares an address with the heap's region or the stack's.
+fn any_in_region(loads: &[ProgramHeader], regions: Regions) -> bool
+    ensures { result ≡ list_any (meets_region regions) loads.now }
 {
-    let mut loads = Vec::new(alloc);
-    for index in 0..header_count(file) {
-        let header = header_at(file, index);
-        if header.is_load() {
-            loads.push(header)?;
-        }
-    }
-    Ok(loads)
+    loads.iter().any(|header| header.meets_region(regions))
 }
 
 /// Returns whether two of the segments share an address: one begins before its predecessor ends. Needs one pass.
@@ -40,15 +33,20 @@ fn any_two_meet(headers: &[ProgramHeader]) -> bool
 }
 
 /// Returns whether a loaded segment shares an address with another, or with the heap's region or the stack's.
-pub(crate) fn has_overlap(alloc: Global, file: &[u8]) -> Result<bool, AllocError>
-    requires table { HasTable file.now }
+pub(crate) fn has_overlap(
+    alloc: Global,
+    file: &[u8],
+    regions: Regions,
+    loads: &[ProgramHeader],
+) -> Result<bool, AllocError>
     requires good { HasSegments file.now }
-    ensures { IfOk result (λ overlap. overlap ≡ has_overlap file.now) }
+    requires listed { loads.now ≡ loads_of regions file.now }
+    ensures { IfOk result (λ overlap. overlap ≡ has_overlap regions file.now) }
 {
-    if has_load_in_region(file) {
+    if any_in_region(loads, regions) {
         return Ok(true);
     }
-    let mut loads = loads_of(alloc, file)?;
-    loads.sort_unstable_by_key(|header| header.vaddr);
-    Ok(any_two_meet(&loads))
+    let mut sorted = loads.to_vec(alloc)?;
+    sorted.sort_unstable_by_key(|header| header.vaddr);
+    Ok(any_two_meet(&sorted))
 }

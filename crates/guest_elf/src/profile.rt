@@ -2,6 +2,8 @@
 ghost use Rattle.std.specs.Prelude.{◌≡◌};
 ghost use Rattle.guest_elf.specs.Profiles.{has_atomics, has_controls, has_halves, is_aligned, is_half, unit};
 
+use memory_map::Regions;
+
 /// An instruction set, named as the RISC-V ISA manual names it (volume I, 20191213, chapter 27).
 #[derive(Clone, Copy, PartialEq, Eq)]
 pub enum Isa {
@@ -95,9 +97,14 @@ impl Isa {
 pub struct Profile {
     /// The instruction set.
     pub isa: Isa,
+    /// Where the heap's region and the stack's lie.
+    pub regions: Regions,
 }
 
 impl Profile {
     /// The profile of [`read`](crate::read).
-    pub const USUAL: Profile = Profile { isa: Isa::Rv32im };
+    pub const USUAL: Profile = Profile {
+        isa: Isa::Rv32im,
+        regions: Regions::USUAL,
+    };
 }

@@ -1,9 +1,9 @@
 //! The program header table.
-ghost use Rattle.std.specs.Prelude.{◌≡◌, ◌+◌, ◌<◌};
-ghost use Rattle.guest_elf.specs.File.{header_at, header_count, is_interpreter, is_load, is_bad_segment, meets_region, ranges_meet, HasHeader, HasTable};
+ghost use Rattle.std.specs.Prelude.{◌≡◌, ◌+◌, ◌<◌, ◌&&◌, true};
+ghost use Rattle.guest_elf.specs.File.{back_of, front_of, header_at, header_count, is_around, is_interpreter, is_load, is_bad_segment, is_moved, meets_region, ranges_meet, HasHeader, HasTable};
 
 use crate::fields::{E_PHNUM, E_PHOFF, half_at, word_at};
-use memory_map::{HEAP_BEGIN, HEAP_END, STACK_BEGIN, STACK_END};
+use memory_map::{HEAP_SIZE, Regions, StackRegion};
 
 /// PT_LOAD: a segment to load.
 const PT_LOAD: u32 = 1;
@@ -57,17 +57,64 @@ impl ProgramHeader {
 
     /// Returns whether it has an address of the heap's region or of the stack's.
     #[tactic(auto, unfolding(crate::specs::File::meets_region))]
-    pub(crate) fn meets_region(self) -> bool
-        ensures { result ≡ meets_region self }
+    pub(crate) fn meets_region(self, regions: Regions) -> bool
+        ensures { result ≡ meets_region regions self }
     {
-        self.meets(HEAP_BEGIN, HEAP_END) || self.meets(STACK_BEGIN, STACK_END)
+        let heap = regions.heap_begin();
+        let stack = regions.stack();
+        self.meets(heap, u64::from(heap) + u64::from(HEAP_SIZE))
+            || self.meets(stack.begin, u64::from(stack.end))
     }
 
     /// Returns whether it has an address from `start` up to, but not including, `end`.
-    fn meets(self, start: u32, end: u32) -> bool
+    fn meets(self, start: u32, end: u64) -> bool
         ensures { result ≡ ranges_meet self.vaddr (self.vaddr + self.memsz) start end }
     {
-        u64::from(self.vaddr.max(start)) < self.end().min(u64::from(end))
+        u64::from(self.vaddr.max(start)) < self.end().min(end)
+    }
+
+    /// Returns whether it has the whole region of a stack in that part of its memory for which the file has no bytes.
+    #[tactic(auto, unfolding(crate::specs::File::is_around))]
+    fn is_around(self, stack: StackRegion) -> bool
+        ensures { result ≡ is_around stack self }
+    {
+        u64::from(self.vaddr) + u64::from(self.filesz) <= u64::from(stack.begin)
+            && u64::from(stack.end) <= self.end()
+    }
+
+    /// Returns whether its front and its back are loaded, and not all of it.
+    pub(crate) fn is_split(self, regions: Regions) -> bool
+        ensures { result ≡ (is_moved regions.stack && is_around regions.stack self) }
+    {
+        is_moved(regions.stack()) && self.is_around(regions.stack())
+    }
+
+    /// Returns what it has before the region of the stack: all its bytes from the file, and zeros after them.
+    #[tactic(auto, unfolding(crate::specs::File::is_around))]
+    pub(crate) fn front(self, regions: Regions) -> ProgramHeader
+        requires { is_around regions.stack self ≡ true }
+        ensures { result ≡ front_of regions.stack self }
+    {
+        ProgramHeader {
+            memsz: regions.stack().begin - self.vaddr,
+            ..self
+        }
+    }
+
+    /// Returns what it has after the region of the stack: zeros.
+    #[tactic(auto, unfolding(crate::specs::File::is_around), using(crate::proofs::Splitting::stack_rises))]
+    pub(crate) fn back(self, regions: Regions) -> ProgramHeader
+        requires { is_around regions.stack self ≡ true }
+        ensures { result ≡ back_of regions.stack self }
+    {
+        let stack = regions.stack();
+        ProgramHeader {
+            kind: self.kind,
+            offset: 0,
+            vaddr: stack.end,
+            filesz: 0,
+            memsz: self.memsz - (stack.end - self.vaddr),
+        }
     }
 
     /// Returns the address after its last byte, as a whole number.
@@ -76,6 +123,14 @@ impl ProgramHeader {
     {
         u64::from(self.vaddr) + u64::from(self.memsz)
     }
+}
+
+/// Returns whether the stack's region is another than the usual one.
+#[tactic(auto, unfolding(crate::specs::File::is_moved, memory_map::specs::Regions::is_heap_begin, memory_map::specs::Regions::is_stack_region, memory_map::specs::Regions::meet))]
+fn is_moved(stack: StackRegion) -> bool
+    ensures { result ≡ is_moved stack }
+{
+    stack != Regions::USUAL.stack()
 }
 
 /// Returns the number of program headers.

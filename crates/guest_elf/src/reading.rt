@@ -1,6 +1,8 @@
 //! From a file's bytes to an image.
 ghost use Rattle.std.specs.Prelude.{◌≡◌, ℕ, ◌⊎◌, false, length, map, IfOk, IfErr, IfNone};
-ghost use Rattle.guest_elf.specs.File.{early_refusal, late_refusal, refusal, is_bad_segment, bytes_in, content_in, contents_in, first_loaded, loads_of, HasHeader, HasTable, HasSegments, IsImageFor, IsImageOf};
+ghost use Rattle.std.specs.List.{list_any};
+ghost use Rattle.guest_elf.specs.File.{early_refusal, late_refusal, refusal, is_bad_segment, bytes_in, content_in, first_loaded, loads_of, HasHeader, HasTable, HasSegments, IsImageFor, IsImageOf};
+ghost use Rattle.guest_elf.specs.Profiles.{usual};
 ghost use Rattle.guest_elf.specs.Sections.{symbol_table, HasNames, HasSections};
 ghost use Rattle.guest_elf.specs.Segments.{content_of, loaded};
 ghost use Rattle.guest_elf.specs.declared.fault.ElfFault.{ElfFault};
@@ -10,8 +12,9 @@ use crate::fields::{E_ENTRY, word_at};
 use crate::image::Image;
 use crate::names::FunctionNames;
 use crate::overlaps::has_overlap;
+use crate::pieces::loads_of;
 use crate::profile::Profile;
-use crate::program::{ProgramHeader, header_at, header_count};
+use crate::program::ProgramHeader;
 use crate::refusals::{
     has_bad_table, has_bad_version, is_not_class_32, is_not_elf, is_not_executable,
     is_not_little_endian, is_not_risc_v,
@@ -19,6 +22,7 @@ use crate::refusals::{
 use crate::segment::Segment;
 use crate::segments::{has_bad_segment, has_interpreter, is_too_large};
 use crate::symbols::has_bad_symbols;
+use memory_map::Regions;
 use std::alloc::{AllocError, Global};
 
 /// Returns the first condition that holds, of those that are tested without memory.
@@ -55,18 +59,24 @@ fn early_refusal(file: &[u8]) -> Option<ElfFault>
 
 /// Returns the first condition that holds, of the others.
 #[tactic(auto, unfolding(crate::specs::File::late_refusal))]
-fn late_refusal(alloc: Global, file: &[u8]) -> Result<Option<ElfFault>, AllocError>
+fn late_refusal(
+    alloc: Global,
+    file: &[u8],
+    regions: Regions,
+    loads: &[ProgramHeader],
+) -> Result<Option<ElfFault>, AllocError>
     requires header { HasHeader file.now }
     requires table { HasTable file.now }
     requires sections { HasSections file.now }
     requires good { HasSegments file.now }
-    ensures value { IfOk result (λ fault. fault ≡ late_refusal file.now) }
+    requires listed { loads.now ≡ loads_of regions file.now }
+    ensures value { IfOk result (λ fault. fault ≡ late_refusal regions file.now) }
     ensures names { IfOk result (λ fault. IfNone fault (HasNames file.now (symbol_table file.now))) }
 {
-    if has_overlap(alloc, file)? {
+    if has_overlap(alloc, file, regions, loads)? {
         return Ok(Some(ElfFault::Overlap));
     }
-    if is_too_large(file) {
+    if is_too_large(file, regions, loads) {
         return Ok(Some(ElfFault::TooLarge));
     }
     if has_bad_symbols(file) {
@@ -100,26 +110,26 @@ fn segment_of<'a>(file: &'a [u8], header: ProgramHeader) -> Segment<'a>
     }
 }
 
-/// Returns the loaded segments, in the order of the program headers.
-fn segments_of<'a>(alloc: Global, file: &'a [u8]) -> Result<Vec<Segment<'a>>, AllocError>
-    requires table { HasTable file.now }
-    requires good { HasSegments file.now }
-    ensures contents { IfOk result (λ segments. map content_of segments.items ≡ contents_in file.now) }
+/// Returns the segments of program headers, in their order.
+fn segments_of<'a>(
+    alloc: Global,
+    file: &'a [u8],
+    loads: &[ProgramHeader],
+) -> Result<Vec<Segment<'a>>, AllocError>
+    requires { list_any (is_bad_segment (length file.now)) loads.now ≡ false }
+    ensures contents { IfOk result (λ segments. map content_of segments.items ≡ map (content_in file.now) loads.now) }
     ensures loads { IfOk result (λ segments. (address : ℕ) →
-        loaded segments.items address ≡ first_loaded file.now (loads_of file.now) address) }
+        loaded segments.items address ≡ first_loaded file.now loads.now address) }
 {
     let mut segments = Vec::new(alloc);
-    for index in 0..header_count(file) {
-        let header = header_at(file, index);
-        if header.is_load() {
-            segments.push(segment_of(file, header))?;
-        }
+    for header in loads {
+        segments.push(segment_of(file, *header))?;
     }
     Ok(segments)
 }
 
-/// Reads a static executable for RV32 from the bytes of an ELF32 file, which the image borrows, for a profile. It reads the same for each
-/// profile, and keeps the profile in the image.
+/// Reads a static executable for RV32 from the bytes of an ELF32 file, which the image borrows, for a profile, which the image keeps. The
+/// profile's regions have a say in what is loaded, and its instruction set has none.
 ///
 /// # Errors
 ///
@@ -129,17 +139,18 @@ fn segments_of<'a>(alloc: Global, file: &'a [u8]) -> Result<Vec<Segment<'a>>, Al
 pub fn read_for<'a>(alloc: Global, file: &'a [u8], profile: Profile) -> Result<Image<'a>, ElfFault>
     ensures image { IfOk result (IsImageFor profile file.entry.now) }
     ensures refused { IfErr result (λ fault.
-        (fault ≡ ElfFault.Memory) ⊎ (refusal file.entry.now ≡ Some fault)) }
+        (fault ≡ ElfFault.Memory) ⊎ (refusal profile.regions file.entry.now ≡ Some fault)) }
     // Running out of memory hides no condition that is tested before the first list grows.
     ensures least { (fault : ElfFault) → early_refusal file.entry.now ≡ Some fault → result ≡ Err fault }
 {
     if let Some(fault) = early_refusal(file) {
         return Err(fault);
     }
-    if let Some(fault) = late_refusal(alloc, file)? {
+    let loads = loads_of(alloc, file, profile.regions)?;
+    if let Some(fault) = late_refusal(alloc, file, profile.regions, &loads)? {
         return Err(fault);
     }
-    let segments = segments_of(alloc, file)?;
+    let segments = segments_of(alloc, file, &loads)?;
     let names = FunctionNames::read(alloc, file)?;
     Ok(Image::new(segments, word_at(file, E_ENTRY), names, profile))
 }
@@ -152,7 +163,7 @@ pub fn read_for<'a>(alloc: Global, file: &'a [u8], profile: Profile) -> Result<I
 pub fn read<'a>(alloc: Global, file: &'a [u8]) -> Result<Image<'a>, ElfFault>
     ensures image { IfOk result (IsImageOf file.entry.now) }
     ensures refused { IfErr result (λ fault.
-        (fault ≡ ElfFault.Memory) ⊎ (refusal file.entry.now ≡ Some fault)) }
+        (fault ≡ ElfFault.Memory) ⊎ (refusal usual.regions file.entry.now ≡ Some fault)) }
     ensures least { (fault : ElfFault) → early_refusal file.entry.now ≡ Some fault → result ≡ Err fault }
 {
     read_for(alloc, file, Profile::USUAL)

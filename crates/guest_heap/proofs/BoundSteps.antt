@@ -28,32 +28,35 @@ pub record SameEnds (blocks : Blocks) (b : Block) : Type 0 where
   pub high : high_end other ≡ high_end b
 
 -- where each interval is kept, no place comes
-pub no_more : (old new : Blocks) (size redzone from to : ℕ) → ((b : Block) → IsKept old b → SameEnds new b)
+pub no_more : (old new : Blocks) (size redzone from to : ℕ) → new.begin ≡ old.begin
+    → ((b : Block) → IsKept old b → SameEnds new b)
     → AreNoPlaces old size redzone from to → AreNoPlaces new size redzone from to
-no_more old new size redzone from to kept none q over less place = none q over less (record {
+no_more old new size redzone from to same kept none q over less place = none q over less (record {
   small = place.small;
   multiple = place.multiple;
-  above = place.above;
-  below = place.below;
+  above = omega (arith, same, place.above);
+  below = omega (arith, same, place.below);
   apart = λ b there meets.
       (let s = kept b there in
       place.apart s.other s.kept (omega (arith, meets.0, s.high), omega (arith, meets.1, s.low)));
 })
 
-no_more_bounds : (old new : Blocks) (redzone : ℕ) (bounds : List Bound) → ((b : Block) → IsKept old b → SameEnds new b)
+no_more_bounds : (old new : Blocks) (redzone : ℕ) (bounds : List Bound) → new.begin ≡ old.begin
+    → ((b : Block) → IsKept old b → SameEnds new b)
     → AreBounds old redzone bounds → AreBounds new redzone bounds
-no_more_bounds old new redzone bounds kept hold i n there =
+no_more_bounds old new redzone bounds same kept hold i n there =
     let h = hold i n there in
     record {
-      below = no_more old new n.size redzone 0 n.from kept h.below;
-      between = no_more old new n.size redzone n.next n.until kept h.between;
+      below = no_more old new n.size redzone 0 n.from same kept h.below;
+      between = no_more old new n.size redzone n.next n.until same kept h.between;
     }
 
 -- another live block, where none begins
 pub no_more_put : (blocks : Blocks) (b : Block) (redzone : ℕ) (bounds : List Bound)
     → IsPlace blocks b.size b.redzone b.start → AreBounds blocks redzone bounds
     → AreBounds (with_block blocks b) redzone bounds
-no_more_put blocks b redzone bounds place hold = no_more_bounds blocks (with_block blocks b) redzone bounds still hold
+no_more_put blocks b redzone bounds place hold =
+    no_more_bounds blocks (with_block blocks b) redzone bounds refl still hold
   where
     apart : (c : Block) → IsKept blocks c → c.start ≡ b.start → ⊥
     apart c kept same =
@@ -90,7 +93,7 @@ pub no_more_freed : (blocks : Blocks) (b : Block) (trace : List ℕ) (redzone : 
     → blocks.live b.start ≡ Some b
     → AreBounds blocks redzone bounds → AreBounds (queue_with blocks (freed_by trace b)) redzone bounds
 no_more_freed blocks b trace redzone bounds there hold =
-    no_more_bounds blocks (queue_with blocks (freed_by trace b)) redzone bounds still hold
+    no_more_bounds blocks (queue_with blocks (freed_by trace b)) redzone bounds refl still hold
   where
     freed : SameEnds (queue_with blocks (freed_by trace b)) b
     freed = record {
@@ -122,27 +125,28 @@ option_map-some f (Some x) y h = (x, refl, some-same h)
 
 -- the oldest leaves: a place that comes lies in the range round it --
 
-module _ (live : ℕ → Option Block) (queue rest : List Block) (e : Block) (is : queue ≡ e ∷ rest)
-    (apart : (b c : Block) → IsKept (record { live = live; queue = queue }) b
-    → IsKept (record { live = live; queue = queue }) c → b.start < c.start
+module _ (begin : ℕ) (live : ℕ → Option Block) (queue rest : List Block) (e : Block) (is : queue ≡ e ∷ rest)
+    (apart : (b c : Block) → IsKept (record { begin = begin; live = live; queue = queue }) b
+    → IsKept (record { begin = begin; live = live; queue = queue }) c → b.start < c.start
     → high_end b ≤ low_end c) where
   abbrev with_oldest : Blocks
-  with_oldest = record { live = live; queue = queue }
+  with_oldest = record { begin = begin; live = live; queue = queue }
 
   abbrev without_oldest : Blocks
-  without_oldest = record { live = live; queue = rest }
+  without_oldest = record { begin = begin; live = live; queue = rest }
 
   oldest : IsKept with_oldest e
   oldest =
-      let P : List Block → Type 0 = λ bs. IsKept (record { live = live; queue = bs }) e in
+      let P : List Block → Type 0 = λ bs. IsKept (record { begin = begin; live = live; queue = bs }) e in
       subst P (sym is) (inr (0, (let r : 0 < suc (length rest) = omega arith in r), refl))
 
   -- the others stay
   still : (b : Block) → IsKept with_oldest b → (b.start ≡ e.start → ⊥) → IsKept without_oldest b
   still b kept other =
-      go (let P : List Block → Type 0 = λ bs. IsKept (record { live = live; queue = bs }) b in subst P is kept)
+      go (let P : List Block → Type 0 = λ bs. IsKept (record { begin = begin; live = live; queue = bs }) b in
+      subst P is kept)
     where
-      go : IsKept (record { live = live; queue = e ∷ rest }) b → IsKept without_oldest b
+      go : IsKept (record { begin = begin; live = live; queue = e ∷ rest }) b → IsKept without_oldest b
       go (inl h) = inl h
       go (inr (zero, p, s)) = absurd (other (let same : e ≡ b = s in ap (λ x. x.start) (sym same)))
       go (inr (suc k, p, s)) = inr (k, (let t : suc k < suc (length rest) = p in omega arith), s)
@@ -162,10 +166,10 @@ module _ (live : ℕ → Option Block) (queue rest : List Block) (e : Block) (is
       ]
 
   -- and below what is above it
-  below_high : (size redzone q begin : ℕ) → BeginsAbove with_oldest e.start begin
-      → IsPlace without_oldest size redzone q → q - redzone < high_end e → q + max size 1 + redzone ≤ begin
-  below_high size redzone q begin (inl h) place meets = let below = place.below in omega arith
-  below_high size redzone q begin (inr (b, kept, above, begins)) place meets =
+  below_high : (size redzone q end : ℕ) → BeginsAbove with_oldest e.start end
+      → IsPlace without_oldest size redzone q → q - redzone < high_end e → q + max size 1 + redzone ≤ end
+  below_high size redzone q end (inl h) place meets = let below = place.below in omega arith
+  below_high size redzone q end (inr (b, kept, above, begins)) place meets =
       let clear : high_end e ≤ low_end b = apart e b oldest kept above in
       let other : b.start ≡ e.start → ⊥ = λ h. omega arith in
       let past : q - redzone < high_end b = omega arith in
@@ -185,11 +189,12 @@ module _ (live : ℕ → Option Block) (queue rest : List Block) (e : Block) (is
     above = place.above;
     below = place.below;
     apart =
-        λ b kept meets. go b (let P : List Block → Type 0 = λ bs. IsKept (record { live = live; queue = bs }) b in
-        subst P is kept) meets;
+        λ b kept meets. (let P : List Block → Type 0 =
+        λ bs. IsKept (record { begin = begin; live = live; queue = bs }) b in
+        go b (subst P is kept) meets);
   })
     where
-      go : (b : Block) → IsKept (record { live = live; queue = e ∷ rest }) b
+      go : (b : Block) → IsKept (record { begin = begin; live = live; queue = e ∷ rest }) b
           → Meets (q - redzone) (q + max size 1 + redzone) b → ⊥
       go b (inl h) meets = place.apart b (inl h) meets
       go b (inr (zero, p, s)) meets =
@@ -287,7 +292,7 @@ skipped_too blocks size least redzone from to none less_size q over less place =
 -- from a bound up to the next multiple of 16 there is no place for a block that isn't less
 pub none_up_to : (blocks : Blocks) (size least redzone bound from : ℕ) → AreNoPlaces blocks least redzone 0 bound
     → max least 1 ≤ max size 1 → from % 16 ≡ 0
-    → from < max bound (0x40000000 + redzone) + 16 → (q : ℕ) → q < from → ¬ (IsPlace blocks size redzone q)
+    → from < max bound (blocks.begin + redzone) + 16 → (q : ℕ) → q < from → ¬ (IsPlace blocks size redzone q)
 none_up_to blocks size least redzone bound from none less_size even near q less place =
     elim (cases_lt q bound) [
       | inl l ↦ skipped_too blocks size least redzone 0 bound none less_size q (omega arith) l place
@@ -297,7 +302,7 @@ none_up_to blocks size least redzone bound from none less_size even near q less 
 -- what the bounds say of where a search begins
 pub raised_from : (blocks : Blocks) (bounds : List Bound) (redzone size known from : ℕ)
     → AreBounds blocks redzone bounds → IsKnown bounds size known
-    → from % 16 ≡ 0 → from < max known (0x40000000 + redzone) + 16 → (q : ℕ) → q < from
+    → from % 16 ≡ 0 → from < max known (blocks.begin + redzone) + 16 → (q : ℕ) → q < from
     → ¬ (IsPlace blocks size redzone q)
 raised_from blocks bounds redzone size known from hold (inr (i, b, there, less, is)) even near =
     none_up_to blocks size b.size redzone b.from from (hold i b there).below (omega arith) even (omega arith)
@@ -342,33 +347,34 @@ pub none_at_all : (blocks : Blocks) (size redzone p : ℕ) → Places blocks siz
     → AreNoPlaces blocks size redzone 0 p
 none_at_all blocks size redzone p h q over less = h q
 
-pub same_bounds : (live live' : Entries) (queue queue' : List Entry) (redzone : ℕ) (bounds : List Bound) → live' ≡ live
-    → queue' ≡ queue
-    → AreBounds (shown live queue) redzone bounds → AreBounds (shown live' queue') redzone bounds
-same_bounds live live' queue queue' redzone bounds l q hold =
-    let P : Entries → Type 0 = λ f. AreBounds (shown f queue') redzone bounds in
-    let Q : List Entry → Type 0 = λ es. AreBounds (shown live es) redzone bounds in
+pub same_bounds : (begin : ℕ) (live live' : Entries) (queue queue' : List Entry) (redzone : ℕ) (bounds : List Bound)
+    → live' ≡ live → queue' ≡ queue
+    → AreBounds (shown begin live queue) redzone bounds → AreBounds (shown begin live' queue') redzone bounds
+same_bounds begin live live' queue queue' redzone bounds l q hold =
+    let P : Entries → Type 0 = λ f. AreBounds (shown begin f queue') redzone bounds in
+    let Q : List Entry → Type 0 = λ es. AreBounds (shown begin live es) redzone bounds in
     subst P (sym l) (subst Q (sym q) hold)
 
 -- the bounds once the oldest entry has left
-pub forgotten_bounds : (live : Entries) (freed : Entries) (queue rest : List Entry) (number : ℕ)
-    (sound : AreSound live freed queue number) (e : Entry)
+pub forgotten_bounds : (begin : ℕ) (live freed : Entries) (queue rest : List Entry) (number : ℕ)
+    (sound : AreSound begin live freed queue number) (e : Entry)
     → Some e ≡ first_of queue → rest ≡ drop 1 queue → (redzone end : ℕ) (o : Opened)
-    → EndsBelow (shown live queue) e.start end
-    → BeginsAbove (shown live queue) e.start o.end → o.first % 16 ≡ 0 → o.first < end + redzone + 16
+    → EndsBelow (shown begin live queue) e.start end
+    → BeginsAbove (shown begin live queue) e.start o.end → o.first % 16 ≡ 0 → o.first < end + redzone + 16
     → o.room ≡ o.end - (o.first + redzone)
-    → (old new : List Bound) → AreBounds (shown live queue) redzone old → new ≡ map (lowered o) old
-    → AreBounds (shown live rest) redzone new
-forgotten_bounds live freed [] rest number sound e h d redzone end o low high even near fits old new hold made = cc
-forgotten_bounds live freed (x ∷ xs) rest number sound e h d redzone end o low high even near fits old new hold made =
+    → (old new : List Bound) → AreBounds (shown begin live queue) redzone old → new ≡ map (lowered o) old
+    → AreBounds (shown begin live rest) redzone new
+forgotten_bounds begin live freed [] rest number sound e h d redzone end o low high even near fits old new hold made =
+    cc
+forgotten_bounds begin live freed (x ∷ xs) rest number sound e h d redzone end o low high even near fits old new hold
+    made =
     let same : e ≡ x = some-same h in
-    let P : Entry → Type 0 = λ y. EndsBelow (shown live (x ∷ xs)) y.start end in
-    let Q : Entry → Type 0 = λ y. BeginsAbove (shown live (x ∷ xs)) y.start o.end in
-    let R : List Entry → Type 0 = λ es. AreBounds (shown live es) redzone new in
-    let S : List Bound → Type 0 = λ bs. AreBounds (shown live xs) redzone bs in
-    let holds = bounds_hold (shown live (x ∷ xs)).live (map block_of (x ∷ xs)) (map block_of xs) (block_of x)
-    refl sound.apart redzone end o
-    (subst P same low) (subst Q same high) even near fits old hold in
+    let P : Entry → Type 0 = λ y. EndsBelow (shown begin live (x ∷ xs)) y.start end in
+    let Q : Entry → Type 0 = λ y. BeginsAbove (shown begin live (x ∷ xs)) y.start o.end in
+    let R : List Entry → Type 0 = λ es. AreBounds (shown begin live es) redzone new in
+    let S : List Bound → Type 0 = λ bs. AreBounds (shown begin live xs) redzone bs in
+    let holds = bounds_hold begin (shown begin live (x ∷ xs)).live (map block_of (x ∷ xs)) (map block_of xs)
+    (block_of x) refl sound.apart redzone end o (subst P same low) (subst Q same high) even near fits old hold in
     subst R (sym d) (subst S (sym made) holds)
 
 -- a bound that was taken, once it is raised

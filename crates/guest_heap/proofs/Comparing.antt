@@ -1,7 +1,7 @@
 -- Heaps with the same blocks.
-use Rattle.std.proofs.Common.{◌≡◌, ℕ, ◌+◌, ◌<◌, ◌≤◌, ◌==◌, Bool, List, [], ◌∷◌, ◌++◌, Option, Some, None, length, map}
+use Rattle.std.proofs.Common.{◌≡◌, ℕ, ◌<◌, ◌≤◌, ◌==◌, List, [], ◌∷◌, ◌++◌, Option, Some, None, length, map}
 use Rattle.std.proofs.Common.{drop}
-use Rattle.std.proofs.Common.{if◌then◌else◌, cond, refl, ap, ap₂, sym, ◌∙◌, inl, inr, arith, zero, suc}
+use Rattle.std.proofs.Common.{if◌then◌else◌, refl, ap, ap₂, sym, ◌∙◌, inl, inr, arith}
 use Rattle.std.proofs.Math.Path.{fun_ext}
 use Rattle.std.proofs.lemmas.Bool.{cases_lt}
 use Rattle.std.proofs.lemmas.List.{drop-map}
@@ -9,10 +9,10 @@ use Rattle.std.specs.Option.{option_map}
 use Rattle.std.specs.declared.alloc.Global.{Global}
 use Rattle.std.specs.declared.rc.Rc.{Rc}
 use Rattle.heap_blocks.specs.declared.block.Block.{Block}
-use Rattle.guest_heap.specs.Blocks.{Blocks, high_end}
+use Rattle.guest_heap.specs.Blocks.{Blocks}
 use Rattle.guest_heap.specs.Entries.{Entries, block_of}
 use Rattle.guest_heap.specs.Runs.{Run, run_entries, values}
-use Rattle.guest_heap.specs.States.{AreSound, IsLiveAt, beginning, shown, slot_of}
+use Rattle.guest_heap.specs.States.{AreSound, beginning, shown, slot_of}
 use Rattle.guest_heap.specs.declared.entry.Entry.{Entry}
 
 -- without runs, the blocks are those of the tail
@@ -32,28 +32,34 @@ begins a None = refl
 begins a (Some e) = refl
 
 -- an entry of a sound table is at a place of the region
-none-behind : (live freed : Entries) (queue : List Entry) (first k : ℕ) → AreSound live freed queue first
+none-behind : (begin : ℕ) (live freed : Entries) (queue : List Entry) (first k : ℕ)
+    → AreSound begin live freed queue first
     → 33554432 ≤ k → (entry : Option Entry) → live k ≡ entry → option_map block_of entry ≡ None
-none-behind live freed queue first k sound past None is = refl
-none-behind live freed queue first k sound past (Some e) is =
+none-behind begin live freed queue first k sound past None is = refl
+none-behind begin live freed queue first k sound past (Some e) is =
     let placed = (sound.lives k e is).placed in
     let start = placed.start in
     let high = placed.high in
     absurd (omega (arith, start, high))
 
-pub same_blocks : (live others freed freed-there : Entries) (queue queue-there : List Entry) (first first-there : ℕ)
-    → AreSound live freed queue first → AreSound others freed-there queue-there first-there
+pub same_blocks : (begin begin-there : ℕ) (live others freed freed-there : Entries) (queue queue-there : List Entry)
+    (first first-there : ℕ)
+    → AreSound begin live freed queue first → AreSound begin-there others freed-there queue-there first-there
+    → begin ≡ begin-there
     → ((k : ℕ) → k < 33554432 → option_map block_of (live k) ≡ option_map block_of (others k))
-    → map block_of queue ≡ map block_of queue-there → shown live queue ≡ shown others queue-there
-same_blocks live others freed freed-there queue queue-there first first-there sound sound-there same queues =
+    → map block_of queue ≡ map block_of queue-there → shown begin live queue ≡ shown begin-there others queue-there
+same_blocks begin begin-there live others freed freed-there queue queue-there first first-there sound sound-there
+    begins-there same queues =
     let alike : (k : ℕ) → option_map block_of (live k) ≡ option_map block_of (others k) = λ k.
     elim (cases_lt k 33554432) [
       | inl inside ↦ same k inside
       | inr past ↦
-          none-behind live freed queue first k sound past (live k) refl
-          ∙ sym (none-behind others freed-there queue-there first-there k sound-there past (others k) refl)
+          none-behind begin live freed queue first k sound past (live k) refl
+          ∙ sym (none-behind begin-there others freed-there queue-there first-there k sound-there past (others k) refl)
     ] in
-    let lives : (λ a. beginning a (live (slot_of a))) ≡ (λ a. beginning a (others (slot_of a))) = fun_ext (λ a.
-    begins a (live (slot_of a)) ∙ ap (at-start a) (alike (slot_of a)) ∙ sym (begins a (others (slot_of a)))) in
-    let blocks : (ℕ → Option Block) → List Block → Blocks = λ l q. record { live = l; queue = q } in
-    ap₂ blocks lives queues
+    let lives : (λ a. beginning a (live (slot_of begin a))) ≡ (λ a. beginning a (others (slot_of begin a))) =
+    fun_ext (λ a.
+    begins a (live (slot_of begin a)) ∙ ap (at-start a) (alike (slot_of begin a))
+    ∙ sym (begins a (others (slot_of begin a)))) in
+    let blocks : (ℕ → Option Block) → List Block → Blocks = λ l q. record { begin = begin; live = l; queue = q } in
+    ap₂ blocks lives queues ∙ ap (λ n. shown n others queue-there) begins-there

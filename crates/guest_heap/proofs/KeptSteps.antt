@@ -7,6 +7,7 @@ use Rattle.std.proofs.lemmas.Bool.{cases_lt}
 use Rattle.std.proofs.lemmas.Bool.Decides.{nat_tests}
 use Rattle.heap_blocks.specs.declared.block.Block.{Block}
 use Rattle.guest_heap.specs.Blocks.{Blocks, IsKept, low_end, high_end, Meets}
+use Rattle.memory_map.specs.Regions.{heap_size}
 use Rattle.guest_heap.specs.Entries.{Entries, FirstAt, LastAt, block_of}
 use Rattle.guest_heap.specs.States.{slot_of, beginning, shown, kept_at, either, IsPlaced, AreSound, FirstKept, LastKept}
 use Rattle.guest_heap.specs.States.{IsNextKept, IsLastKept, MeetsBelow, MeetsFrom}
@@ -33,8 +34,8 @@ begun a (Some e) b h = go (e.start == a) h
     go true k = (e, refl, some-same k)
     go false k = cc
 
-pub placed-slot : (a k : ℕ) → a ≡ 0x40000000 + 16 * k → slot_of a ≡ k
-placed-slot a k h = omega arith
+pub placed-slot : (begin a k : ℕ) → a ≡ begin + 16 * k → slot_of begin a ≡ k
+placed-slot begin a k h = omega arith
 
 -- entries of the queue --
 
@@ -70,7 +71,8 @@ none_kept live freed first k h = go (live k) (freed k) h refl refl
     go None (Some f) h e d = cc (ap₂ (λ u v. either (λ _. u) (λ _. v) k) e d)
     go (Some f) y h e d = cc (ap (λ u. either (λ _. u) freed k) e)
 
-module _ (live freed : Entries) (queue : List Entry) (first : ℕ) (sound : AreSound live freed queue first) where
+module _ (begin : ℕ) (live freed : Entries) (queue : List Entry) (first : ℕ)
+    (sound : AreSound begin live freed queue first) where
   kept-live : (k : ℕ) (e : Entry) → live k ≡ Some e → kept_at live freed first k ≡ Some (block_of e)
   kept-live k e h = ap (λ u. kept_at (λ _. u) freed first k) h
 
@@ -80,15 +82,15 @@ module _ (live freed : Entries) (queue : List Entry) (first : ℕ) (sound : AreS
       let t : nat_le first e.number ≡ true = grind (arith, nat_tests) in
       ap₂ (λ u v. kept_at (λ _. u) (λ _. v) first k) h g ∙ ap (λ b. cond b (Some (block_of e)) None) t
 
-  pub shown-live : (k : ℕ) (e : Entry) → live k ≡ Some e → (shown live queue).live e.start ≡ Some (block_of e)
+  pub shown-live : (k : ℕ) (e : Entry) → live k ≡ Some e → (shown begin live queue).live e.start ≡ Some (block_of e)
   shown-live k e h =
-      ap (λ n. beginning e.start (live n)) (placed-slot e.start k (sound.lives k e h).placed.start)
+      ap (λ n. beginning e.start (live n)) (placed-slot begin e.start k (sound.lives k e h).placed.start)
       ∙ ap (beginning e.start) h ∙ begins e.start e refl
 
   -- the block at a place is kept, and begins there
   pub record StandsAt (b : Block) (k : ℕ) : Type 0 where
-    pub kept : IsKept (shown live queue) b
-    pub placed : IsPlaced b k
+    pub kept : IsKept (shown begin live queue) b
+    pub placed : IsPlaced begin b k
 
   pub stands : (k : ℕ) (b : Block) → kept_at live freed first k ≡ Some b → StandsAt b k
   stands k b h = go (live k) (freed k) refl refl
@@ -100,10 +102,10 @@ module _ (live freed : Entries) (queue : List Entry) (first : ℕ) (sound : AreS
       from-queue e l f n =
           let found = sound.finds k e f n l in
           let queued = sound.queues (e.number - first) e found.queued in
-          let P : ℕ → Type 0 = λ m. IsPlaced (block_of e) m in
+          let P : ℕ → Type 0 = λ m. IsPlaced begin (block_of e) m in
           record {
             kept = inr (contains-block queue (e.number - first) e found.queued);
-            placed = subst P (placed-slot e.start k found.start) queued.placed;
+            placed = subst P (placed-slot begin e.start k found.start) queued.placed;
           }
 
       aged : (e : Entry) (t : Bool) → nat_le first e.number ≡ t → live k ≡ None → freed k ≡ Some e
@@ -120,17 +122,17 @@ module _ (live freed : Entries) (queue : List Entry) (first : ℕ) (sound : AreS
           (record { kept = inl (shown-live k e l); placed = (sound.lives k e l).placed })
 
   pub record FoundAt (b : Block) : Type 0 where
-    pub there : kept_at live freed first (slot_of b.start) ≡ Some b
-    pub placed : IsPlaced b (slot_of b.start)
+    pub there : kept_at live freed first (slot_of begin b.start) ≡ Some b
+    pub placed : IsPlaced begin b (slot_of begin b.start)
 
-  pub found_at : (b : Block) → IsKept (shown live queue) b → FoundAt b
+  pub found_at : (b : Block) → IsKept (shown begin live queue) b → FoundAt b
   found_at b (inl h) =
-      let (e, l, d) = begun b.start (live (slot_of b.start)) b h in
-      let P : Block → Type 0 = λ x. IsPlaced x (slot_of b.start) in
+      let (e, l, d) = begun b.start (live (slot_of begin b.start)) b h in
+      let P : Block → Type 0 = λ x. IsPlaced begin x (slot_of begin b.start) in
       record {
-        there = kept-live (slot_of b.start) e l
+        there = kept-live (slot_of begin b.start) e l
             ∙ ap Some d;
-        placed = subst P d (sound.lives (slot_of b.start) e l).placed;
+        placed = subst P d (sound.lives (slot_of begin b.start) e l).placed;
       }
   found_at b (inr h) =
       let (i, e, q, d) = block-contained queue b h in
@@ -138,7 +140,7 @@ module _ (live freed : Entries) (queue : List Entry) (first : ℕ) (sound : AreS
       let recent : first ≤ e.number = omega (arith, queued.number) in
       let P : Block → Type 0 = FoundAt in
       subst P d (record {
-        there = kept-freed (slot_of e.start) e queued.gone queued.found recent;
+        there = kept-freed (slot_of begin e.start) e queued.gone queued.found recent;
         placed = queued.placed;
       })
 
@@ -152,17 +154,17 @@ module _ (live freed : Entries) (queue : List Entry) (first : ℕ) (sound : AreS
       sound.apart b c x.kept y.kept (omega (arith, x.placed.start, y.placed.start))
 
   pub below_past : (to low : ℕ) (b : Block) → LastKept (kept_at live freed first) to b → low < high_end b
-      → PastBelow (shown live queue) to low b
+      → PastBelow (shown begin live queue) to low b
   below_past to low b h g =
       let x = stands h.place b h.there in
       record { kept = x.kept; below = omega (arith, x.placed.start, h.below); past = g; within = x.placed.high }
 
   pub below_clear : (to low : ℕ) (b : Block) → LastKept (kept_at live freed first) to b → high_end b ≤ low
-      → MeetsBelow (shown live queue) to low None
+      → MeetsBelow (shown begin live queue) to low None
   below_clear to low b h g c kept under =
       let x = stands h.place b h.there in
       let y = found_at c kept in
-      let k = slot_of c.start in
+      let k = slot_of begin c.start in
       let within : k < to = omega (arith, y.placed.start) in
       elim (cases_lt k h.place) [
         | inl lt ↦ (let e = before k h.place c b y.there h.there lt in omega (arith, e, g))
@@ -176,37 +178,37 @@ module _ (live freed : Entries) (queue : List Entry) (first : ℕ) (sound : AreS
       ]
 
   pub below_none : (to low : ℕ) → IsLastKept (kept_at live freed first) to None
-      → MeetsBelow (shown live queue) to low None
+      → MeetsBelow (shown begin live queue) to low None
   below_none to low h c kept under =
       let y = found_at c kept in
-      absurd (some-none (sym y.there ∙ h (slot_of c.start) (omega (arith, y.placed.start))))
+      absurd (some-none (sym y.there ∙ h (slot_of begin c.start) (omega (arith, y.placed.start))))
 
   -- the ends of the blocks on either side
-  pub ends_below : (to start : ℕ) (b : Block) → LastKept (kept_at live freed first) to b → 0x40000000 + 16 * to ≤ start
-      → (EndsBelow (shown live queue) start (high_end b)) × (high_end b ≤ 0x60000000)
+  pub ends_below : (to start : ℕ) (b : Block) → LastKept (kept_at live freed first) to b → begin + 16 * to ≤ start
+      → (EndsBelow (shown begin live queue) start (high_end b)) × (high_end b ≤ begin + heap_size)
   ends_below to start b h g =
       let x = stands h.place b h.there in
       let under : b.start < start = omega (arith, x.placed.start, h.below) in
       (inr (b, x.kept, under, refl), x.placed.high)
 
   pub begins_above : (from start : ℕ) (b : Block) → FirstKept (kept_at live freed first) from b
-      → start < 0x40000000 + 16 * from → BeginsAbove (shown live queue) start (low_end b)
+      → start < begin + 16 * from → BeginsAbove (shown begin live queue) start (low_end b)
   begins_above from start b h g =
       let x = stands h.place b h.there in
       let over : start < b.start = omega (arith, x.placed.start, h.above) in
       inr (b, x.kept, over, refl)
 
   pub from_before : (from high : ℕ) (b : Block) → FirstKept (kept_at live freed first) from b → low_end b < high
-      → BeforeFrom (shown live queue) from high b
+      → BeforeFrom (shown begin live queue) from high b
   from_before from high b h g =
       let x = stands h.place b h.there in
       record { kept = x.kept; above = omega (arith, x.placed.start, h.above); before = g; within = x.placed.high }
 
   pub from_clear : (from high : ℕ) (b : Block) → FirstKept (kept_at live freed first) from b → high ≤ low_end b
-      → MeetsFrom (shown live queue) from high None
+      → MeetsFrom (shown begin live queue) from high None
   from_clear from high b h g c kept over =
       let y = found_at c kept in
-      let k = slot_of c.start in
+      let k = slot_of begin c.start in
       let within : from ≤ k = omega (arith, y.placed.start) in
       elim (cases_lt k h.place) [
         | inl lt ↦ absurd (some-none (sym y.there ∙ h.none k within lt))
@@ -220,10 +222,10 @@ module _ (live freed : Entries) (queue : List Entry) (first : ℕ) (sound : AreS
       ]
 
   pub from_none : (from high : ℕ) → IsNextKept (kept_at live freed first) from None
-      → MeetsFrom (shown live queue) from high None
+      → MeetsFrom (shown begin live queue) from high None
   from_none from high h c kept over =
       let y = found_at c kept in
-      absurd (some-none (sym y.there ∙ h (slot_of c.start) (omega (arith, y.placed.start))
+      absurd (some-none (sym y.there ∙ h (slot_of begin c.start) (omega (arith, y.placed.start))
       (omega (arith, y.placed.start, y.placed.high))))
 
 pub first_kept : (live freed : Entries) (first from at to n : ℕ) (b : Block)
@@ -261,19 +263,19 @@ last_kept live freed first to at n b later order h there = record {
 pub clear : (blocks : Blocks) (low high from : ℕ) → MeetsBelow blocks from low None → MeetsFrom blocks from high None
     → (b : Block) → IsKept blocks b → ¬ (Meets low high b)
 clear blocks low high from under over b kept meets =
-    elim (cases_lt b.start (0x40000000 + 16 * from)) [
+    elim (cases_lt b.start (blocks.begin + 16 * from)) [
       | inl lt ↦ (let e = under b kept lt in omega (arith, e, meets.0))
       | inr ge ↦ (let e = over b kept ge in omega (arith, e, meets.1))
     ]
 
-pub meets_below : (blocks : Blocks) (low high from : ℕ) (b : Block) → 0x40000000 ≤ low → low < high
-    → from ≡ (low - 0x40000000 + 15) / 16 → PastBelow blocks from low b → Meets low high b
+pub meets_below : (blocks : Blocks) (low high from : ℕ) (b : Block) → blocks.begin ≤ low → low < high
+    → from ≡ (low - blocks.begin + 15) / 16 → PastBelow blocks from low b → Meets low high b
 meets_below blocks low high from b above order is h =
     let under : b.start < low = omega (arith, h.below) in
     (h.past, omega arith)
 
-pub meets_from : (blocks : Blocks) (low high from : ℕ) (b : Block) → 0x40000000 ≤ low → low < high
-    → from ≡ (low - 0x40000000 + 15) / 16 → BeforeFrom blocks from high b → Meets low high b
+pub meets_from : (blocks : Blocks) (low high from : ℕ) (b : Block) → blocks.begin ≤ low → low < high
+    → from ≡ (low - blocks.begin + 15) / 16 → BeforeFrom blocks from high b → Meets low high b
 meets_from blocks low high from b above order is h =
     let over : low ≤ b.start = omega (arith, h.above) in
     (omega arith, h.before)

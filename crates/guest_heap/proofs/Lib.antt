@@ -4,6 +4,7 @@ pub mod Parts
 pub mod GridSteps
 pub mod Numbering
 pub mod RunSteps
+pub mod Beginnings
 pub mod KeptSteps
 pub mod PlaceSteps
 pub mod PutSteps

@@ -7,18 +7,23 @@ use Rattle.std.specs.Prelude.{[], ◌∷◌, ◌++◌, Contains, drop, sum_by, i
 use Rattle.heap_blocks.specs.declared.block.Block.{Block}
 use Rattle.heap_blocks.specs.declared.block.Near.{Near}
 use Rattle.heap_blocks.specs.declared.block.Place.TheVariants.{Before, Inside, After}
-use Rattle.memory_map.specs.Regions.{heap_begin, heap_end}
+use Rattle.memory_map.specs.Regions.{heap_size}
 use Rattle.guest_heap.specs.declared.released.Released.{Released}
 use Rattle.guest_heap.specs.declared.released.Released.TheVariants.{Done, Nothing, Invalid}
 
--- the blocks that are kept: the live block that begins at an address, and the freed ones that are not forgotten yet,
--- oldest first
+-- the first address of the heap's region, and the blocks that are kept in it: the live block that begins at an
+-- address, and the freed ones that are not forgotten yet, oldest first
 pub record Blocks : Type 0 where
+  pub begin : ℕ
   pub live : ℕ → Option Block
   pub queue : List Block
 
-abbrev pub no_blocks : Blocks
-no_blocks = record { live = λ _. None; queue = [] }
+-- the first address after the region
+abbrev pub end_of : Blocks → ℕ
+end_of blocks = blocks.begin + heap_size
+
+abbrev pub no_blocks : ℕ → Blocks
+no_blocks begin = record { begin = begin; live = λ _. None; queue = [] }
 
 abbrev pub IsKept : Blocks → Block → Type 0
 IsKept blocks b = (blocks.live b.start ≡ Some b) ⊎ Contains blocks.queue b
@@ -40,12 +45,12 @@ Meets low high b = (low < high_end b) × (low_end b < high)
 abbrev pub greatest_size : ℕ
 greatest_size = 16777216
 
--- a place for a block: a multiple of 16 whose interval lies in the heap region and meets no kept block's interval
+-- a place for a block: a multiple of 16 whose interval lies in the heap's region and meets no kept block's interval
 pub record IsPlace (blocks : Blocks) (size redzone p : ℕ) : Type 0 where
   pub small : size ≤ greatest_size
   pub multiple : p % 16 ≡ 0
-  pub above : heap_begin + redzone ≤ p
-  pub below : p + max size 1 + redzone ≤ heap_end
+  pub above : blocks.begin + redzone ≤ p
+  pub below : p + max size 1 + redzone ≤ end_of blocks
   pub apart : (b : Block) → IsKept blocks b → ¬ (Meets (p - redzone) (p + max size 1 + redzone) b)
 
 pub record IsLeastPlace (blocks : Blocks) (size redzone p : ℕ) : Type 0 where
@@ -63,7 +68,11 @@ with_live live at block = λ a. if a == at then block else live a
 
 -- the blocks with another live block
 abbrev pub with_block : Blocks → Block → Blocks
-with_block blocks b = record { live = with_live blocks.live b.start (Some b); queue = blocks.queue }
+with_block blocks b = record {
+  begin = blocks.begin;
+  live = with_live blocks.live b.start (Some b);
+  queue = blocks.queue;
+}
 
 -- a new live block at a place, if there is one
 abbrev pub allocated : Blocks → Option ℕ → ℕ → List ℕ → ℕ → Blocks
@@ -87,7 +96,11 @@ released_at blocks ptr trace = if ptr == 0 then Nothing else done_or trace (bloc
 
 -- a freed block is no longer live, and is the last of the queue
 abbrev pub queue_with : Blocks → Block → Blocks
-queue_with blocks b = record { live = with_live blocks.live b.start None; queue = blocks.queue ++ b ∷ [] }
+queue_with blocks b = record {
+  begin = blocks.begin;
+  live = with_live blocks.live b.start None;
+  queue = blocks.queue ++ b ∷ [];
+}
 
 abbrev pub volume_of : List Block → ℕ
 volume_of queue = sum_by (λ b. b.size) queue
@@ -107,6 +120,7 @@ pub record Drops (volume : ℕ) (whole suffix : List Block) : Type 0 where
 
 -- a block that is freed is no longer live, and goes to the end of the queue, from which the oldest leave
 pub record Frees (b : Block) (volume : ℕ) (old new : Blocks) : Type 0 where
+  pub begin : new.begin ≡ old.begin
   pub live : new.live ≡ with_live old.live b.start None
   pub queue : IsLongestFitting volume (old.queue ++ b ∷ []) new.queue
 

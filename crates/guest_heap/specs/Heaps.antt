@@ -9,7 +9,7 @@ use Rattle.guest_heap.specs.declared.heap.Heap.{Heap}
 
 -- the blocks that a heap holds
 unfoldable pub blocks_of : Heap → Blocks
-blocks_of heap = shown (entries_of heap.live) (queued heap.queue)
+blocks_of heap = shown heap.begin (entries_of heap.live) (queued heap.queue)
 
 unfoldable pub live_in : Heap → Entries
 live_in heap = entries_of heap.live

@@ -1,5 +1,6 @@
 -- What the functions of the heap calls mean, for all blocks.
-use Rattle.std.specs.Prelude.{ℕ, ◌+◌, ◌≡◌, ◌↔◌, Some, None, IfSome, IfNone, List, [], ◌∷◌, Contains}
+use Rattle.std.specs.Prelude.{ℕ, ◌+◌, ◌%◌, ◌<◌, ◌≤◌, ◌≡◌, ◌↔◌, Some, None, IfSome, IfNone, List, [], ◌∷◌, Contains}
+use Rattle.memory_map.specs.Regions.{greatest_heap_begin}
 use Rattle.heap_blocks.specs.declared.block.Block.{Block}
 use Rattle.guest_heap.specs.Blocks.{Blocks, IsKept, Holds, Places, near_of, no_blocks, IsLongestFitting}
 use Rattle.guest_heap.specs.Steps.{AreInRegion, AreApart, place, allocated_blocks, queue_after, released_blocks, near}
@@ -39,7 +40,8 @@ pub record LiveGoesOn : Type 0 where
 
 -- live blocks stay in the region
 pub record KeepsRegion : Type 0 where
-  pub none : AreInRegion no_blocks
+  pub none : (begin : ℕ) → begin % 16 ≡ 0 → 0 < begin → begin ≤ greatest_heap_begin
+      → AreInRegion (no_blocks begin)
   pub allocated :
       (blocks : Blocks) (size : ℕ) (trace : List ℕ) (redzone : ℕ) →
       AreInRegion blocks → AreInRegion (allocated_blocks blocks size trace redzone)
@@ -49,7 +51,7 @@ pub record KeepsRegion : Type 0 where
 
 -- kept blocks stay apart
 pub record KeepsApart : Type 0 where
-  pub none : AreApart no_blocks
+  pub none : (begin : ℕ) → AreApart (no_blocks begin)
   pub allocated :
       (blocks : Blocks) (size : ℕ) (trace : List ℕ) (redzone : ℕ) →
       AreInRegion blocks → AreApart blocks → AreApart (allocated_blocks blocks size trace redzone)

@@ -5,12 +5,12 @@ use Rattle.std.proofs.Math.Nat.{div-mul-le_self, mul-pos}
 use Rattle.std.proofs.lemmas.Nat.{le-div}
 use Rattle.std.proofs.lemmas.Bool.Decides.{Decides-ltb}
 
--- at least one place, and at most as many as the heap region has
+-- at least one place, and at most as many as the heap's region has
 pub record IsSize (places : ℕ) : Type 0 where
   pub some : 0 < places
   pub few : places ≤ 33554432
 
--- a row has 64 parts, or, if each part is a row of 64 rows of 64 leaves, as many as the heap region has
+-- a row has 64 parts, or, if each part is a row of 64 rows of 64 leaves, as many as the heap's region has
 unfoldable pub parts_of : ℕ → ℕ
 parts_of each = if nat_lt each 262144 then 64 else 33554432 / each
 

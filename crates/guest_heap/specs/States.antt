@@ -1,23 +1,27 @@
 -- How a heap keeps its blocks: live ones in one table, freed ones in another, and the queue of the freed ones. The
--- place of a block is the number of its start among the multiples of 16 of the heap region.
+-- place of a block is the number of its start among the multiples of 16 of the heap's region.
 use Rattle.std.specs.Prelude.{ℕ, ◌+◌, ◌-◌, ◌*◌, ◌/◌, ◌<◌, ◌≤◌, ◌≡◌, ◌==◌, ◌⊎◌, nat_le, Option, Some, None, List, map}
 use Rattle.std.specs.Prelude.{is_some, option_map, true, slice_get, if◌then◌else◌}
 use Rattle.heap_blocks.specs.declared.block.Block.{Block}
-use Rattle.guest_heap.specs.Blocks.{Blocks, IsKept, IsPlace, low_end, high_end, volume_of}
-use Rattle.memory_map.specs.Regions.{heap_begin, heap_end}
+use Rattle.guest_heap.specs.Blocks.{Blocks, IsKept, IsPlace, low_end, high_end, end_of, volume_of}
+use Rattle.memory_map.specs.Regions.{heap_size}
 use Rattle.guest_heap.specs.Entries.{Entries, block_of}
 use Rattle.guest_heap.specs.declared.entry.Entry.{Entry}
 
-abbrev pub slot_of : ℕ → ℕ
-slot_of a = (a - heap_begin) / 16
+abbrev pub slot_of : ℕ → ℕ → ℕ
+slot_of begin a = (a - begin) / 16
 
 -- the block of an entry, if it begins at an address
 abbrev pub beginning : ℕ → Option Entry → Option Block
 beginning a None = None
 beginning a (Some e) = if e.start == a then Some (block_of e) else None
 
-abbrev pub shown : Entries → List Entry → Blocks
-shown live queue = record { live = λ a. beginning a (live (slot_of a)); queue = map block_of queue }
+abbrev pub shown : ℕ → Entries → List Entry → Blocks
+shown begin live queue = record {
+  begin = begin;
+  live = λ a. beginning a (live (slot_of begin a));
+  queue = map block_of queue;
+}
 
 -- the kept block at a place
 abbrev pub kept_at : Entries → Entries → ℕ → ℕ → Option Block
@@ -68,23 +72,23 @@ IsLastKept kept to (Some b) = LastKept kept to b
 -- a kept block that begins below a place and whose interval extends past an address
 pub record PastBelow (blocks : Blocks) (to low : ℕ) (b : Block) : Type 0 where
   pub kept : IsKept blocks b
-  pub below : b.start + 16 ≤ heap_begin + 16 * to
+  pub below : b.start + 16 ≤ blocks.begin + 16 * to
   pub past : low < high_end b
-  pub within : high_end b ≤ heap_end
+  pub within : high_end b ≤ end_of blocks
 
 abbrev pub MeetsBelow : Blocks → ℕ → ℕ → Option Block → Type 0
-MeetsBelow blocks to low None = (b : Block) → IsKept blocks b → b.start < heap_begin + 16 * to → high_end b ≤ low
+MeetsBelow blocks to low None = (b : Block) → IsKept blocks b → b.start < blocks.begin + 16 * to → high_end b ≤ low
 MeetsBelow blocks to low (Some b) = PastBelow blocks to low b
 
 -- a kept block that begins at a place or above it, and whose interval begins below an address
 pub record BeforeFrom (blocks : Blocks) (from high : ℕ) (b : Block) : Type 0 where
   pub kept : IsKept blocks b
-  pub above : heap_begin + 16 * from ≤ b.start
+  pub above : blocks.begin + 16 * from ≤ b.start
   pub before : low_end b < high
-  pub within : high_end b ≤ heap_end
+  pub within : high_end b ≤ end_of blocks
 
 abbrev pub MeetsFrom : Blocks → ℕ → ℕ → Option Block → Type 0
-MeetsFrom blocks from high None = (b : Block) → IsKept blocks b → heap_begin + 16 * from ≤ b.start → high ≤ low_end b
+MeetsFrom blocks from high None = (b : Block) → IsKept blocks b → blocks.begin + 16 * from ≤ b.start → high ≤ low_end b
 MeetsFrom blocks from high (Some b) = BeforeFrom blocks from high b
 
 -- from one address up to, but not including, another no block of a size has a place with a redzone
@@ -94,42 +98,43 @@ AreNoPlaces blocks size redzone from to = (q : ℕ) → from ≤ q → q < to �
 -- the end of the interval of the last kept block that begins below an address, or the region's begin
 abbrev pub EndsBelow : Blocks → ℕ → ℕ → Type 0
 EndsBelow blocks start end =
-    (end ≡ heap_begin) ⊎ ((b : Block) × IsKept blocks b × (b.start < start) × (high_end b ≡ end))
+    (end ≡ blocks.begin) ⊎ ((b : Block) × IsKept blocks b × (b.start < start) × (high_end b ≡ end))
 
 -- the begin of the interval of the first kept block that begins above an address, or the region's end
 abbrev pub BeginsAbove : Blocks → ℕ → ℕ → Type 0
 BeginsAbove blocks start begin =
-    (begin ≡ heap_end) ⊎ ((b : Block) × IsKept blocks b × (start < b.start) × (low_end b ≡ begin))
+    (begin ≡ end_of blocks) ⊎ ((b : Block) × IsKept blocks b × (start < b.start) × (low_end b ≡ begin))
 
 -- the sizes of entries
 abbrev pub volume_in : List Entry → ℕ
 volume_in entries = volume_of (map block_of entries)
 
 -- a block's place and interval
-pub record IsPlaced (b : Block) (k : ℕ) : Type 0 where
-  pub start : b.start ≡ heap_begin + 16 * k
-  pub low : heap_begin + b.redzone ≤ b.start
-  pub high : high_end b ≤ heap_end
+pub record IsPlaced (begin : ℕ) (b : Block) (k : ℕ) : Type 0 where
+  pub start : b.start ≡ begin + 16 * k
+  pub low : begin + b.redzone ≤ b.start
+  pub high : high_end b ≤ begin + heap_size
 
-pub record IsLiveAt (e : Entry) (k : ℕ) : Type 0 where
-  pub placed : IsPlaced (block_of e) k
+pub record IsLiveAt (begin : ℕ) (e : Entry) (k : ℕ) : Type 0 where
+  pub placed : IsPlaced begin (block_of e) k
   pub live : e.freed ≡ None
 
-pub record IsQueuedAt (live freed : Entries) (first i : ℕ) (e : Entry) : Type 0 where
+pub record IsQueuedAt (begin : ℕ) (live freed : Entries) (first i : ℕ) (e : Entry) : Type 0 where
   pub number : e.number ≡ first + i
-  pub placed : IsPlaced (block_of e) (slot_of e.start)
+  pub placed : IsPlaced begin (block_of e) (slot_of begin e.start)
   pub marked : is_some e.freed ≡ true
-  pub found : freed (slot_of e.start) ≡ Some e
-  pub gone : live (slot_of e.start) ≡ None
+  pub found : freed (slot_of begin e.start) ≡ Some e
+  pub gone : live (slot_of begin e.start) ≡ None
 
 -- a freed entry that isn't too old, where there is no live block, is in the queue
-pub record IsFoundAt (queue : List Entry) (first k : ℕ) (e : Entry) : Type 0 where
+pub record IsFoundAt (begin : ℕ) (queue : List Entry) (first k : ℕ) (e : Entry) : Type 0 where
   pub queued : slice_get queue (e.number - first) ≡ Some e
-  pub start : e.start ≡ heap_begin + 16 * k
+  pub start : e.start ≡ begin + 16 * k
 
-pub record AreSound (live freed : Entries) (queue : List Entry) (first : ℕ) : Type 0 where
-  pub lives : (k : ℕ) (e : Entry) → live k ≡ Some e → IsLiveAt e k
-  pub queues : (i : ℕ) (e : Entry) → slice_get queue i ≡ Some e → IsQueuedAt live freed first i e
-  pub finds : (k : ℕ) (e : Entry) → freed k ≡ Some e → first ≤ e.number → live k ≡ None → IsFoundAt queue first k e
-  pub apart : (b c : Block) → IsKept (shown live queue) b → IsKept (shown live queue) c → b.start < c.start
+pub record AreSound (begin : ℕ) (live freed : Entries) (queue : List Entry) (first : ℕ) : Type 0 where
+  pub lives : (k : ℕ) (e : Entry) → live k ≡ Some e → IsLiveAt begin e k
+  pub queues : (i : ℕ) (e : Entry) → slice_get queue i ≡ Some e → IsQueuedAt begin live freed first i e
+  pub finds : (k : ℕ) (e : Entry) → freed k ≡ Some e → first ≤ e.number → live k ≡ None
+      → IsFoundAt begin queue first k e
+  pub apart : (b c : Block) → IsKept (shown begin live queue) b → IsKept (shown begin live queue) c → b.start < c.start
       → high_end b ≤ low_end c

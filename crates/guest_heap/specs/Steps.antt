@@ -7,8 +7,8 @@ use Rattle.std.specs.Option.{option_map}
 use Rattle.heap_blocks.specs.declared.block.Block.{Block}
 use Rattle.heap_blocks.specs.declared.block.Near.{Near}
 use Rattle.guest_heap.specs.Blocks.{Blocks, IsKept, low_end, high_end, near_of, allocated, with_live, volume_of}
-use Rattle.guest_heap.specs.Blocks.{released_at, greatest_size}
-use Rattle.memory_map.specs.Regions.{heap_begin, heap_end}
+use Rattle.guest_heap.specs.Blocks.{released_at, greatest_size, end_of}
+use Rattle.memory_map.specs.Regions.{greatest_heap_begin}
 use Rattle.guest_heap.specs.declared.released.Released.{Released}
 use Rattle.guest_heap.specs.declared.released.Released.TheVariants.{Done, Nothing, Invalid}
 
@@ -19,31 +19,35 @@ unfoldable pub multiples : ℕ → ℕ → List ℕ
 multiples from zero = []
 multiples from (suc n) = from ∷ multiples (from + 16) n
 
--- the number of them in the heap region, (heap_end - heap_begin) / 16; opaque, so that no proof counts them
+-- the number of them in the heap's region, heap_size / 16; opaque, so that no proof counts them
 unfoldable pub slots : ℕ
 slots = 33554432
 
--- the addresses at which a block may begin
-unfoldable pub starts : List ℕ
-starts = multiples heap_begin slots
+-- the addresses at which a block may begin, in a region that begins at an address
+unfoldable pub starts : ℕ → List ℕ
+starts begin = multiples begin slots
 
 -- the live blocks in order of address
 unfoldable pub live_list : Blocks → List Block
-live_list blocks = filter_map blocks.live starts
+live_list blocks = filter_map blocks.live (starts blocks.begin)
 
 -- followed by the queue
 unfoldable pub kept_list : Blocks → List Block
 kept_list blocks = live_list blocks ++ blocks.queue
 
--- a live block begins at the address where it is found, which is a multiple of 16 in the heap region
-pub record BeginsAt (b : Block) (a : ℕ) : Type 0 where
+-- a live block begins at the address where it is found, which is a multiple of 16 in the heap's region
+pub record BeginsAt (blocks : Blocks) (b : Block) (a : ℕ) : Type 0 where
   pub start : b.start ≡ a
   pub multiple : a % 16 ≡ 0
-  pub above : heap_begin ≤ a
-  pub below : a < heap_end
+  pub above : blocks.begin ≤ a
+  pub below : a < end_of blocks
 
+-- the region begins at a multiple of 16 other than 0 and ends at an address, and each live block is in it
 pub record AreInRegion (blocks : Blocks) : Type 0 where
-  pub live : (a : ℕ) (b : Block) → blocks.live a ≡ Some b → BeginsAt b a
+  pub grid : blocks.begin % 16 ≡ 0
+  pub some : 0 < blocks.begin
+  pub within : blocks.begin ≤ greatest_heap_begin
+  pub live : (a : ℕ) (b : Block) → blocks.live a ≡ Some b → BeginsAt blocks b a
 
 -- two intervals that don't meet
 abbrev pub AreClear : Block → Block → Type 0
@@ -69,13 +73,13 @@ is_free blocks low high = is_none (find (meets low high) (kept_list blocks))
 unfoldable pub is_place : Blocks → ℕ → ℕ → ℕ → Bool
 is_place blocks size redzone p =
     nat_le size greatest_size
-    && (nat_le (heap_begin + redzone) p
-    && (nat_le (p + max size 1 + redzone) heap_end
+    && (nat_le (blocks.begin + redzone) p
+    && (nat_le (p + max size 1 + redzone) (end_of blocks)
     && is_free blocks (p - redzone) (p + max size 1 + redzone)))
 
 -- the least place
 unfoldable pub place : Blocks → ℕ → ℕ → Option ℕ
-place blocks size redzone = find (is_place blocks size redzone) starts
+place blocks size redzone = find (is_place blocks size redzone) (starts blocks.begin)
 
 -- the blocks after an allocation
 abbrev pub allocated_blocks : Blocks → ℕ → List ℕ → ℕ → Blocks
@@ -89,6 +93,7 @@ queue_after volume (b ∷ bs) = if nat_le (volume_of (b ∷ bs)) volume then b �
 -- the blocks after a release, by what it returns
 abbrev pub after_release : Released → ℕ → Blocks → Blocks
 after_release (Done b) volume blocks = record {
+  begin = blocks.begin;
   live = with_live blocks.live b.start None;
   queue = queue_after volume (blocks.queue ++ b ∷ []);
 }

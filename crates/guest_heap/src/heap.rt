@@ -1,5 +1,6 @@
 //! The heap: its contents, and the changes to it.
-ghost use Rattle.std.specs.Prelude.{◌≡◌, ◌+◌, ◌≤◌, length};
+ghost use Rattle.std.specs.Prelude.{◌<◌, ◌≡◌, ◌+◌, ◌%◌, ◌<◌, ◌≤◌, length};
+ghost use Rattle.memory_map.specs.Regions.{greatest_heap_begin};
 ghost use Rattle.guest_heap.specs.Tables.{entries_of};
 ghost use Rattle.guest_heap.specs.Queues.{queued};
 ghost use Rattle.guest_heap.specs.States.{AreSound, volume_in, shown};
@@ -11,6 +12,7 @@ use crate::queue::Queue;
 use crate::table::Table;
 use crate::traces::{RecentTraces, SharedTrace};
 use call_stacks::Trace;
+use memory_map::Regions;
 use std::alloc::{AllocError, Global};
 
 pub(crate) mod comparing;
@@ -22,6 +24,8 @@ pub(crate) mod searches;
 /// The live blocks of a guest's heap, and the queue of the freed ones.
 #[derive(Drop)]
 pub struct Heap {
+    // The first address of the region.
+    begin: u32,
     live: Table,
     freed: Table,
     queue: Queue,
@@ -34,10 +38,13 @@ pub struct Heap {
     redzone: u32,
     bounds: Bounds,
     traces: RecentTraces,
-    ghost sound: { AreSound (entries_of live) (entries_of freed) (queued queue) first },
+    ghost grid: { begin % 16 ≡ 0 },
+    ghost some: { 0 < begin },
+    ghost within: { begin ≤ greatest_heap_begin },
+    ghost sound: { AreSound begin (entries_of live) (entries_of freed) (queued queue) first },
     ghost numbered: { next ≡ first + length (queued queue) },
     ghost volume: { held ≡ volume_in (queued queue) },
-    ghost bounded: { AreBounds (shown (entries_of live) (queued queue)) redzone (bounds_in bounds) },
+    ghost bounded: { AreBounds (shown begin (entries_of live) (queued queue)) redzone (bounds_in bounds) },
 }
 
 #[tactic(auto, unfolding(crate::specs::Heaps::blocks_of))]
@@ -45,11 +52,19 @@ impl Heap {
     ghost use Rattle.std.specs.Prelude.{IfOk, None, []};
     ghost use Rattle.guest_heap.specs.Heaps.{blocks_of};
     ghost use Rattle.guest_heap.specs.Blocks.{no_blocks};
+    ghost use Rattle.memory_map.specs.Regions.{heap_begin};
     ghost use Rattle.guest_heap.specs.Steps.{AreInRegion, AreApart};
 
-    /// Returns a heap with no blocks. Allocates nothing.
+    /// Returns a heap with no blocks, whose region is that of [`Regions::USUAL`]. Allocates nothing.
     pub fn new(alloc: Global) -> Heap
-        ensures { blocks_of result ≡ no_blocks }
+        ensures { blocks_of result ≡ no_blocks heap_begin }
+    {
+        Heap::new_in(alloc, Regions::USUAL)
+    }
+
+    /// Returns a heap with no blocks, whose region is that of `regions`. Allocates nothing.
+    pub fn new_in(alloc: Global, regions: Regions) -> Heap
+        ensures { blocks_of result ≡ no_blocks regions.heap }
     {
         let live = Table::new();
         let freed = Table::new();
@@ -57,6 +72,7 @@ impl Heap {
         let bounds = Bounds::new();
         let traces = RecentTraces::new();
         Heap {
+            begin: regions.heap_begin(),
             live,
             freed,
             queue,
@@ -80,6 +96,7 @@ impl Heap {
         let bounds = self.bounds.share()?;
         let traces = self.traces.clone()?;
         Ok(Heap {
+            begin: self.begin,
             live,
             freed,
             queue,
@@ -100,10 +117,17 @@ impl Heap {
         self.traces.share(alloc, trace)
     }
 
-    /// Does nothing. Its contract says that the live blocks of a heap are in the heap region, which the laws of the heap calls require.
+    /// Does nothing. Its contract says that the live blocks of a heap are in its region, which the laws of the heap calls require.
     pub fn in_region(&self)
         ensures { AreInRegion (blocks_of self.now) }
     {}
+
+    /// Returns the first address of the region.
+    pub fn begin(&self) -> u32
+        ensures { result ≡ (blocks_of self.now).begin }
+    {
+        self.begin
+    }
 
     /// Does nothing. Its contract says that the kept blocks of a heap are apart.
     pub fn apart(&self)

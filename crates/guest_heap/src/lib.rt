@@ -2,19 +2,21 @@
 //!
 //! A heap call of the guest asks a [`Heap`] for the lowest place, or frees the block at an address. A freed block is kept in a queue of
 //! bounded volume, so that errors can name it, and its place isn't used again before it leaves the queue (Memcheck manual, section 4.3,
-//! `--freelist-vol`). Either side of a block has a redzone (Valgrind core manual, section 2.6, `--redzone-size`).
+//! `--freelist-vol`). Either side of a block has a redzone (Valgrind core manual, section 2.6, `--redzone-size`). All lie in the heap's
+//! region, whose first address is chosen when the heap is made, and whose size is `memory_map::HEAP_SIZE`.
 //!
 //! # Public items
 //!
 //! | Call | What it does |
 //! |---|---|
-//! | [`Heap::new`] | returns a heap with no blocks |
+//! | [`Heap::new`], [`Heap::new_in`] | return a heap with no blocks, in the usual region or in another |
 //! | [`Heap::allocate`] | allocates a block and returns its start, the least place of all, or none if there is no place |
 //! | [`Heap::release`] | frees a block and returns it; the queue is then the longest suffix whose sizes sum to at most the volume |
 //! | [`Heap::live`] | returns the live block with the least start that isn't below an address |
 //! | [`Heap::block_near`] | returns the kept block whose interval holds an address, and where in it the address lies |
 //! | [`Heap::is_same`] | returns whether another heap has the same blocks |
 //! | [`Heap::share`] | returns a copy, which later changes of the original don't reach |
+//! | [`Heap::begin`] | returns the first address of the heap's region |
 //! | [`Heap::in_region`], [`Heap::apart`] | do nothing; their contracts say what the laws require of a heap's blocks |
 //! | [`laws`] | do nothing; their contracts say what the functions of the definitions mean |
 //!
@@ -39,7 +41,7 @@
 //!
 //! # Costs
 //!
-//! Blocks are in two tables, live and freed, that are trees over the multiples of 16 of the heap region: a row of up to 128 rows of up to
+//! Blocks are in two tables, live and freed, that are trees over the multiples of 16 of the heap's region: a row of up to 128 rows of up to
 //! 64 rows of up to 64 leaves, and a leaf has 64 places. The queue is in runs of 256 blocks. Copies share what neither has changed. So a
 //! search is a few steps, a change after a copy copies one row of each kind and one leaf, and `share` copies a reference for each table and
 //! one for each run. What is kept of a block has references to its traces. Blocks of the same calls share these while the heap remembers

@@ -1,13 +1,9 @@
-//! The heap region, and its multiples of 16, at which blocks begin.
+//! The heap's region, and its multiples of 16, at which blocks begin.
 ghost use Rattle.std.specs.Prelude.{◌≡◌, ◌<◌, ◌≤◌, ◌+◌, ◌%◌};
-ghost use Rattle.memory_map.specs.Regions.{heap_begin};
+ghost use Rattle.memory_map.specs.Regions.{heap_size};
 ghost use Rattle.guest_heap.specs.States.{slot_of};
 
-/// The first address of the region.
-pub(crate) const HEAP_BEGIN: u64 = memory_map::HEAP_BEGIN as u64;
-
-/// The first address after the region.
-pub(crate) const HEAP_END: u64 = memory_map::HEAP_END as u64;
+use memory_map::HEAP_SIZE;
 
 /// The number of multiples of 16 in the region.
 pub(crate) const SLOTS: usize = 33554432;
@@ -15,12 +11,20 @@ pub(crate) const SLOTS: usize = 33554432;
 /// The size of the greatest block, in bytes.
 pub(crate) const GREATEST_SIZE: u32 = 16777216;
 
-/// Returns the slot of an address of the region: the number of multiples of 16 in the region that lie below it.
-pub(crate) fn slot_of(address: u32) -> usize
-    requires { heap_begin ≤ address }
-    ensures { result ≡ slot_of address }
+/// Returns the first address after the region that begins at an address.
+#[inline(always)]
+pub(crate) fn end_of(begin: u32) -> u64
+    ensures { result ≡ begin + heap_size }
 {
-    ((u64::from(address) - HEAP_BEGIN) / 16) as usize
+    u64::from(begin) + u64::from(HEAP_SIZE)
+}
+
+/// Returns the slot of an address of the region that begins at `begin`: the number of multiples of 16 in the region that lie below it.
+pub(crate) fn slot_of(begin: u32, address: u32) -> usize
+    requires { begin ≤ address }
+    ensures { result ≡ slot_of begin address }
+{
+    ((u64::from(address) - u64::from(begin)) / 16) as usize
 }
 
 /// Returns the least multiple of 16 that isn't below an address.

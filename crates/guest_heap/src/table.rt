@@ -1,4 +1,4 @@
-//! Blocks by their places: the multiples of 16 of the heap region, in order. Copies share what neither has changed.
+//! Blocks by their places: the multiples of 16 of the heap's region, in order. Copies share what neither has changed.
 
 use crate::entry::Entry;
 use crate::table::leaf::Leaf;

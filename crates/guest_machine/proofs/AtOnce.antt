@@ -29,7 +29,7 @@ no-value-error core r known_is = ap (λ n. event_unless (eqb n 0) (here core) Ki
 no-access-error : (core : Core) (kind : Kind) (start n : ℕ) → first_inaccessible core.shadow start n ≡ None
     → access_errors core kind start n ≡ []
 unfolding event_about
-no-access-error core kind start n none = ap (event_about core.blocks (here core) kind) none
+no-access-error core kind start n none = ap (event_about core.stack core.blocks (here core) kind) none
 
 -- no undefined bit is repeated upwards
 nothing-extended : (width : Width) (signed : Bool) → extended width signed 0 ≡ 0

@@ -7,7 +7,8 @@ use Rattle.shadow_memory.specs.Ranges.{above, offset, is_in, changed_in, window,
 use Rattle.shadow_memory.specs.Changes.{AreApart}
 use Rattle.heap_blocks.specs.declared.block.Block.{Block}
 use Rattle.guest_machine.specs.HeapCalls.{IsClearOf}
-use Rattle.guest_heap.specs.Blocks.{Blocks, IsKept, Places, IsFirstLive, low_end, high_end}
+use Rattle.memory_map.specs.Regions.{greatest_heap_begin, heap_size}
+use Rattle.guest_heap.specs.Blocks.{Blocks, IsKept, Places, IsFirstLive, greatest_size, low_end, high_end}
 use Rattle.guest_heap.specs.Steps.{place, AreInRegion}
 use Rattle.guest_heap.specs.Laws.{PlaceIsLeast}
 use Rattle.guest_machine.specs.Effects.{no_bytes}
@@ -50,16 +51,18 @@ copied_written f from to n = fun_ext (λ a. go a (is_in to n a) refl)
 
 -- a live block lies apart from one that is allocated then
 pub moved_apart : (blocks : Blocks) (b : Block) (p q size redzone n : ℕ) → blocks.live p ≡ Some b → b.start ≡ p
-    → p < 0x60000000 → IsClearOf blocks size redzone q
-    → redzone ≤ q → q + max size 1 + redzone ≤ 0x60000000 → n ≤ b.size → n ≤ size → AreApart p q n
-moved_apart blocks b p q size redzone n live start low clear left right few some i h =
+    → p < greatest_heap_begin + heap_size → IsClearOf blocks size redzone q → size ≤ greatest_size
+    → redzone ≤ q → q + max size 1 + redzone ≤ greatest_heap_begin + heap_size → n ≤ b.size → n ≤ size
+    → AreApart p q n
+moved_apart blocks b p q size redzone n live start low clear small left right few some i h =
     let kept : IsKept blocks b = inl (subst (λ a. blocks.live a ≡ Some b) (sym start) live) in
     let not-met : (q - redzone < high_end b) → (low_end b < q + max size 1 + redzone)
     → ⊥ = λ x y. clear b kept (x, y) in
-    go p q size redzone n i b.start b.size b.redzone start not-met low left right few some h
+    go p q size redzone n i b.start b.size b.redzone start not-met low small left right few some h
   where
     go : (p q size redzone n i start bytes zone : ℕ) → start ≡ p
         → ((q - redzone < start + max bytes 1 + zone) → (start - zone < q + max size 1 + redzone) → ⊥)
-        → p < 0x60000000 → redzone ≤ q → q + max size 1 + redzone ≤ 0x60000000 → n ≤ bytes → n ≤ size → i < n
+        → p < greatest_heap_begin + heap_size → size ≤ greatest_size → redzone ≤ q
+        → q + max size 1 + redzone ≤ greatest_heap_begin + heap_size → n ≤ bytes → n ≤ size → i < n
         → is_in q n (above p i) ≡ false
-    go p q size redzone n i start bytes zone s m low left right few some h = grind (arith, nat_tests)
+    go p q size redzone n i start bytes zone s m low small left right few some h = grind (arith, nat_tests)

@@ -9,6 +9,7 @@ use Rattle.shadow_memory.specs.Shadows.{first_inaccessible}
 use Rattle.guest_elf.specs.declared.hook.Hook.{Hook}
 use Rattle.guest_elf.specs.declared.hook.Hook.TheVariants.{Malloc, Free, Calloc, Realloc}
 use Rattle.guest_elf.specs.declared.profile.Isa.{Isa}
+use Rattle.memory_map.specs.declared.regions.StackRegion.{StackRegion}
 use Rattle.guest_elf.specs.declared.profile.Isa.TheVariants.{Rv32im}
 use Rattle.guest_heap.specs.Steps.{place}
 use Rattle.guest_heap.specs.declared.released.Released.{Released}
@@ -33,7 +34,7 @@ use Rattle.definedness.specs.declared.Bits.{Bits}
 use Rattle.run_values.specs.declared.status.Stop.TheVariants.{Illegal, Misaligned}
 use Rattle.shadow_memory.specs.declared.cells.RangeKind.{RangeKind}
 use Rattle.shadow_memory.specs.declared.cells.RangeKind.TheVariants.{NoAccess, Undefined, Defined}
-use Rattle.guest_machine.specs.State.{Core}
+use Rattle.guest_machine.specs.State.{Core, State}
 use Rattle.guest_machine.specs.Registers.{defined, known, register, set_register, tested}
 use Rattle.guest_machine.specs.StackPointer.{framed, is_stack_pointer, largest_frame, ranged, stack_moved, stack_ruled}
 use Rattle.guest_machine.specs.Atomics.{admits, admitted, atomic_effect, is_reserved, not_admitted, not_stored}
@@ -55,78 +56,87 @@ use Rattle.guest_machine.specs.Exec.{fetch_by}
 use Rattle.guest_machine.specs.Exec.{fetch_fault, fetched, half_at, word_at, word_fault}
 use Rattle.guest_machine.specs.Exec.{called_here, deed_at, fetches, is_running, jump_fault, outcome}
 use Rattle.guest_machine.specs.Exec.{row_effect, unfetched}
-use Rattle.guest_machine.specs.Laws.{GoesByFours, IsByFours, KeepsIsa}
+use Rattle.guest_machine.specs.declared.setup.Setup.{Setup}
+use Rattle.guest_machine.specs.Laws.{GoesByFours, IsByFours, KeepsIsa, KeepsRegions}
 use Rattle.guest_machine.specs.declared.environment_call.EnvironmentCall.{EnvironmentCall}
 use Rattle.guest_machine.specs.declared.environment_call.EnvironmentCall.TheVariants.{Read, Write, Exit, ExitGroup}
 use Rattle.guest_machine.specs.declared.environment_call.EnvironmentCall.TheVariants.{Heap, Unknown}
 use Rattle.guest_machine.proofs.StreamLaw.{reads-in, writes-from}
 
-either : (b : Bool) (isa : Isa) (x y : Core) → x.isa ≡ isa → y.isa ≡ isa → (cond b x y).isa ≡ isa
-either true isa x y h k = h
-either false isa x y h k = k
+-- what no step changes: the instruction set, the region of the stack, and where the heap's region begins
+abbrev Fixed : Type 0
+Fixed = Isa × StackRegion × ℕ
+
+abbrev fixed : Core → Fixed
+fixed c = (c.isa, c.stack, c.blocks.begin)
+
+either : (b : Bool) (f : Fixed) (x y : Core) → fixed x ≡ f → fixed y ≡ f → fixed (cond b x y) ≡ f
+either true f x y h k = h
+either false f x y h k = k
 
 -- ---- tests
 
-tests : (c : Core) (r : ℕ) → (tested c r).isa ≡ c.isa
+tests : (c : Core) (r : ℕ) → fixed (tested c r) ≡ fixed c
 unfolding tested set_register
-tests c r = either ((register c r).undef == 0) c.isa c (defined c r) refl refl
+tests c r = either ((register c r).undef == 0) (fixed c) c (defined c r) refl refl
 
-tests-from : (c : Core) (r : ℕ) (ps : List Parameter) → (tested_from c r ps).isa ≡ c.isa
+tests-from : (c : Core) (r : ℕ) (ps : List Parameter) → fixed (tested_from c r ps) ≡ fixed c
 unfolding tested_from
 tests-from c r [] = refl
 tests-from c r (p ∷ ps) = tests-from (tested c r) (r + 1) ps ∙ tests c r
 
-call-tests : (c : Core) (call : EnvironmentCall) → (call_tested c call).isa ≡ c.isa
+call-tests : (c : Core) (call : EnvironmentCall) → fixed (call_tested c call) ≡ fixed c
 call-tests c call = tests-from (tested c 17) 10 (parameters_of call) ∙ tests c 17
 
 -- ---- the stack pointer rule
 
-frames : (c : Core) (low high : ℕ) (kind : RangeKind) → (framed c low high kind).isa ≡ c.isa
+frames : (c : Core) (low high : ℕ) (kind : RangeKind) → fixed (framed c low high kind) ≡ fixed c
 unfolding framed
 frames c low high kind =
-    either (nat_le (high - low) largest_frame) c.isa (ranged c low (high - low) kind) c refl refl
+    either (nat_le (high - low) largest_frame) (fixed c) (ranged c low (high - low) kind) c refl refl
 
-moves : (c : Core) (old new : ℕ) → (stack_moved c old new).isa ≡ c.isa
+moves : (c : Core) (old new : ℕ) → fixed (stack_moved c old new) ≡ fixed c
 unfolding stack_moved
 moves c old new =
-    either (nat_lt new old) c.isa (framed c new old Undefined) (cond (nat_lt old new) (framed c old new NoAccess) c)
+    either (nat_lt new old) (fixed c) (framed c new old Undefined) (cond (nat_lt old new) (framed c old new NoAccess) c)
     (frames c new old Undefined)
-    (either (nat_lt old new) c.isa (framed c old new NoAccess) c (frames c old new NoAccess) refl)
+    (either (nat_lt old new) (fixed c) (framed c old new NoAccess) c (frames c old new NoAccess) refl)
 
-rules : (old : Bits) (c : Core) → (stack_ruled old c).isa ≡ c.isa
+rules : (old : Bits) (c : Core) → fixed (stack_ruled old c) ≡ fixed c
 unfolding stack_ruled
 rules old c =
-    either (is_stack_pointer old && is_stack_pointer (register c 2)) c.isa
+    either (is_stack_pointer c.stack old && is_stack_pointer c.stack (register c 2)) (fixed c)
     (stack_moved c old.value (register c 2).value) c (moves c old.value (register c 2).value) refl
 
 -- ---- jumps
 
-links : (c : Core) (next : ℕ) (hint : StackHint) (rd to : ℕ) → (linked_jump c next hint rd to).isa ≡ c.isa
+links : (c : Core) (next : ℕ) (hint : StackHint) (rd to : ℕ) → fixed (linked_jump c next hint rd to) ≡ fixed c
 unfolding linked_jump set_register
 links c next hint rd to =
-    either (is_aligned c.isa to) c.isa (moved_to (set_register (followed c next hint to) rd (known next)) to)
+    either (is_aligned c.isa to) (fixed c) (moved_to (set_register (followed c next hint to) rd (known next)) to)
     (stopped c Misaligned) refl refl
 
-branches : (b : Bool) (c : Core) (next to : ℕ) → (branched b c next to).isa ≡ c.isa
+branches : (b : Bool) (c : Core) (next to : ℕ) → fixed (branched b c next to) ≡ fixed c
 unfolding branched jumped
-branches true c next to = either (is_aligned c.isa to) c.isa (moved_to c to) (stopped c Misaligned) refl refl
+branches true c next to = either (is_aligned c.isa to) (fixed c) (moved_to c to) (stopped c Misaligned) refl refl
 branches false c next to = refl
 
 -- ---- the heap
 
-frees : (c : Core) (released : Released) (volume : ℕ) → (freed c released volume).isa ≡ c.isa
+frees : (c : Core) (released : Released) (volume : ℕ) → fixed (freed c released volume) ≡ fixed c
 unfolding freed
 frees c (Done b) volume = refl
 frees c Nothing volume = refl
 frees c Invalid volume = refl
 
 allocates : (c : Core) (found : Option ℕ) (size redzone : ℕ) (kind : RangeKind)
-    → (block_at c found size redzone kind).isa ≡ c.isa
+    → fixed (block_at c found size redzone kind) ≡ fixed c
 unfolding block_at set_register
 allocates c None size redzone kind = refl
 allocates c (Some p) size redzone kind = refl
 
-resizes : (c : Core) (p size redzone volume : ℕ) (what : Resizing) → (resized c p size redzone volume what).isa ≡ c.isa
+resizes : (c : Core) (p size redzone volume : ℕ) (what : Resizing)
+    → fixed (resized c p size redzone volume what) ≡ fixed c
 unfolding resized set_register
 resizes c p size redzone volume Allocates = allocates c (place c.blocks size redzone) size redzone Undefined
 resizes c p size redzone volume Refuses = refl
@@ -135,7 +145,7 @@ resizes c p size redzone volume Keeps = refl
 resizes c p size redzone volume (Moves b q) = frees _ _ volume
 
 works : (function : Hook) (c : Core) (x y redzone volume : ℕ) (taken : ℕ → ℕ)
-    → (heap_work function c x y redzone volume taken).core.isa ≡ c.isa
+    → fixed (heap_work function c x y redzone volume taken).core ≡ fixed c
 unfolding heap_work set_register
 works Malloc c x y redzone volume taken = allocates c (place c.blocks x redzone) x redzone Undefined
 works Free c x y redzone volume taken = frees c (released_here c x) volume
@@ -143,7 +153,7 @@ works Calloc c x y redzone volume taken = allocates c (place c.blocks (x * y) re
 works Realloc c x y redzone volume taken = resizes c x y redzone volume (resizing c.blocks x y redzone)
 
 named : (b : Bool) (function : Hook) (c : Core) (redzone volume : ℕ) (taken : ℕ → ℕ)
-    → (named_by b function c redzone volume taken).core.isa ≡ c.isa
+    → fixed (named_by b function c redzone volume taken).core ≡ fixed c
 unfolding named_by
 named true function c redzone volume taken =
     works function (named_tested c function) (argument c 10) (argument c 11) redzone volume taken
@@ -152,27 +162,27 @@ named false function c redzone volume taken = tests c 1
 
 -- ---- calls
 
-either-effect : (b : Bool) (isa : Isa) (e h : Effect) → e.core.isa ≡ isa → h.core.isa ≡ isa
-    → (cond b e h).core.isa ≡ isa
-either-effect true isa e h p q = p
-either-effect false isa e h p q = q
+either-effect : (b : Bool) (f : Fixed) (e h : Effect) → fixed e.core ≡ f → fixed h.core ≡ f
+    → fixed (cond b e h).core ≡ f
+either-effect true f e h p q = p
+either-effect false f e h p q = q
 
-answer : (c : Core) (next : ℕ) (call : EnvironmentCall) (n : ℕ) → (answers c next call n).core.isa ≡ c.isa
+answer : (c : Core) (next : ℕ) (call : EnvironmentCall) (n : ℕ) → fixed (answers c next call n).core ≡ fixed c
 unfolding set_register
 answer c next call n = call-tests c call
 
 calls : (c : Core) (next : ℕ) (call : EnvironmentCall) (terms : Terms) (given : List ℕ) (taken : ℕ → ℕ)
-    → (call_effect c next call terms given taken).core.isa ≡ c.isa
+    → fixed (call_effect c next call terms given taken).core ≡ fixed c
 unfolding call_effect read_call write_call reads-in writes-from set_register
 calls c next Read terms given taken =
-    either-effect (argument c 10 == 0) c.isa (reads-in c next terms.intake.count given)
+    either-effect (argument c 10 == 0) (fixed c) (reads-in c next terms.intake.count given)
     (answers c next Read (failure ebadf)) (call-tests c Read) (answer c next Read (failure ebadf))
 calls c next Write terms given taken =
-    either-effect (is_output (argument c 10)) c.isa
+    either-effect (is_output (argument c 10)) (fixed c)
     (cond (nat_le (terms.written + moved_len c) output_room) (writes-from c next taken)
     (answers c next Write (failure enospc)))
     (answers c next Write (failure ebadf))
-    (either-effect (nat_le (terms.written + moved_len c) output_room) c.isa (writes-from c next taken)
+    (either-effect (nat_le (terms.written + moved_len c) output_room) (fixed c) (writes-from c next taken)
     (answers c next Write (failure enospc)) (call-tests c Write) (answer c next Write (failure enospc)))
     (answer c next Write (failure ebadf))
 calls c next Exit terms given taken = call-tests c Exit
@@ -185,45 +195,45 @@ calls c next Unknown terms given taken = call-tests c Unknown
 -- ---- atomic instructions
 
 admitted-keeps : (c : Core) (next : ℕ) (atomic : Atomic) (rd rs1 rs2 : ℕ) (taken : ℕ → ℕ)
-    → (admitted c next atomic rd rs1 rs2 taken).core.isa ≡ c.isa
+    → fixed (admitted c next atomic rd rs1 rs2 taken).core ≡ fixed c
 unfolding set_register
 admitted-keeps c next LoadReserved rd rs1 rs2 taken = tests c rs1
 admitted-keeps c next StoreConditional rd rs1 rs2 taken =
-    either-effect (is_reserved c rs1) c.isa (resulting rd 0 (store c next Word4 rs1 rs2 0))
+    either-effect (is_reserved c rs1) (fixed c) (resulting rd 0 (store c next Word4 rs1 rs2 0))
     (resulting rd 1 (not_stored c next rs1)) (tests c rs1) (tests c rs1)
 admitted-keeps c next (Updating update) rd rs1 rs2 taken = tests c rs1
 
 atomic-keeps : (c : Core) (next : ℕ) (atomic : Atomic) (rd rs1 rs2 : ℕ) (taken : ℕ → ℕ)
-    → (atomic_effect c next atomic rd rs1 rs2 taken).core.isa ≡ c.isa
+    → fixed (atomic_effect c next atomic rd rs1 rs2 taken).core ≡ fixed c
 unfolding atomic_effect
 atomic-keeps c next atomic rd rs1 rs2 taken =
-    either-effect (admits c rs1) c.isa (admitted c next atomic rd rs1 rs2 taken) (not_admitted c rs1)
+    either-effect (admits c rs1) (fixed c) (admitted c next atomic rd rs1 rs2 taken) (not_admitted c rs1)
     (admitted-keeps c next atomic rd rs1 rs2 taken)
-    (either-effect (has_atomics c.isa) c.isa (raising (stopped (tested c rs1) Misaligned) (value_errors c rs1))
+    (either-effect (has_atomics c.isa) (fixed c) (raising (stopped (tested c rs1) Misaligned) (value_errors c rs1))
     (stops c Illegal) (tests c rs1) refl)
 
 -- ---- a step
 
-branch-tests : (c : Core) (test : Comparison) (rs1 rs2 : ℕ) → (branch_tested c test rs1 rs2).isa ≡ c.isa
+branch-tests : (c : Core) (test : Comparison) (rs1 rs2 : ℕ) → fixed (branch_tested c test rs1 rs2) ≡ fixed c
 unfolding branch_tested set_register
 branch-tests c test rs1 rs2 =
-    either (is_undefined c test rs1 rs2) c.isa (defined (defined c rs1) rs2) c refl refl
+    either (is_undefined c test rs1 rs2) (fixed c) (defined (defined c rs1) rs2) c refl refl
 
 control-keeps : (c : Core) (next : ℕ) (access : ControlAccess) (rd number : ℕ) (operand : ControlOperand)
-    → (control_effect c next access rd number operand).core.isa ≡ c.isa
+    → fixed (control_effect c next access rd number operand).core ≡ fixed c
 unfolding control_effect set_register
 control-keeps c next access rd number operand =
-    either-effect (has_control c access number operand) c.isa
+    either-effect (has_control c access number operand) (fixed c)
     (results_in (record c { controls = controls_after c access number operand }) next rd (control c number))
     (stops c Illegal) refl refl
 
-barrier-keeps : (c : Core) (next : ℕ) → (barrier c next).core.isa ≡ c.isa
+barrier-keeps : (c : Core) (next : ℕ) → fixed (barrier c next).core ≡ fixed c
 unfolding barrier
 barrier-keeps c next =
-    either-effect (has_controls c.isa) c.isa (quiet (moved_to c next)) (stops c Illegal) refl refl
+    either-effect (has_controls c.isa) (fixed c) (quiet (moved_to c next)) (stops c Illegal) refl refl
 
 row-keeps : (c : Core) (next : ℕ) (row : Option Instruction) (terms : Terms) (given : List ℕ) (taken : ℕ → ℕ)
-    → (row_effect c next row terms given taken).core.isa ≡ c.isa
+    → fixed (row_effect c next row terms given taken).core ≡ fixed c
 unfolding row_effect set_register
 row-keeps c next None terms given taken = refl
 row-keeps c next (Some (LoadUpper rd imm)) terms given taken = refl
@@ -250,20 +260,20 @@ row-keeps c next (Some (rows.Control access rd number operand)) terms given take
     control-keeps c next access rd number operand
 row-keeps c next (Some rows.Barrier) terms given taken = barrier-keeps c next
 
-fault-keeps : (c : Core) (fault : Option ℕ) → (jump_fault c fault).core.isa ≡ c.isa
+fault-keeps : (c : Core) (fault : Option ℕ) → fixed (jump_fault c fault).core ≡ fixed c
 fault-keeps c None = refl
 fault-keeps c (Some a) = refl
 
-none-taken : (c : Core) → (unfetched c).core.isa ≡ c.isa
+none-taken : (c : Core) → fixed (unfetched c).core ≡ fixed c
 unfolding unfetched
 none-taken c =
-    either-effect (is_running c.status) c.isa
+    either-effect (is_running c.status) (fixed c)
     (cond (is_aligned c.isa c.pc) (jump_fault c (fetch_fault c)) (stops c Misaligned)) (quiet c)
-    (either-effect (is_aligned c.isa c.pc) c.isa (jump_fault c (fetch_fault c)) (stops c Misaligned)
+    (either-effect (is_aligned c.isa c.pc) (fixed c) (jump_fault c (fetch_fault c)) (stops c Misaligned)
     (fault-keeps c (fetch_fault c)) refl) refl
 
 deed-keeps : (c : Core) (terms : Terms) (deed : Deed) (given : List ℕ) (taken : ℕ → ℕ)
-    → (outcome c terms deed given taken).core.isa ≡ c.isa
+    → fixed (outcome c terms deed given taken).core ≡ fixed c
 deed-keeps c terms (Takes code) given taken =
     rules (register c 2) (row_effect c (next_of c (len_of code)) (row_of_code code) terms given taken).core
     ∙ row-keeps c (next_of c (len_of code)) (row_of_code code) terms given taken
@@ -272,9 +282,18 @@ deed-keeps c terms (CallsByName function) given taken =
     named (returns c) function c terms.redzone terms.volume taken
 deed-keeps c terms Halts given taken = none-taken c
 
-pub keeps-isa : KeepsIsa
+keeps-fixed : (setup : Setup) (s : State) → fixed (exec s setup).core ≡ fixed s.core
 unfolding exec effect_at outcome_at
-keeps-isa setup s = deed-keeps s.core _ (deed_at s.core s.bytes setup.hooks) _ _
+keeps-fixed setup s = deed-keeps s.core _ (deed_at s.core s.bytes setup.hooks) _ _
+
+pub keeps-isa : KeepsIsa
+keeps-isa setup s = ap (λ (f : Fixed). f.0) (keeps-fixed setup s)
+
+pub keeps-regions : KeepsRegions
+keeps-regions = record {
+  stack = λ setup s. ap (λ (f : Fixed). f.1) (keeps-fixed setup s);
+  heap = λ setup s. ap (λ (f : Fixed). f.2) (keeps-fixed setup s);
+}
 
 -- ---- where an instruction may begin
 

@@ -17,7 +17,9 @@ use Rattle.shadow_memory.specs.Shadows.{shadow_of, made_so}
 use Rattle.shadow_memory.specs.Memories.{bytes_in, shadows_in}
 use Rattle.guest_machine.specs.Registers.{known}
 use Rattle.guest_machine.specs.Loading.{loaded_bytes, loaded_shadows}
-use Rattle.guest_machine.specs.Run.{start_state, stack_start}
+use Rattle.guest_machine.specs.Run.{image_bytes, image_shadows, start_state, stack_start}
+use Rattle.guest_machine.specs.Effects.{no_bytes}
+use Rattle.memory_map.specs.declared.regions.StackRegion.{StackRegion}
 use Rattle.error_events.specs.Groups.{grouped, firsts_after}
 use Rattle.error_events.specs.Shown.{groups_of}
 use Rattle.std.specs.declared.alloc.Global.{Global}
@@ -37,15 +39,16 @@ none-made false = refl
 
 pub holds-start : (alloc : Global) (image : Image) (fresh loaded memory : Memory) (groups : Groups)
     (frames : List Frame) (heap : Heap) (controls : ControlRegisters) (segments : List Segment) (pc : ℕ) (isa : Isa)
-    (zeros top : Bits)
+    (stack : StackRegion) (from : ℕ) (zeros top : Bits)
     → bytes_in fresh ≡ (λ a. 0) → shadows_in fresh ≡ (λ a. shadow_of NoAccess)
     → bytes_in loaded ≡ loaded_bytes segments (bytes_in fresh)
     → shadows_in loaded ≡ loaded_shadows segments (shadows_in fresh)
-    → bytes_in memory ≡ written (bytes_in loaded) stack_start 16 (slice_index [])
-    → shadows_in memory ≡ made_so (shadows_in loaded) stack_start 16 Defined
-    → segments ≡ segments_of image → pc ≡ entry_of image → isa ≡ (profile_of image).isa → zeros ≡ known 0
-    → top ≡ known stack_start
-    → groups_of groups ≡ [] → frames ≡ [] → blocks_of heap ≡ no_blocks → registers_in controls ≡ no_registers
+    → bytes_in memory ≡ written (bytes_in loaded) from 16 (slice_index [])
+    → shadows_in memory ≡ made_so (shadows_in loaded) from 16 Defined
+    → segments ≡ segments_of image → pc ≡ entry_of image → isa ≡ (profile_of image).isa
+    → stack ≡ (profile_of image).regions.stack → from ≡ stack_start image → zeros ≡ known 0 → top ≡ known from
+    → groups_of groups ≡ [] → frames ≡ [] → blocks_of heap ≡ no_blocks (profile_of image).regions.heap
+    → registers_in controls ≡ no_registers
     → (zero : slice_index_or (slice_set (replicate 32 zeros) 2 top) 0 (known 0) ≡ known 0)
     → Holds (record {
       alloc = alloc;
@@ -58,6 +61,7 @@ pub holds-start : (alloc : Global) (image : Image) (fresh loaded memory : Memory
       progress = record { position = 0; end_seen = false; output_len = 0; heap_calls = 0 };
       noted = record { groups = groups; raised = false };
       isa = isa;
+      stack = stack;
       reserved = None;
       controls = controls;
       steps = 0;
@@ -65,18 +69,21 @@ pub holds-start : (alloc : Global) (image : Image) (fresh loaded memory : Memory
     })
     (start_state image)
 unfolding start_state loaded_bytes loaded_shadows loaded_at grouped firsts_after
-holds-start alloc image fresh loaded memory groups frames heap controls segments pc isa zeros top b0 s0 b1 s1 b2 s2
-    same at set z t g calls none untouched zero =
+holds-start alloc image fresh loaded memory groups frames heap controls segments pc isa stack from zeros top b0 s0 b1 s1
+    b2 s2 same at set is-stack starts z t g calls none untouched zero =
     record {
-      bytes = b2 ∙ ap₂ (λ f m. written f stack_start 16 m) (b1 ∙ ap₂ loaded_bytes same b0) (fun_ext (λ i. refl));
+      bytes = b2 ∙ ap₂ (λ f m. written f from 16 m) (b1 ∙ ap₂ loaded_bytes same b0) (fun_ext (λ i. refl))
+          ∙ ap (λ n. written (image_bytes image) n 16 no_bytes) starts;
       core = λ i. record {
-        shadow = (s2 ∙ ap (λ f. made_so f stack_start 16 Defined) (s1 ∙ ap₂ loaded_shadows same s0)) i;
-        registers = slice_set (replicate 32 (z i)) 2 (t i);
+        shadow = (s2 ∙ ap (λ f. made_so f from 16 Defined) (s1 ∙ ap₂ loaded_shadows same s0)
+            ∙ ap (λ n. made_so (image_shadows image) n 16 Defined) starts) i;
+        registers = slice_set (replicate 32 (z i)) 2 ((t ∙ ap known starts) i);
         pc = at i;
         status = Running;
         frames = calls i;
         blocks = none i;
         isa = set i;
+        stack = is-stack i;
         reserved = None;
         controls = untouched i;
         steps = none-made (has_controls isa) i;

@@ -1,7 +1,7 @@
 -- Control registers (RISC-V Unprivileged ISA 20191213, chapter 9; Privileged Architecture 20190608, chapter 2): words
 -- with undefined bits, which instructions alone change; some are counters. And the fence of fetches and the wait for an
 -- interrupt, which do nothing: a store is fetched at once, and there are no interrupts.
-use Rattle.std.specs.Prelude.{ℕ, ◌+◌, ◌/◌, ◌%◌, ◌^◌, ◌==◌, ◌&&◌, ◌||◌, not, Bool, if◌then◌else◌}
+use Rattle.std.specs.Prelude.{ℕ, ◌/◌, ◌%◌, ◌^◌, ◌==◌, ◌&&◌, ◌||◌, not, Bool, if◌then◌else◌}
 use Rattle.definedness.specs.declared.Bits.{Bits}
 use Rattle.control_registers.specs.Registers.{with_register}
 use Rattle.guest_elf.specs.Profiles.{has_controls}

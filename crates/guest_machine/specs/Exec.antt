@@ -299,7 +299,8 @@ row_effect core next (Some Barrier) terms given taken = barrier core next
 -- a fetch that meets an inaccessible byte
 abbrev pub jump_fault : Core → Option ℕ → Effect
 jump_fault core None = quiet core
-jump_fault core (Some a) = raising (stopped core JumpStop) (event_about core.blocks (here core) JumpError (Some a))
+jump_fault core (Some a) =
+    raising (stopped core JumpStop) (event_about core.stack core.blocks (here core) JumpError (Some a))
 
 -- a fetch of a word of which only the first half may be accessed; the half is tested, as it says that there is a second
 abbrev pub cut : Core → Effect

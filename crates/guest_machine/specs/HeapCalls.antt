@@ -70,7 +70,7 @@ is_invalid Invalid = true
 unfoldable pub free_errors : Core → Released → ℕ → List Event
 free_errors core (Done b) p = []
 free_errors core Nothing p = []
-free_errors core Invalid p = event_about core.blocks (here core) FreeError (Some p)
+free_errors core Invalid p = event_about core.stack core.blocks (here core) FreeError (Some p)
 
 -- resizing --
 
@@ -122,7 +122,7 @@ resized core p size redzone volume Keeps = answered core 0
 resized core p size redzone volume (Moves b q) = answered (moved_block core p b q size redzone volume) q
 
 unfoldable pub resize_errors : Core → ℕ → Resizing → List Event
-resize_errors core p Refuses = event_about core.blocks (here core) FreeError (Some p)
+resize_errors core p Refuses = event_about core.stack core.blocks (here core) FreeError (Some p)
 resize_errors core p _ = []
 
 -- what the calls do --

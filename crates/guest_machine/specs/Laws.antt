@@ -126,6 +126,11 @@ StaysHalted =
 abbrev pub KeepsIsa : Type 0
 KeepsIsa = (setup : Setup) (s : State) → (exec s setup).core.isa ≡ s.core.isa
 
+-- a step leaves the regions where they are
+pub record KeepsRegions : Type 0 where
+  pub stack : (setup : Setup) (s : State) → (exec s setup).core.stack ≡ s.core.stack
+  pub heap : (setup : Setup) (s : State) → (exec s setup).core.blocks.begin ≡ s.core.blocks.begin
+
 -- a core at which an instruction may begin at each multiple of 4, and nowhere else, and has 4 bytes (RISC-V
 -- Unprivileged ISA 20191213, section 1.5)
 pub record IsByFours (core : Core) : Type 0 where

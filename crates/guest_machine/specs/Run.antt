@@ -1,10 +1,11 @@
 -- A run from step zero, with alterations between steps.
-use Rattle.std.specs.Prelude.{ℕ, false, zero, suc, ◌==◌, List, filter, fold, unwrap_or, is_some, if◌then◌else◌}
+use Rattle.std.specs.Prelude.{ℕ, false, zero, suc, ◌-◌, ◌==◌, List, filter, fold, unwrap_or, is_some, if◌then◌else◌}
 use Rattle.std.specs.Prelude.{replicate, slice_set, [], None}
 use Rattle.control_registers.specs.Registers.{no_registers}
 use Rattle.guest_elf.specs.declared.image.Image.{Image}
 use Rattle.guest_heap.specs.Blocks.{no_blocks}
 use Rattle.guest_elf.specs.Images.{loaded_at, entry_of, profile_of}
+use Rattle.memory_map.specs.Regions.{first_stack_bytes}
 use Rattle.instructions.specs.Codes.{len_of, number_of}
 use Rattle.instructions.specs.declared.code.Code.{Code}
 use Rattle.shadow_memory.specs.Ranges.{written, byte_of}
@@ -30,23 +31,24 @@ abbrev pub image_shadows : Image → ℕ → Shadow
 image_shadows image a = if is_some (loaded_at image a) then shadow_of Defined else shadow_of NoAccess
 
 -- where the stack pointer points at the start: at sixteen bytes that are zero, accessible and defined
-abbrev pub stack_start : ℕ
-stack_start = 0x7FFFFFF0
+abbrev pub stack_start : Image → ℕ
+stack_start image = (profile_of image).regions.stack.end - first_stack_bytes
 
 -- the start of a program: pc at its entry, x2 at the stack, the other registers 0, all registers defined, the control
 -- registers too, which are 0, and no address reserved
 unfoldable pub start_state : Image → State
 start_state image =
     record {
-      bytes = written (image_bytes image) stack_start 16 no_bytes;
+      bytes = written (image_bytes image) (stack_start image) first_stack_bytes no_bytes;
       core = record {
-        shadow = made_so (image_shadows image) stack_start 16 Defined;
-        registers = slice_set (replicate 32 (known 0)) 2 (known stack_start);
+        shadow = made_so (image_shadows image) (stack_start image) first_stack_bytes Defined;
+        registers = slice_set (replicate 32 (known 0)) 2 (known (stack_start image));
         pc = entry_of image;
         status = Running;
         frames = [];
-        blocks = no_blocks;
+        blocks = no_blocks (profile_of image).regions.heap;
         isa = (profile_of image).isa;
+        stack = (profile_of image).regions.stack;
         reserved = None;
         controls = no_registers;
         steps = 0;

@@ -20,6 +20,7 @@ core_of g = record {
   frames = g.frames;
   blocks = blocks_of g.heap;
   isa = g.isa;
+  stack = g.stack;
   reserved = g.reserved;
   controls = registers_in g.controls;
   steps = if has_controls g.isa then g.steps else 0;

@@ -6,17 +6,17 @@ use Rattle.definedness.specs.declared.Bits.{Bits}
 use Rattle.shadow_memory.specs.Shadows.{made_so}
 use Rattle.shadow_memory.specs.declared.cells.RangeKind.{RangeKind}
 use Rattle.shadow_memory.specs.declared.cells.RangeKind.TheVariants.{NoAccess, Undefined}
-use Rattle.memory_map.specs.Regions.{stack_begin, stack_end}
+use Rattle.memory_map.specs.declared.regions.StackRegion.{StackRegion}
 use Rattle.guest_machine.specs.State.{Core}
 use Rattle.guest_machine.specs.Registers.{register}
 
 -- does a stack pointer lie in the stack region? Both of its ends count.
-abbrev pub is_in_stack : ℕ → Bool
-is_in_stack a = nat_le stack_begin a && nat_le a stack_end
+abbrev pub is_in_stack : StackRegion → ℕ → Bool
+is_in_stack stack a = nat_le stack.begin a && nat_le a stack.end
 
 -- a defined stack pointer in the region
-abbrev pub is_stack_pointer : Bits → Bool
-is_stack_pointer bits = (bits.undef == 0) && is_in_stack bits.value
+abbrev pub is_stack_pointer : StackRegion → Bits → Bool
+is_stack_pointer stack bits = (bits.undef == 0) && is_in_stack stack bits.value
 
 -- the greatest number of bytes of a frame: Memcheck's default for `--max-stackframe`
 abbrev pub largest_frame : ℕ
@@ -43,4 +43,5 @@ stack_moved core old new =
 unfoldable pub stack_ruled : Bits → Core → Core
 stack_ruled old core =
     let new = register core 2 in
-    if is_stack_pointer old && is_stack_pointer new then stack_moved core old.value new.value else core
+    if is_stack_pointer core.stack old && is_stack_pointer core.stack new then stack_moved core old.value new.value
+    else core

@@ -28,6 +28,7 @@
 //! | [`Machine::learn`], [`Machine::take_over`] | copy or move what another machine has decoded, for the codes that are the same in both |
 //! | [`Machine::is_same`] | returns whether another machine shows the same |
 //! | [`Machine::status`], [`Machine::pc`], [`Machine::register`] | return whether it runs, and its registers |
+//! | [`Machine::heap_begin`] | returns the first address of the heap's region |
 //! | [`Machine::isa`], [`Machine::code`] | return the instruction set, which is the image's, and the code at pc |
 //! | [`Machine::position`], [`Machine::end_seen`] | return how much of the input was read so far, and whether its end was seen |
 //! | [`Machine::output_len`], [`Machine::heap_calls`] | return the number of bytes written and of heap calls so far |
@@ -41,7 +42,7 @@
 //! | [`Meter::new`], [`Meter::read`], [`Meter::rise_by`] | a count of steps, raised by `step`, by `run` and by the steps that a caller counted |
 //! | [`laws::keeps_words`], [`laws::keeps_input`], [`laws::keeps_heap`], [`laws::keeps_pokes`] | do nothing; their contracts are laws of one step |
 //! | [`laws::reads_on`], [`laws::keeps_end`], [`laws::end_stays`], [`laws::stays_halted`] | likewise |
-//! | [`laws::keeps_isa`], [`laws::goes_by_fours`], [`laws::lacks_extensions`], [`laws::lacks_atomics`] | likewise, on the instruction set |
+//! | [`laws::keeps_isa`], [`laws::keeps_regions`], [`laws::goes_by_fours`], [`laws::lacks_extensions`], [`laws::lacks_atomics`] | likewise, on the instruction set |
 //! | [`laws::alters_as_marked`], [`laws::runs_as_marked`] | likewise; their contracts say what marks are as alterations |
 //!
 //! [`Setup`], [`Input`], [`Hooks`], [`Mark`], [`Alteration`], [`Act`], [`Touched`], [`Span`], [`Register`], [`Width`], [`Status`] and

@@ -27,6 +27,7 @@ use definedness::Bits;
 use error_events::{Event, Groups};
 use guest_elf::Isa;
 use guest_heap::Heap;
+use memory_map::StackRegion;
 use run_values::Status;
 use std::alloc::{AllocError, Global};
 
@@ -107,7 +108,7 @@ pub struct Machine {
     guest: Box<Guest>,
 }
 
-/// What a machine holds: memory, registers, pc, status, calls, heap, progress, its errors, its instruction set, the address that is
+/// What a machine holds: memory, registers, pc, status, calls, heap, progress, its errors, its instruction set, the region of its stack, the address that is
 /// reserved, if one is, its control registers and the number of steps. Each step counts, in each instruction set, as that costs less than
 /// to ask; it shows only where there are counters.
 #[derive(Drop)]
@@ -122,6 +123,7 @@ pub(crate) struct Guest {
     progress: Progress,
     noted: Noted,
     isa: Isa,
+    stack: StackRegion,
     reserved: Option<u32>,
     controls: ControlRegisters,
     steps: u64,

@@ -106,13 +106,9 @@ found_ordered blocks found from region apart s = record {
         | inr clear ↦ elim clear [ inl h ↦ clear_below a b low h | inr h ↦ absurd (clear_above a b low h) ]
       ]);
   aligned = λ k b at. (let multiple = (region.live b.start b (s.there k b at)).multiple in omega arith);
-  positive = λ k b at. (let low = (region.live b.start b (s.there k b at)).above in omega arith);
+  positive = λ k b at. (let some = region.some in
+      let low = (region.live b.start b (s.there k b at)).above in omega arith);
 }
-
--- the address after a live block's first is one
-pub start_small : (blocks : Blocks) (from : ℕ) (b : Block) → AreInRegion blocks → IsFirstLive blocks.live from b
-    → b.start < 0x60000000
-start_small blocks from b region f = (region.live b.start b f.there).below
 
 pub no_edge_more : (edges : List (Vec Pointer Global)) (row : Vec Pointer Global) → row.items ≡ [] → HasNoEdge edges
     → HasNoEdge (edges ++ row ∷ [])

@@ -6,6 +6,7 @@ use guest_machine::{
 };
 use guest_programs::program;
 use instructions::Code;
+use memory_map::{Regions, StackRegion};
 use shadow_memory::RangeKind;
 use std::alloc::{AllocError, Global};
 use std::process::Abort;
@@ -350,10 +351,25 @@ fn goes_well(
     }
 }
 
+/// Returns the profile of an instruction set with the usual regions.
+fn profile_of(isa: Isa) -> Option<Profile> {
+    let stack = StackRegion {
+        begin: 0x7F00_0000,
+        end: 0x8000_0000,
+    };
+    match Regions::new(0x4000_0000, stack) {
+        Ok(regions) => Some(Profile { isa, regions }),
+        Err(_) => None,
+    }
+}
+
 /// Returns whether a row holds for a file, under an instruction set.
 fn is_so_of(alloc: Global, file: &[u8], isa: Isa, row: &Row) -> Result<bool, AllocError> {
     let setup = setup_of(alloc, row)?;
-    match read_for(alloc, file, Profile { isa }) {
+    let Some(profile) = profile_of(isa) else {
+        return Ok(false);
+    };
+    match read_for(alloc, file, profile) {
         Ok(image) => goes_well(alloc, &image, &setup, &row.4),
         Err(_) => Ok(false),
     }

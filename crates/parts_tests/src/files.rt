@@ -2,6 +2,7 @@
 use crate::{comes, holds};
 use byteorder::{ByteOrder, LittleEndian};
 use guest_elf::{ElfFault, Hook, Image, Isa, Profile, Segment, read, read_for};
+use memory_map::{Regions, StackRegion};
 use std::alloc::{AllocError, Global};
 use std::process::Abort;
 
@@ -94,6 +95,30 @@ fn is_read_for(alloc: Global, profile: Profile) -> bool {
     }
 }
 
+/// Returns whether it is for the usual one, which is that of `read`.
+fn is_read_for_usual(alloc: Global) -> bool {
+    let Some(usual) = profile_of(Isa::Rv32im) else {
+        return false;
+    };
+    match read(alloc, &PROGRAM) {
+        Ok(image) => image.profile() == usual && is_read_for(alloc, usual),
+        Err(_) => false,
+    }
+}
+
+/// Returns the profile of an instruction set with these regions, if they are sound.
+fn profile_with(isa: Isa, heap: u32, stack: StackRegion) -> Option<Profile> {
+    match Regions::new(heap, stack) {
+        Ok(regions) => Some(Profile { isa, regions }),
+        Err(_) => None,
+    }
+}
+
+/// Returns that of an instruction set with the usual regions.
+fn profile_of(isa: Isa) -> Option<Profile> {
+    profile_with(isa, 0x4000_0000, USUAL_STACK)
+}
+
 /// Returns whether instructions of RV32IM may begin at multiples of 4 alone.
 fn begin_at_fours() -> bool {
     let isa = Isa::Rv32im;
@@ -163,7 +188,10 @@ const CODED: [Coded; 9] = [
 /// Returns whether a row holds of the program, read for an instruction set, without its halves if there are none.
 fn is_coded_for(alloc: Global, file: &[u8], isa: Isa, row: &Coded) -> bool {
     let (_, addr, word, long, half) = row;
-    match read_for(alloc, file, Profile { isa }) {
+    let Some(profile) = profile_of(isa) else {
+        return false;
+    };
+    match read_for(alloc, file, profile) {
         Ok(image) => match isa {
             Isa::Rv32im => image.is_word(*addr) == *word,
             Isa::Rv32imc | Isa::Rv32imac => {
@@ -324,12 +352,10 @@ fn is_sized_answered(alloc: Global, len: usize, want: u8) -> Result<bool, AllocE
 #[test]
 fn files_by_hand(rt: HostRuntime) {
     holds(&rt, "a program", is_read(rt.alloc()));
-    let usual = Profile { isa: Isa::Rv32im };
-    holds(&rt, "the usual profile", usual == Profile::USUAL);
     holds(
         &rt,
         "a program for a profile",
-        is_read_for(rt.alloc(), usual),
+        is_read_for_usual(rt.alloc()),
     );
     holds(&rt, "instructions of 32 bits", begin_at_fours());
     holds(&rt, "those of 16 bits too", begin_at_twos(Isa::Rv32imc));
@@ -441,4 +467,142 @@ const NO_HOOKS: [Hooks; 4] = [
 #[test]
 fn other_names_are_not(rt: HostRuntime) {
     assert_hooks(&rt, rt.alloc(), &NO_HOOKS);
+}
+
+/// The region of the stack where nothing is said of it, and one in a program's memory.
+const USUAL_STACK: StackRegion = StackRegion {
+    begin: 0x7F00_0000,
+    end: 0x8000_0000,
+};
+
+const LOW_STACK: StackRegion = StackRegion {
+    begin: 0x20000,
+    end: 0x30000,
+};
+
+/// A label, the begin of the heap's region and the region of the stack, three changed words of the program; and the number of a fault, or 0.
+type Placed = (&'static str, u32, StackRegion, [Change; 3], u8);
+
+/// The program as a segment that goes from an address on for so many bytes.
+const AROUND: [Change; 3] = [NONE, NONE, (MEMSZ, 0x30000)];
+
+const PLACED: [Placed; 10] = [
+    (
+        "where the usual heap is, and it isn't",
+        0x9000_0000,
+        USUAL_STACK,
+        [(VADDR, 0x4000_0000), NONE, NONE],
+        0,
+    ),
+    (
+        "where the heap is",
+        0x9000_0000,
+        USUAL_STACK,
+        [(VADDR, 0xAFFF_FFFF), NONE, NONE],
+        29,
+    ),
+    (
+        "where the usual heap is",
+        0x4000_0000,
+        USUAL_STACK,
+        [(VADDR, 0x4000_0000), NONE, NONE],
+        29,
+    ),
+    ("around the stack", 0x4000_0000, LOW_STACK, AROUND, 0),
+    (
+        "with a byte in the stack",
+        0x4000_0000,
+        LOW_STACK,
+        [(VADDR, 0x1FFF5), NONE, (MEMSZ, 0x20000)],
+        29,
+    ),
+    (
+        "with bytes up to the stack",
+        0x4000_0000,
+        LOW_STACK,
+        [(VADDR, 0x1FFF4), NONE, (MEMSZ, 0x2000C)],
+        0,
+    ),
+    (
+        "that ends in the stack",
+        0x4000_0000,
+        LOW_STACK,
+        [NONE, NONE, (MEMSZ, 0x1FFFF)],
+        29,
+    ),
+    (
+        "that begins in the stack",
+        0x4000_0000,
+        LOW_STACK,
+        [(VADDR, 0x20001), (FILESZ, 0), (MEMSZ, 0x20000)],
+        29,
+    ),
+    (
+        "the stack alone, without bytes",
+        0x4000_0000,
+        LOW_STACK,
+        [(VADDR, 0x20000), (FILESZ, 0), (MEMSZ, 0x10000)],
+        0,
+    ),
+    (
+        "around the usual stack",
+        0x4000_0000,
+        USUAL_STACK,
+        [(VADDR, 0x7EFF_FFF4), NONE, (MEMSZ, 0x0100_0010)],
+        29,
+    ),
+];
+
+/// Returns the program's file with some words changed.
+fn changed(changes: &[Change; 3]) -> [u8; 96] {
+    let mut file = PROGRAM;
+    change(&mut file, changes[0]);
+    change(&mut file, changes[1]);
+    change(&mut file, changes[2]);
+    file
+}
+
+/// Returns whether a row holds.
+fn is_placed(alloc: Global, row: &Placed) -> bool {
+    let file = changed(&row.3);
+    let Some(profile) = profile_with(Isa::Rv32im, row.1, row.2) else {
+        return false;
+    };
+    match read_for(alloc, &file, profile) {
+        Ok(_image) => row.4 == 0,
+        Err(fault) => fault.number() == row.4,
+    }
+}
+
+#[test]
+fn segments_lie_beside_the_regions(rt: HostRuntime) {
+    for row in &PLACED {
+        holds(&rt, row.0, is_placed(rt.alloc(), row));
+    }
+}
+
+/// Returns whether the program, as a segment that is around the stack, is loaded up to the stack and from its end on.
+fn is_loaded_around(alloc: Global) -> bool {
+    let file = changed(&AROUND);
+    let Some(profile) = profile_with(Isa::Rv32im, 0x4000_0000, LOW_STACK) else {
+        return false;
+    };
+    match read_for(alloc, &file, profile) {
+        Ok(image) => {
+            image.segments().len() == 2
+                && image.patchable(0x10000)
+                && image.patchable(0x1FFFC)
+                && !image.patchable(0x1FFFD)
+                && !image.patchable(0x2FFFF)
+                && image.patchable(0x30000)
+                && image.patchable(0x3FFFC)
+                && !image.patchable(0x3FFFD)
+        }
+        Err(_) => false,
+    }
+}
+
+#[test]
+fn nothing_is_loaded_in_the_stack(rt: HostRuntime) {
+    holds(&rt, "around the stack", is_loaded_around(rt.alloc()));
 }

@@ -1,18 +1,19 @@
 -- What the files that a command names give: a program, suppressions and an input, each judged, or why there is none.
 use Rattle.std.specs.Prelude.{ℕ, ◌≡◌, ◌+◌, ◌<◌, ◌≤◌, ◌⊎◌, Bool, true, false, List, [], Option, Some, None, codes}
-use Rattle.std.specs.Prelude.{IfSome, length, option_map, take}
+use Rattle.std.specs.Prelude.{IfSome, length, take}
 use Rattle.std.specs.Io.KnownBytes.{Appends, Consumes}
 use Rattle.std.specs.Str.{bytes_eq}
-use Rattle.command_line.specs.Isas.{isa_named}
+use Rattle.command_line.specs.declared.order.ProfileWords.{ProfileWords}
 use Rattle.guest_elf.specs.File.{IsImageFor, refusal, early_refusal}
 use Rattle.guest_elf.specs.declared.fault.ElfFault.{ElfFault}
 use Rattle.guest_elf.specs.declared.fault.ElfFault.TheVariants as Elf
 use Rattle.guest_elf.specs.declared.image.Image.{Image as ProgramImage}
-use Rattle.guest_elf.specs.declared.profile.Isa.{Isa}
 use Rattle.guest_elf.specs.declared.profile.Profile.{Profile}
+use Rattle.memory_map.specs.declared.regions.Regions.{Regions}
+use Rattle.program_files.specs.Profiles.{IsProfileNamed, NoProfile}
 use Rattle.scenario.specs.Limits.{longest_input}
 use Rattle.ends.specs.declared.ends.End.{End}
-use Rattle.ends.specs.declared.ends.End.TheVariants.{BadIsa, CannotRead, CannotReadInput, Image}
+use Rattle.ends.specs.declared.ends.End.TheVariants.{CannotRead, CannotReadInput, Image}
 use Rattle.ends.specs.declared.ends.End.TheVariants.{Suppressions, SuppressionsTooLong, InputTooLarge, NoMemory}
 use Rattle.suppressions.specs.Rules.{Rule}
 use Rattle.suppressions.specs.Texts.{faults, rules, IsLeast}
@@ -54,33 +55,27 @@ NoBytes gives path end = ⊥
 
 -- why a program is rejected: the first of the reasons, or memory ran out, which hides none of those that are found
 -- without memory
-abbrev pub IsRefusedBy : ElfFault → List ℕ → Type 0
-IsRefusedBy fault front =
-    ((fault ≡ Elf.Memory) ⊎ (refusal front ≡ Some fault)) × ((early : ElfFault) → early_refusal front ≡ Some early
-    → fault ≡ early)
+abbrev pub IsRefusedBy : ElfFault → Regions → List ℕ → Type 0
+IsRefusedBy fault regions front =
+    ((fault ≡ Elf.Memory) ⊎ (refusal regions front ≡ Some fault))
+    × ((early : ElfFault) → early_refusal front ≡ Some early → fault ≡ early)
 
--- what a file is read for, by the name of an instruction set, and a name that none has
-abbrev pub profile_named : List ℕ → Option Profile
-profile_named name = option_map (λ (isa : Isa). record { isa = isa }) (isa_named name)
+-- a file's program is refused where heap and stack have these regions, or there is no file
+abbrev pub NoProgram : Giving → Regions → List ℕ → End → Type 0
+NoProgram gives regions path (Image fault) =
+    (front : List ℕ) × IsFront gives path most_judged front × IsRefusedBy fault regions front
+NoProgram gives regions path end = NoBytes gives path end
 
-abbrev pub NoIsa : List ℕ → End → Type 0
-NoIsa name (BadIsa given) = (given.now ≡ name) × (isa_named name ≡ None)
-NoIsa name end = ⊥
-
--- a file's program, whatever it is read for, is refused, or there is no file
-abbrev pub NoProgram : Giving → List ℕ → End → Type 0
-NoProgram gives path (Image fault) = (front : List ℕ) × IsFront gives path most_judged front × IsRefusedBy fault front
-NoProgram gives path end = NoBytes gives path end
-
--- the program of a file for an instruction set: its name is judged, and then the file read
-abbrev pub HasImage : Giving → List ℕ → List ℕ → ProgramImage → Type 0
-HasImage gives name path image =
-    (profile : Profile) × (front : List ℕ) × (profile_named name ≡ Some profile) × IsFront gives path most_judged front
+-- the program of a file for a profile: its texts are judged, and then the file read
+abbrev pub HasImage : Giving → ProfileWords → List ℕ → ProgramImage → Type 0
+HasImage gives words path image =
+    (profile : Profile) × (front : List ℕ) × IsProfileNamed words profile × IsFront gives path most_judged front
     × IsImageFor profile front image
 
-abbrev pub NoImage : Giving → List ℕ → List ℕ → End → Type 0
-NoImage gives name path end =
-    NoIsa name end ⊎ ((profile : Profile) × (profile_named name ≡ Some profile) × NoProgram gives path end)
+abbrev pub NoImage : Giving → ProfileWords → List ℕ → End → Type 0
+NoImage gives words path end =
+    NoProfile words end
+    ⊎ ((profile : Profile) × IsProfileNamed words profile × NoProgram gives profile.regions path end)
 
 -- the suppressions of a file's text, or none if no file is named
 abbrev pub HasRules : Giving → Option (List ℕ) → List Rule → Type 0

@@ -2,7 +2,7 @@
 //!
 //! | Call | What it returns |
 //! |---|---|
-//! | [`profile_named`] | what a program's file is read for, by the name of an instruction set |
+//! | [`profile_named`] | what a program's file is read for, by the name of an instruction set and the texts of the regions of heap and stack |
 //! | [`read_front`] | the bytes of a file up to a limit, and one more if it has more |
 //! | [`read_suppressions`], [`read_named_text`] | the suppressions of a file, or its text, if one is named |
 //! | [`read_input`], [`read_stream`], [`read_sweep_input`] | the input: of a file if one is named, of standard input, of either |
@@ -15,14 +15,16 @@
 //! `NoInput` ..): a file that can't be read, one that is too long, or one whose text is refused; memory may fail at each.
 //!
 //! A program's file is judged by its first 67,108,865 bytes, and so whole up to 67,108,864: the number of its refusal is the least that
-//! holds of the file. The definitions stand in `specs/`: `Opened` and `Files`.
+//! holds of the file. The definitions stand in `specs/`: `Opened`, `Files` and `Profiles`.
 #![tactic(auto)]
 
 mod files;
+mod profiles;
 mod reading;
 
 pub use files::{Files, ReadFault, read_opened};
+pub use profiles::profile_named;
 pub use reading::{
-    MOST_READ, profile_named, read_front, read_input, read_named_text, read_stream,
-    read_suppressions, read_sweep_input,
+    MOST_READ, read_front, read_input, read_named_text, read_stream, read_suppressions,
+    read_sweep_input,
 };

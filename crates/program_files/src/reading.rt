@@ -1,13 +1,11 @@
 //! The files that a command names, read and judged.
-ghost use Rattle.std.specs.Prelude.{◌≡◌, ◌≤◌, ◌<◌, ◌^◌, Some, IfOk, IfErr, length, option_map};
-ghost use Rattle.program_files.specs.Files.{HasInput, HasRules, HasStream, HasSweepInput, HasText, IsFront, NoBytes, NoInput, NoRules, NoStream, NoIsa, NoSweepInput, NoText, is_stream, profile_named};
+ghost use Rattle.std.specs.Prelude.{◌≤◌, ◌<◌, ◌^◌, ◌≡◌, Some, IfOk, IfErr, length, option_map};
+ghost use Rattle.program_files.specs.Files.{HasInput, HasRules, HasStream, HasSweepInput, HasText, IsFront, NoBytes, NoInput, NoRules, NoStream, NoSweepInput, NoText, is_stream};
 ghost use Rattle.program_files.specs.Opened.{end_of_input};
 ghost use Rattle.scenario.specs.Limits.{longest_input};
 
 use crate::files::{Files, ReadFault, front_of, read_or_fault};
-use command_line::isa_named;
 use ends::End;
-use guest_elf::Profile;
 use scenario::LONGEST_INPUT;
 use std::alloc::Global;
 use std::io::Read;
@@ -32,17 +30,6 @@ pub fn read_front<'a, F: Files>(
         Ok(bytes) => Ok(bytes),
         Err(ReadFault::NoMemory) => Err(End::NoMemory),
         Err(ReadFault::Unreadable) => Err(End::CannotRead(path)),
-    }
-}
-
-/// Returns what a program's file is read for, by the name of an instruction set.
-pub fn profile_named<'a>(name: &'a str) -> Result<Profile, End<'a>>
-    ensures ok { IfOk result (λ profile. profile_named name.entry.now ≡ Some profile) }
-    ensures err { IfErr result (NoIsa name.entry.now) }
-{
-    match isa_named(name) {
-        Some(isa) => Ok(Profile { isa }),
-        None => Err(End::BadIsa(name)),
     }
 }
 

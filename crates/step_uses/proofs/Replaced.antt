@@ -274,7 +274,8 @@ pub ruled-other : (old : Bits) (core : Core) (r : ℕ) (bits : Bits) → (r == 2
 unfolding stack_ruled
 ruled-other old core r bits h =
     let far = put core r bits in
-    ap (λ (x : Bits). cond (is_stack_pointer old && is_stack_pointer x) (stack_moved far old.value x.value) far)
+    ap (λ (x : Bits). cond (is_stack_pointer core.stack old && is_stack_pointer core.stack x)
+    (stack_moved far old.value x.value) far)
     (register-other core r 2 bits h) ∙ go _
   where
     new : Bits

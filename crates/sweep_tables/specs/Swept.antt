@@ -1,6 +1,6 @@
 -- The table of a sweep as it is written: its head, how much of it is written, and what is swept.
-use Rattle.std.specs.Prelude.{◌≡◌, ℕ, ◌-◌, ◌≤◌, ◌⊎◌, ◌||◌, Bool, true, false, if◌then◌else◌, nat_lt, List, []}
-use Rattle.std.specs.Prelude.{◌++◌, codes, length, map}
+use Rattle.std.specs.Prelude.{◌≡◌, ℕ, ◌-◌, ◌≤◌, ◌⊎◌, ◌||◌, ◌==◌, Bool, true, false, not, if◌then◌else◌, nat_lt, List}
+use Rattle.std.specs.Prelude.{[], ◌++◌, codes, length, map}
 use Rattle.std.specs.Prelude.{Option, Some, None, unwrap_or}
 use Rattle.std.specs.Fmt.{decimal}
 use Rattle.std.specs.Io.KnownBytes.{Appends}
@@ -9,10 +9,15 @@ use Rattle.sha2.specs.Sha256.{sha256}
 use Rattle.command_line.specs.Isas.{isa_name}
 use Rattle.command_line.specs.Orders.{text_of}
 use Rattle.command_line.specs.declared.order.SweepWords.{SweepWords}
+use Rattle.guest_elf.specs.File.{is_moved}
 use Rattle.guest_elf.specs.Images.{profile_of}
 use Rattle.guest_elf.specs.declared.image.Image.{Image as ProgramImage}
 use Rattle.guest_elf.specs.declared.profile.Isa.{Isa}
 use Rattle.guest_elf.specs.declared.profile.Isa.TheVariants.{Rv32im}
+use Rattle.guest_elf.specs.declared.profile.Profile.{Profile}
+use Rattle.memory_map.specs.Regions.{heap_begin}
+use Rattle.memory_map.specs.declared.regions.Regions.{Regions}
+use Rattle.memory_map.specs.declared.regions.StackRegion.{StackRegion}
 use Rattle.report_lines.specs.Text.{address_text, newline}
 use Rattle.scenario.specs.Scenario.{Scenario, IsOutlineOf, at_step, begun}
 use Rattle.suppressions.specs.Rules.{Rule}
@@ -61,15 +66,48 @@ abbrev pub is_other : Isa → Bool
 is_other Rv32im = false
 is_other _ = true
 
--- the format of the table: the second one has lines that the first doesn't have, those of faults at steps and that of
--- another instruction set
-abbrev pub version_line : Places → Isa → List ℕ
-version_line steps isa =
-    if nat_lt steps.first steps.end || is_other isa then codes "sweep 2\n" else codes "sweep 1\n"
+-- does the heap's region begin elsewhere than the usual one?
+abbrev pub is_heap_moved : Regions → Bool
+is_heap_moved regions = not (regions.heap == heap_begin)
+
+-- is it another profile than the usual one?
+abbrev pub is_unusual : Profile → Bool
+is_unusual profile = is_other profile.isa || (is_heap_moved profile.regions || is_moved profile.regions.stack)
+
+-- the format of the table: the second one has lines that the first doesn't have, those of faults at steps and those of
+-- another profile
+abbrev pub version_line : Places → Profile → List ℕ
+version_line steps profile =
+    if nat_lt steps.first steps.end || is_unusual profile then codes "sweep 2\n" else codes "sweep 1\n"
 
 -- the instruction set, if it is another one
 unfoldable pub isa_line : Isa → List ℕ
 isa_line isa = if is_other isa then codes "isa " ++ isa_name isa ++ newline else []
+
+-- the begin of the heap's region, if it is another one
+unfoldable pub heap_word : List ℕ
+heap_word = codes "heap-region "
+
+unfoldable pub heap_text : ℕ → List ℕ
+heap_text begin = heap_word ++ address_text begin ++ newline
+
+unfoldable pub heap_line : Regions → List ℕ
+heap_line regions = if is_heap_moved regions then heap_text regions.heap else []
+
+-- the stack's region, if it is another one
+unfoldable pub stack_word : List ℕ
+stack_word = codes "stack-region "
+
+unfoldable pub stack_text : StackRegion → List ℕ
+stack_text stack = stack_word ++ address_text stack.begin ++ codes ".." ++ address_text stack.end ++ newline
+
+unfoldable pub stack_line : StackRegion → List ℕ
+stack_line stack = if is_moved stack then stack_text stack else []
+
+-- what is another one than the usual
+unfoldable pub profile_lines : Profile → List ℕ
+profile_lines profile =
+    isa_line profile.isa ++ heap_line profile.regions ++ stack_line profile.regions.stack
 
 -- the steps at which faults strike, if there are any, the fault models as they were given, the code to which pc is
 -- limited, and whether pairs are tried
@@ -102,9 +140,9 @@ step_lines step with_output part =
     ++ newline
 
 -- the head of a table
-unfoldable pub head_text : List ℕ → List ℕ → List ℕ → Isa → SweepWords → Plan → Option Range → Part → List ℕ
-head_text program input rules isa words plan named part =
-    version_line plan.steps isa ++ isa_line isa ++ file_lines program input rules
+unfoldable pub head_text : List ℕ → List ℕ → List ℕ → Profile → SweepWords → Plan → Option Range → Part → List ℕ
+head_text program input rules profile words plan named part =
+    version_line plan.steps profile ++ profile_lines profile ++ file_lines program input rules
     ++ bytes_line plan.bytes words.byte_values.now ++ words_line named words.word_values.now
     ++ steps_line plan.steps (fault_text (text_of words.faults)) plan.code plan.pairs
     ++ step_lines words.step words.with_output part
@@ -168,7 +206,7 @@ Reached case n old now sweep =
 abbrev pub case_with : List ℕ → List ℕ → ProgramImage → List ℕ → List Rule → SweepWords → Option Range → Part → Plan
     → Case
 case_with file text image input list words named part plan = record {
-  head = head_text file input text (profile_of image).isa words plan named part;
+  head = head_text file input text (profile_of image) words plan named part;
   with_output = words.with_output;
   sc = at_step (begun image input list) words.step;
   plan = plan;

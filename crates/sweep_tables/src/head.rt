@@ -4,10 +4,12 @@ ghost use Rattle.hex.specs.Hex.{encode_lower};
 ghost use Rattle.sha2.specs.Sha256.{sha256};
 ghost use Rattle.report_lines.specs.Text.{newline};
 ghost use Rattle.command_line.specs.Orders.{text_of};
-ghost use Rattle.sweep_tables.specs.Swept.{bytes_line, code_text, fault_text, file_line, file_lines, head_text, is_other, isa_line, output_line, pairs_text, step_lines, steps_line, version_line, words_line};
+ghost use Rattle.guest_elf.specs.File.{is_moved};
+ghost use Rattle.sweep_tables.specs.Swept.{bytes_line, code_text, fault_text, file_line, file_lines, head_text, heap_line, heap_text, heap_word, is_heap_moved, is_other, is_unusual, isa_line, output_line, pairs_text, profile_lines, stack_line, stack_text, stack_word, step_lines, steps_line, version_line, words_line};
 
 use command_line::{SweepWords, isa_name};
-use guest_elf::Isa;
+use guest_elf::{Isa, Profile};
+use memory_map::{Regions, StackRegion};
 use report_lines::{push_address, push_number, push_text};
 use sha2::{Digest, Sha256};
 use std::alloc::{AllocError, Global};
@@ -97,11 +99,34 @@ fn is_other(isa: Isa) -> bool
     !matches!(isa, Isa::Rv32im)
 }
 
-/// Returns the line of the table's format: the second one, if faults strike at steps or a line names the instruction set.
-fn version_line(steps: Places, isa: Isa) -> &'static [u8]
-    ensures { result.now ≡ version_line steps isa }
+/// Returns whether the heap's region begins elsewhere than the usual one.
+#[tactic(auto, unfolding(memory_map::specs::Regions::is_heap_begin, memory_map::specs::Regions::is_stack_region, memory_map::specs::Regions::meet))]
+fn is_heap_moved(regions: Regions) -> bool
+    ensures { result ≡ is_heap_moved regions }
 {
-    if steps.first < steps.end || is_other(isa) {
+    regions.heap_begin() != Regions::USUAL.heap_begin()
+}
+
+/// Returns whether the stack's region is another than the usual one.
+#[tactic(auto, unfolding(guest_elf::specs::File::is_moved, memory_map::specs::Regions::is_heap_begin, memory_map::specs::Regions::is_stack_region, memory_map::specs::Regions::meet))]
+fn is_moved(stack: StackRegion) -> bool
+    ensures { result ≡ is_moved stack }
+{
+    stack != Regions::USUAL.stack()
+}
+
+/// Returns whether a profile is another one than the usual one.
+fn is_unusual(profile: Profile) -> bool
+    ensures { result ≡ is_unusual profile }
+{
+    is_other(profile.isa) || is_heap_moved(profile.regions) || is_moved(profile.regions.stack())
+}
+
+/// Returns the line of the table's format: the second one, if faults strike at steps or a line names a part of the profile.
+fn version_line(steps: Places, profile: Profile) -> &'static [u8]
+    ensures { result.now ≡ version_line steps profile }
+{
+    if steps.first < steps.end || is_unusual(profile) {
         b"sweep 2\n"
     } else {
         b"sweep 1\n"
@@ -119,6 +144,76 @@ fn push_isa(out: &mut Vec<u8>, isa: Isa) -> Result<(), AllocError>
     push_text(out, b"isa ")?;
     push_text(out, isa_name(isa).as_bytes())?;
     push_text(out, b"\n")
+}
+
+/// Returns the word before the begin of the heap's region.
+#[tactic(auto, unfolding(crate::specs::Swept::heap_word))]
+fn heap_word() -> &'static [u8]
+    ensures { result.now ≡ heap_word }
+{
+    b"heap-region "
+}
+
+/// Appends the line on the begin of the heap's region.
+#[tactic(auto, unfolding(crate::specs::Swept::heap_text), using(std::proofs::Common::append_assoc))]
+fn push_begin(out: &mut Vec<u8>, begin: u32) -> Result<(), AllocError>
+    ensures { OnOk result (out.new.items ≡ out.old.items ++ heap_text begin) }
+{
+    push_text(out, heap_word())?;
+    push_address(out, begin)?;
+    push_text(out, b"\n")
+}
+
+/// Appends that line, if the region isn't the usual one.
+#[tactic(auto, unfolding(crate::specs::Swept::heap_line))]
+fn push_heap(out: &mut Vec<u8>, regions: Regions) -> Result<(), AllocError>
+    ensures { OnOk result (out.new.items ≡ out.old.items ++ heap_line regions) }
+{
+    if !is_heap_moved(regions) {
+        return Ok(());
+    }
+    push_begin(out, regions.heap_begin())
+}
+
+/// Returns the word before the stack's region.
+#[tactic(auto, unfolding(crate::specs::Swept::stack_word))]
+fn stack_word() -> &'static [u8]
+    ensures { result.now ≡ stack_word }
+{
+    b"stack-region "
+}
+
+/// Appends the line on the stack's region.
+#[tactic(auto, unfolding(crate::specs::Swept::stack_text), using(std::proofs::Common::append_assoc))]
+fn push_bounds(out: &mut Vec<u8>, stack: StackRegion) -> Result<(), AllocError>
+    ensures { OnOk result (out.new.items ≡ out.old.items ++ stack_text stack) }
+{
+    push_text(out, stack_word())?;
+    push_address(out, stack.begin)?;
+    push_text(out, b"..")?;
+    push_address(out, stack.end)?;
+    push_text(out, b"\n")
+}
+
+/// Appends that line, if the region isn't the usual one.
+#[tactic(auto, unfolding(crate::specs::Swept::stack_line))]
+fn push_stack(out: &mut Vec<u8>, stack: StackRegion) -> Result<(), AllocError>
+    ensures { OnOk result (out.new.items ≡ out.old.items ++ stack_line stack) }
+{
+    if !is_moved(stack) {
+        return Ok(());
+    }
+    push_bounds(out, stack)
+}
+
+/// Appends the lines on what of a profile isn't the usual.
+#[tactic(auto, unfolding(crate::specs::Swept::profile_lines), using(std::proofs::Common::append_assoc))]
+fn push_profile(out: &mut Vec<u8>, profile: Profile) -> Result<(), AllocError>
+    ensures { OnOk result (out.new.items ≡ out.old.items ++ profile_lines profile) }
+{
+    push_isa(out, profile.isa)?;
+    push_heap(out, profile.regions)?;
+    push_stack(out, profile.regions.stack())
 }
 
 /// Appends the range of code, if one is named.
@@ -207,17 +302,17 @@ pub(crate) fn push_head(
     alloc: Global,
     out: &mut Vec<u8>,
     sources: &Sources,
-    isa: Isa,
+    profile: Profile,
     words: &SweepWords,
     plan: &Plan,
     named: Option<Range>,
     part: Part,
 ) -> Result<(), AllocError>
     ensures { OnOk result (out.new.items ≡ out.old.items
-        ++ head_text sources.now.program.now sources.now.input.now sources.now.suppressions.now isa words.now plan.now named part) }
+        ++ head_text sources.now.program.now sources.now.input.now sources.now.suppressions.now profile words.now plan.now named part) }
 {
-    push_text(out, version_line(plan.steps, isa))?;
-    push_isa(out, isa)?;
+    push_text(out, version_line(plan.steps, profile))?;
+    push_profile(out, profile)?;
     push_files(alloc, out, sources)?;
     push_bytes(out, plan.bytes, words.byte_values)?;
     push_words(out, named, words.word_values)?;

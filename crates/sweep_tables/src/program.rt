@@ -40,15 +40,15 @@ fn begin_table<'p>(
     ensures scenario { IfOk result (λ sweep. scenario_of sweep ≡ at_step (begun image.entry input.items suppressions.items) words.now.step) }
     ensures output { IfOk result (λ sweep. tells_output sweep ≡ words.now.with_output) }
     ensures met { IfOk result (λ sweep. (first : List ℕ) × HasMet sweep first []
-        × (out.new.items ≡ head_text file.now input.items text.now (profile_of image.entry).isa words.now plan.now named part ++ rows_text first [])) }
+        × (out.new.items ≡ head_text file.now input.items text.now (profile_of image.entry) words.now plan.now named part ++ rows_text first [])) }
 {
     let sources = Sources {
         program: file,
         input: &input,
         suppressions: text,
     };
-    let isa = image.profile().isa;
-    push_head(alloc, out, &sources, isa, words, plan, named, part)?;
+    let profile = image.profile();
+    push_head(alloc, out, &sources, profile, words, plan, named, part)?;
     Sweep::begin(
         alloc,
         image,

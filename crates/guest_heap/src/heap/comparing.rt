@@ -47,6 +47,9 @@ impl Heap {
     pub fn is_same(&self, other: &Heap) -> bool
         ensures { IsTrue result → blocks_of self.now ≡ blocks_of other.now }
     {
+        if self.begin != other.begin {
+            return false;
+        }
         self.queue.is_same(&other.queue) && are_same(&self.live, &other.live)
     }
 }

@@ -5,7 +5,7 @@ use crate::bounds::{Bound, SizeClass, class_of, past};
 use crate::entry::Entry;
 use crate::heap::Heap;
 use crate::interval::high_end;
-use crate::region::{GREATEST_SIZE, HEAP_BEGIN, HEAP_END, aligned, slot_of};
+use crate::region::{GREATEST_SIZE, aligned, end_of, slot_of};
 use call_stacks::Trace;
 use std::alloc::{AllocError, Global};
 use std::rc::Rc;
@@ -14,7 +14,6 @@ use std::rc::Rc;
 impl Heap {
     ghost use Rattle.std.specs.Prelude.{IfOk, OnOk, OnErr};
     ghost use Rattle.guest_heap.specs.Blocks.{IsPlace, Places, allocated, greatest_size, with_block};
-    ghost use Rattle.memory_map.specs.Regions.{heap_begin};
     ghost use Rattle.guest_heap.specs.Entries.{block_of};
     ghost use Rattle.guest_heap.specs.Steps.{place};
     ghost use Rattle.guest_heap.specs.Heaps.{blocks_of, redzone_in};
@@ -24,7 +23,7 @@ impl Heap {
     /// Returns the least place from an address on, provided that there is none below it.
     fn place_from(&self, from: u64, size: u32, redzone: u32, known: &Bound) -> Option<u32>
         requires multiple { from % 16 ≡ 0 }
-        requires above { heap_begin + redzone ≤ from }
+        requires above { self.now.begin + redzone ≤ from }
         requires below { from < 17179869184 }
         requires small { size ≤ greatest_size }
         requires none { (q : ℕ) → q < from → ¬ (IsPlace (blocks_of self.now) size redzone q) }
@@ -33,8 +32,9 @@ impl Heap {
     {
         let before = u64::from(redzone);
         let after = u64::from(size.max(1)) + before;
+        let end = end_of(self.begin);
         let mut at = from;
-        while at + after <= HEAP_END {
+        while at + after <= end {
             match self.meeting(at - before, at + after) {
                 None => return Some(at as u32),
                 Some(entry) => {
@@ -69,10 +69,10 @@ impl Heap {
     {
         let known = u64::from(self.bounds.known(class));
         let own = self.bounds.get(class);
-        let from = aligned(known.max(HEAP_BEGIN + u64::from(self.redzone)));
+        let from = aligned(known.max(u64::from(self.begin) + u64::from(self.redzone)));
         let least = match self.place_from(from, class.least, self.redzone, &own) {
             Some(place) => place,
-            None => HEAP_END as u32,
+            None => end_of(self.begin) as u32,
         };
         Bound {
             size: own.size,
@@ -110,7 +110,7 @@ impl Heap {
         }
         self.use_redzone(alloc, redzone)?;
         let bound = self.raise_bound(&class_of(size))?;
-        let from = aligned(u64::from(bound.from).max(HEAP_BEGIN + u64::from(redzone)));
+        let from = aligned(u64::from(bound.from).max(u64::from(self.begin) + u64::from(redzone)));
         Ok(self.place_from(from, size, redzone, &bound))
     }
 
@@ -121,7 +121,7 @@ impl Heap {
         ensures ok { OnOk result (blocks_of self.new ≡ with_block (blocks_of self.old) (block_of entry)) }
         ensures err { OnErr result (blocks_of self.new ≡ blocks_of self.old) }
     {
-        let slot = slot_of(entry.start);
+        let slot = slot_of(self.begin, entry.start);
         let shared = Rc::new(alloc, entry)?;
         self.live.set(alloc, slot, Some(shared))?;
         Ok(())

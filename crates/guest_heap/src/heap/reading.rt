@@ -1,16 +1,15 @@
 //! Blocks of a heap by their addresses.
-ghost use Rattle.std.specs.Prelude.{◌≡◌, ◌≤◌, ℕ, None};
+ghost use Rattle.std.specs.Prelude.{◌≡◌, ◌<◌, ◌≤◌, ℕ, None};
 ghost use Rattle.guest_heap.specs.Blocks.{near_of, high_end};
 ghost use Rattle.guest_heap.specs.Entries.{block_of};
-ghost use Rattle.memory_map.specs.Regions.{heap_end};
 
 use crate::entry::Entry;
 use crate::heap::Heap;
-use crate::region::{HEAP_BEGIN, HEAP_END, SLOTS};
+use crate::region::{SLOTS, end_of};
 use heap_blocks::{Block, Near, Place};
 
 fn near_of(entry: &Entry, address: u32) -> Near
-    requires { high_end (block_of entry.now) ≤ heap_end }
+    requires { high_end (block_of entry.now) < 4294967296 }
     ensures { result ≡ near_of (block_of entry.now) address }
 {
     let found = entry.block();
@@ -62,7 +61,8 @@ impl Heap {
         ensures some { IfSome result (λ b. IsFirstLive (blocks_of self.now).live from b) }
         ensures none { IfNone result ((a : ℕ) → from ≤ a → (blocks_of self.now).live a ≡ None) }
     {
-        let above = u64::from(from).max(HEAP_BEGIN) - HEAP_BEGIN;
+        let begin = u64::from(self.begin);
+        let above = u64::from(from).max(begin) - begin;
         let slot = ((above + 15) / 16) as usize;
         match self.first_live(slot.min(SLOTS)) {
             Some(entry) => Some(entry.block()),
@@ -87,10 +87,10 @@ impl Heap {
         ensures only { (b : Block) → IsKept (blocks_of self.now) b → Holds b address → IsSomeAnd result (λ near. near.block ≡ b) }
     {
         let low = u64::from(address);
-        if low < HEAP_BEGIN {
+        if address < self.begin {
             return None;
         }
-        if low >= HEAP_END {
+        if low >= end_of(self.begin) {
             return None;
         }
         match self.meeting(low, low + 1) {

@@ -7,7 +7,7 @@ ghost use Rattle.guest_heap.specs.Tables.{entries_of};
 use crate::bounds::Opened;
 use crate::entry::Entry;
 use crate::heap::Heap;
-use crate::region::{HEAP_BEGIN, SLOTS, aligned, slot_of};
+use crate::region::{SLOTS, aligned, slot_of};
 use crate::released::Released;
 use crate::table::Table;
 use crate::traces::SharedTrace;
@@ -81,13 +81,13 @@ impl Heap {
     fn live_at(&self, address: u32) -> Option<&Entry>
         ensures { option_map block_of (option_copied result) ≡ (blocks_of self.now).live address }
     {
-        if u64::from(address) < HEAP_BEGIN {
+        if address < self.begin {
             return None;
         }
-        if slot_of(address) >= SLOTS {
+        if slot_of(self.begin, address) >= SLOTS {
             return None;
         }
-        match self.live.get(slot_of(address)) {
+        match self.live.get(slot_of(self.begin, address)) {
             Some(entry) => {
                 if entry.start == address {
                     return Some(entry);
@@ -119,7 +119,7 @@ impl Heap {
             return Err(AllocError);
         };
         let freed = freed_entry(alloc, block, made, trace, self.next)?;
-        let slot = slot_of(block.start);
+        let slot = slot_of(self.begin, block.start);
         self.queue.prepare(alloc)?;
         move_to_freed(alloc, &mut self.live, &mut self.freed, slot, &freed)?;
         self.queue.push(freed);
@@ -130,6 +130,7 @@ impl Heap {
 
     /// Removes the oldest block from the queue.
     fn forget_oldest(&mut self, alloc: Global)
+        ensures begin { (blocks_of self.new).begin ≡ (blocks_of self.old).begin }
         ensures live { (blocks_of self.new).live ≡ (blocks_of self.old).live }
         ensures queue { (blocks_of self.new).queue ≡ drop 1 (blocks_of self.old).queue }
     {
@@ -146,11 +147,12 @@ impl Heap {
         self.held -= u64::from(size);
         self.bounds.lower(&Opened { first, end, room });
         // If this fails, the entry stays but doesn't count: its number is too small.
-        let _ = self.freed.set(alloc, slot_of(start), None);
+        let _ = self.freed.set(alloc, slot_of(self.begin, start), None);
     }
 
     /// Removes the oldest blocks from the queue, until the sizes in it sum to at most a volume.
     fn forget(&mut self, alloc: Global, volume: u32)
+        ensures begin { (blocks_of self.new).begin ≡ (blocks_of self.old).begin }
         ensures live { (blocks_of self.new).live ≡ (blocks_of self.old).live }
         ensures queue { IsLongestFitting volume (blocks_of self.old).queue (blocks_of self.new).queue }
     {

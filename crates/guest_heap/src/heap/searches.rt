@@ -4,7 +4,7 @@ ghost use Rattle.std.specs.Prelude.{◌≡◌, ◌<◌, ◌≤◌, ◌+◌, ◌*
 use crate::entry::Entry;
 use crate::heap::Heap;
 use crate::interval::{high_end, low_end};
-use crate::region::{HEAP_BEGIN, HEAP_END, slot_of};
+use crate::region::{end_of, slot_of};
 
 #[tactic(auto, unfolding(crate::specs::Heaps::live_in, crate::specs::Heaps::freed_in, crate::specs::Heaps::first_in))]
 impl Heap {
@@ -15,7 +15,7 @@ impl Heap {
     ghost use Rattle.guest_heap.specs.States.{kept_at, either, IsNextKept, IsLastKept, MeetsBelow, MeetsFrom, EndsBelow, BeginsAbove};
     ghost use Rattle.guest_heap.specs.Heaps.{blocks_of, live_in, freed_in, first_in};
     ghost use Rattle.guest_heap.specs.Blocks.{IsKept, Meets, high_end};
-    ghost use Rattle.memory_map.specs.Regions.{heap_begin, heap_end};
+    ghost use Rattle.memory_map.specs.Regions.{heap_size};
 
     /// Returns the kept block of a slot.
     fn kept_in(&self, slot: usize) -> Option<&Entry>
@@ -130,42 +130,43 @@ impl Heap {
 
     /// Returns the end of the interval of the last kept block that begins below an address, or the region's begin if there is none.
     pub(crate) fn end_below(&self, start: u32) -> u64
-        requires above { heap_begin ≤ start }
-        requires below { start < heap_end }
+        requires above { self.now.begin ≤ start }
+        requires below { start < self.now.begin + heap_size }
         ensures end { EndsBelow (blocks_of self.now) start result }
-        ensures within { result ≤ heap_end }
+        ensures within { result ≤ self.now.begin + heap_size }
     {
-        match self.kept_below(slot_of(start)) {
+        match self.kept_below(slot_of(self.begin, start)) {
             Some(entry) => high_end(entry),
-            None => HEAP_BEGIN,
+            None => u64::from(self.begin),
         }
     }
 
     /// Returns the begin of the interval of the first kept block that begins above an address, or the region's end if there is none.
     pub(crate) fn begin_above(&self, start: u32) -> u64
-        requires above { heap_begin ≤ start }
-        requires below { start < heap_end }
+        requires above { self.now.begin ≤ start }
+        requires below { start < self.now.begin + heap_size }
         ensures begin { BeginsAbove (blocks_of self.now) start result }
     {
-        match self.kept_from(slot_of(start) + 1) {
+        match self.kept_from(slot_of(self.begin, start) + 1) {
             Some(entry) => low_end(entry),
-            None => HEAP_END,
+            None => end_of(self.begin),
         }
     }
 
     /// Returns a kept block whose interval meets a range.
+    #[tactic(auto, unfolding(crate::specs::Heaps::blocks_of))]
     pub(crate) fn meeting(&self, low: u64, high: u64) -> Option<&Entry>
-        requires above { heap_begin ≤ low }
-        requires below { low ≤ heap_end }
+        requires above { self.now.begin ≤ low }
+        requires below { low ≤ self.now.begin + heap_size }
         requires order { low < high }
         ensures some { IfSome result (λ e. IsKept (blocks_of self.now) (block_of e.now)) }
         ensures meets { IfSome result (λ e. Meets low high (block_of e.now)) }
-        ensures within { IfSome result (λ e. high_end (block_of e.now) ≤ heap_end) }
+        ensures within { IfSome result (λ e. high_end (block_of e.now) ≤ self.now.begin + heap_size) }
         ensures none { IfNone result ((b : Block) → IsKept (blocks_of self.now) b → ¬ (Meets low high b)) }
     {
         // Looks first at the blocks that begin in the range or after it: a walk from block to block has each ahead of it, and seldom looks
         // back.
-        let from = ((low - HEAP_BEGIN + 15) / 16) as usize;
+        let from = ((low - u64::from(self.begin) + 15) / 16) as usize;
         match self.meeting_from(from, high) {
             Some(entry) => Some(entry),
             None => self.meeting_below(from, low),

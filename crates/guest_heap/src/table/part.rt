@@ -56,7 +56,7 @@ pub(crate) trait Part: Drop {
         requires { at ≤ PLACES }
         ensures { IsLast (entries self.now) at result };
 
-    /// It has at least one place, and at most as many as the heap region.
+    /// It has at least one place, and at most as many as the heap's region.
     ghost sized: { IsSize PLACES };
 }
 

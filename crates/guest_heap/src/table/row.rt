@@ -14,7 +14,7 @@ use std::rc::Rc;
 const THIRD_LEVEL: usize = 262144;
 
 /// Returns the number of parts of a row, each with `each` places: 64, or, if each part is a row of 64 rows of 64 leaves, as many as the
-/// heap region has.
+/// heap's region has.
 #[tactic(auto, unfolding(crate::specs::Sizes::parts_of))]
 const fn parts_of(each: usize) -> usize
     requires { IsSize each }

@@ -17,25 +17,23 @@ use error_events::Groups;
 use guest_elf::{Image, Segment};
 use guest_heap::Heap;
 use instructions::Code;
+use memory_map::FIRST_STACK_BYTES;
 use run_values::{Alteration, Mark, Status};
 use shadow_memory::Memory;
 use std::alloc::{AllocError, Global};
-
-/// Where the stack pointer points at the start.
-const FIRST_STACK_POINTER: u32 = 0x7FFF_FFF0;
-/// How many bytes may be used from there on.
-const FIRST_STACK_BYTES: u32 = 16;
 
 impl Guest {
     fn start(alloc: Global, image: &Image) -> Result<Guest, AllocError>
         ensures { IfOk result (λ guest. Holds guest (start_state image.now)) }
     {
+        let profile = image.profile();
+        let stack_start = profile.regions.stack_start();
         let mut memory = Memory::new(alloc);
         load_segments(&mut memory, image.segments())?;
-        memory.fill(FIRST_STACK_POINTER, FIRST_STACK_BYTES, &[])?;
+        memory.fill(stack_start, FIRST_STACK_BYTES, &[])?;
         let cached = CachedMemory::new(alloc, memory);
         let mut registers = [known(0); 32];
-        registers[2] = known(FIRST_STACK_POINTER);
+        registers[2] = known(stack_start);
         Ok(Guest {
             alloc,
             memory: cached,
@@ -43,7 +41,7 @@ impl Guest {
             pc: image.entry(),
             status: Status::Running,
             frames: CallStack::new(alloc)?,
-            heap: Heap::new(alloc),
+            heap: Heap::new_in(alloc, profile.regions),
             progress: Progress {
                 position: 0,
                 end_seen: false,
@@ -54,7 +52,8 @@ impl Guest {
                 groups: Groups::new(alloc),
                 raised: false,
             },
-            isa: image.profile().isa,
+            isa: profile.isa,
+            stack: profile.regions.stack(),
             reserved: None,
             controls: ControlRegisters::new(alloc),
             steps: 0,
@@ -134,6 +133,7 @@ impl Guest {
                 raised: self.noted.raised,
             },
             isa: self.isa,
+            stack: self.stack,
             reserved: self.reserved,
             controls: self.controls.share()?,
             steps: self.steps,

@@ -9,14 +9,14 @@ ghost use Rattle.guest_machine.specs.Doing.{Notes};
 use crate::machine::Guest;
 use error_events::{Event, Kind, Note};
 use instructions::{Comparison, Register, is_undecided};
-use memory_map::{STACK_BEGIN, STACK_END};
+use memory_map::StackRegion;
 use std::alloc::AllocError;
 
 /// The note on an address that is near no block.
-fn region_note(addr: u32) -> Note
-    ensures { result ≡ region_note addr }
+fn region_note(stack: StackRegion, addr: u32) -> Note
+    ensures { result ≡ region_note stack addr }
 {
-    if STACK_BEGIN <= addr && addr < STACK_END {
+    if stack.begin <= addr && addr < stack.end {
         Note::Stack(addr)
     } else {
         Note::Elsewhere(addr)
@@ -27,11 +27,11 @@ impl Guest {
     /// The note on an address.
     #[tactic(auto, unfolding(crate::specs::Errors::note_at))]
     pub(super) fn note_at(&self, addr: u32) -> Note
-        ensures { result ≡ note_at (core_of self.now).blocks addr }
+        ensures { result ≡ note_at (core_of self.now).stack (core_of self.now).blocks addr }
     {
         match self.heap.block_near(addr) {
             Some(near) => Note::Near(addr, near),
-            None => region_note(addr),
+            None => region_note(self.stack, addr),
         }
     }
 
@@ -73,7 +73,7 @@ impl Guest {
     #[inline(never)]
     #[tactic(auto, unfolding(crate::specs::Errors::event_about, crate::specs::Doing::note_events))]
     pub(super) fn raise_about(&mut self, kind: Kind, fault: Option<u32>) -> Result<(), AllocError>
-        ensures { OnOk result (Notes self.old self.new (core_of self.old) (event_about (core_of self.old).blocks (here (core_of self.old)) kind fault)) }
+        ensures { OnOk result (Notes self.old self.new (core_of self.old) (event_about (core_of self.old).stack (core_of self.old).blocks (here (core_of self.old)) kind fault)) }
     {
         if let Some(addr) = fault {
             let note = self.note_at(addr);
@@ -86,7 +86,7 @@ impl Guest {
     #[inline(always)]
     #[tactic(auto, unfolding(crate::specs::Errors::event_about, crate::specs::Doing::note_events))]
     pub(super) fn test_load(&mut self, len: u8, bad: Option<u32>) -> Result<(), AllocError>
-        ensures { OnOk result (Notes self.old self.new (core_of self.old) (event_about (core_of self.old).blocks (here (core_of self.old)) (Kind.Read len) bad)) }
+        ensures { OnOk result (Notes self.old self.new (core_of self.old) (event_about (core_of self.old).stack (core_of self.old).blocks (here (core_of self.old)) (Kind.Read len) bad)) }
     {
         match bad {
             None => Ok(()),
@@ -98,7 +98,7 @@ impl Guest {
     #[inline(always)]
     #[tactic(auto, unfolding(crate::specs::Errors::event_about, crate::specs::Doing::note_events))]
     pub(super) fn test_store(&mut self, len: u8, bad: Option<u32>) -> Result<(), AllocError>
-        ensures { OnOk result (Notes self.old self.new (core_of self.old) (event_about (core_of self.old).blocks (here (core_of self.old)) (Kind.Write len) bad)) }
+        ensures { OnOk result (Notes self.old self.new (core_of self.old) (event_about (core_of self.old).stack (core_of self.old).blocks (here (core_of self.old)) (Kind.Write len) bad)) }
     {
         match bad {
             None => Ok(()),

@@ -3,7 +3,8 @@ ghost use Rattle.std.specs.Prelude.{◌≡◌, ◌+◌, ◌*◌, ◌≤◌, ◌<
 ghost use Rattle.std.specs.Option.{option_map};
 ghost use Rattle.shadow_memory.specs.Ranges.{written, window};
 ghost use Rattle.shadow_memory.specs.Changes.{AreApart};
-ghost use Rattle.memory_map.specs.Regions.{heap_end};
+ghost use Rattle.memory_map.specs.Regions.{greatest_heap_begin, heap_size};
+ghost use Rattle.guest_heap.specs.Blocks.{greatest_size};
 ghost use Rattle.guest_heap.specs.Steps.{place};
 ghost use Rattle.guest_machine.specs.StackPointer.{ranged};
 ghost use Rattle.guest_machine.specs.HeapCalls.{placed, closed, carved, copied, IsClearOf, given_block, freed, released_here, is_invalid, free_errors, moving_in, resizing, resized, resize_errors};
@@ -33,12 +34,14 @@ impl Guest {
     fn take_place(&mut self, size: u32, redzone: u32) -> Result<Option<u32>, AllocError>
         ensures place { IfOk result (λ found. found ≡ place (core_of self.old).blocks size redzone) }
         ensures core { IfOk result (λ found. core_of self.new ≡ placed (core_of self.old) found size redzone) }
-        ensures within { IfOk result (λ found. IfSome found (λ p. (redzone ≤ p) × (p + max size 1 + redzone ≤ heap_end))) }
+        ensures within { IfOk result (λ found. IfSome found (λ p. (redzone ≤ p) × (p + max size 1 + redzone ≤ greatest_heap_begin + heap_size))) }
+        ensures small { IfOk result (λ found. IfSome found (λ p. size ≤ greatest_size)) }
         ensures apart { IfOk result (λ found. IfSome found (IsClearOf (core_of self.old).blocks size redzone)) }
         ensures memory { self.new.memory ≡ self.old.memory }
         ensures progress { self.new.progress ≡ self.old.progress }
         ensures noted { self.new.noted ≡ self.old.noted }
     {
+        self.heap.in_region();
         let trace = self.frames.trace(self.pc);
         self.heap.allocate(self.alloc, size, trace, redzone)
     }
@@ -46,7 +49,7 @@ impl Guest {
     /// Makes a block's interval inaccessible.
     fn close(&mut self, p: u32, size: u32, redzone: u32) -> Result<(), AllocError>
         requires low { redzone ≤ p }
-        requires high { p + max size 1 + redzone ≤ heap_end }
+        requires high { p + max size 1 + redzone ≤ greatest_heap_begin + heap_size }
         ensures { OnOk result (Changes self.old self.new (closed (core_of self.old) p size redzone) (bytes_of self.old)) }
     {
         let len = redzone + size.max(1) + redzone;
@@ -56,7 +59,7 @@ impl Guest {
     /// Makes a block's interval inaccessible, and then its bytes accessible and undefined.
     fn carve(&mut self, p: u32, size: u32, redzone: u32) -> Result<(), AllocError>
         requires low { redzone ≤ p }
-        requires high { p + max size 1 + redzone ≤ heap_end }
+        requires high { p + max size 1 + redzone ≤ greatest_heap_begin + heap_size }
         ensures { OnOk result (Changes self.old self.new (carved (core_of self.old) p size redzone RangeKind.Undefined) (bytes_of self.old)) }
     {
         self.close(p, size, redzone)?;

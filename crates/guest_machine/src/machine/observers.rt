@@ -40,6 +40,13 @@ impl Machine {
         self.guest.isa
     }
 
+    /// Returns the first address of the heap's region.
+    pub fn heap_begin(&self) -> u32
+        ensures { (s : State) → Shows self.now s → result ≡ s.core.blocks.begin }
+    {
+        self.guest.heap.begin()
+    }
+
     /// Returns the number of bytes of input read.
     pub fn position(&self) -> u64
         ensures { (s : State) → Shows self.now s → result ≡ s.position }

@@ -7,7 +7,7 @@ ghost use Rattle.guest_machine.specs.Doing.{Changes};
 use crate::machine::Guest;
 use definedness::Bits;
 use instructions::Register;
-use memory_map::{STACK_BEGIN, STACK_END};
+use memory_map::StackRegion;
 use shadow_memory::RangeKind;
 use std::alloc::AllocError;
 
@@ -15,10 +15,10 @@ use std::alloc::AllocError;
 const LARGEST_FRAME: u32 = 2_000_000;
 
 /// Whether it is a defined address in the stack region, including its end.
-fn is_stack_pointer(bits: Bits) -> bool
-    ensures { result ≡ is_stack_pointer bits }
+fn is_stack_pointer(stack: StackRegion, bits: Bits) -> bool
+    ensures { result ≡ is_stack_pointer stack bits }
 {
-    bits.undef == 0 && STACK_BEGIN <= bits.value && bits.value <= STACK_END
+    bits.undef == 0 && stack.begin <= bits.value && bits.value <= stack.end
 }
 
 impl Guest {
@@ -52,7 +52,7 @@ impl Guest {
         if new.value == old.value {
             return Ok(());
         }
-        if is_stack_pointer(old) && is_stack_pointer(new) {
+        if is_stack_pointer(self.stack, old) && is_stack_pointer(self.stack, new) {
             if new.value < old.value {
                 self.frame(new.value, old.value, RangeKind::Undefined)?;
             } else if old.value < new.value {

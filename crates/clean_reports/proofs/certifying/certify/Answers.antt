@@ -1,4 +1,4 @@
-use Rattle.std.proofs.Common.{◌≡◌, ◌∙◌, ℕ, List, Option, Some, ap, arith, refl, subst}
+use Rattle.std.proofs.Common.{◌≡◌, ◌∙◌, ℕ, List, Option, Some, ap, arith, refl, subst₂}
 use Rattle.std.specs.List.{find}
 use Rattle.error_events.specs.Groups.{grouped}
 use Rattle.error_events.specs.Shown.{groups_of}
@@ -12,19 +12,23 @@ use Rattle.run_values.specs.declared.alteration.Alteration.{Alteration}
 use Rattle.checkpoints.proofs.RunSteps.{post-isa}
 use Rattle.clean_reports.specs.Uses.{is_use}
 use Rattle.clean_reports.specs.Verdicts.{IsFirstInTheWay, NoneInTheWay}
+use Rattle.clean_reports.proofs.HeapRuns.{post-begin}
 use Rattle.clean_reports.proofs.Verdicts.{certified, found-use, no-use, some-use}
 use Rattle.clean_reports.proofs.certifying.certify.Goals as goal
 
 -- none is in the way of the run, if none is with the instruction set of a step's machine
-clear : (start : State) (setup : Setup) (marks : List Alteration) (step : ℕ) (isa : Isa)
-    → isa ≡ (post start setup marks step).core.isa → NoneInTheWay isa marks → NoneInTheWay start.core.isa marks
-clear start setup marks step isa same none =
-    subst (λ isa. NoneInTheWay isa marks) (same ∙ post-isa keeps-isa start setup marks step) none
+clear : (start : State) (setup : Setup) (marks : List Alteration) (step : ℕ) (isa : Isa) (heap : ℕ)
+    → isa ≡ (post start setup marks step).core.isa → heap ≡ (post start setup marks step).core.blocks.begin
+    → NoneInTheWay isa heap marks → NoneInTheWay start.core.isa start.core.blocks.begin marks
+clear start setup marks step isa heap same at none =
+    subst₂ (λ isa heap. NoneInTheWay isa heap marks) (same ∙ post-isa keeps-isa start setup marks step)
+    (at ∙ post-begin start setup marks step) none
 
 pub returns-in_default-first_use-clause-verdict : goal.returns-in_default-first_use-clause-verdict
 returns-in_default-first_use-clause-verdict c = λ start right none. (
-  clear start c.args.setup.now c.args.marks.now c.args.step c.isa.result
-      (c.isa.ensures _ (c.in_ok-machine.ensures.shows start right)) c.in_default.ensures.none,
+  clear start c.args.setup.now c.args.marks.now c.args.step c.isa.result c.heap_begin.result
+      (c.isa.ensures _ (c.in_ok-machine.ensures.shows start right))
+      (c.heap_begin.ensures _ (c.in_ok-machine.ensures.shows start right)) c.in_default.ensures.none,
   no-use (groups_of c.groups.result.now) _ (c.groups.ensures _ (c.in_ok-machine.ensures.shows start right))
       c.in_default-first_use.ensures,
 )
@@ -32,8 +36,9 @@ returns-in_default-first_use-clause-verdict c = λ start right none. (
 pub returns-in_default-first_use-clause-certified : goal.returns-in_default-first_use-clause-certified
 returns-in_default-first_use-clause-certified c = λ is image start right begins bytes.
     certified image start c.args.setup.now c.args.marks.now c.args.step begins bytes
-    (clear start c.args.setup.now c.args.marks.now c.args.step c.isa.result
-    (c.isa.ensures _ (c.in_ok-machine.ensures.shows start right)) c.in_default.ensures.none)
+    (clear start c.args.setup.now c.args.marks.now c.args.step c.isa.result c.heap_begin.result
+    (c.isa.ensures _ (c.in_ok-machine.ensures.shows start right))
+    (c.heap_begin.ensures _ (c.in_ok-machine.ensures.shows start right)) c.in_default.ensures.none)
     (no-use (groups_of c.groups.result.now) _ (c.groups.ensures _ (c.in_ok-machine.ensures.shows start right))
     c.in_default-first_use.ensures)
 
@@ -51,17 +56,20 @@ returns-clause-verdict c = λ start right none.
     let some = some-use es group is in
     let there = c.at_altered.ensures.right start right in
     let below = c.in_ok-first_use_step.ensures.below start there none some in (
-      clear start c.args.setup.now c.args.marks.now c.args.step c.isa.result
-          (c.isa.ensures _ (c.in_ok-machine.ensures.shows start right)) c.in_default.ensures.none,
+      clear start c.args.setup.now c.args.marks.now c.args.step c.isa.result c.heap_begin.result
+          (c.isa.ensures _ (c.in_ok-machine.ensures.shows start right))
+          (c.heap_begin.ensures _ (c.in_ok-machine.ensures.shows start right)) c.in_default.ensures.none,
       found-use start c.args.setup.now c.args.marks.now c.args.step c.in_ok-first_use_step.field-0 group is
           (omega (arith, below)) (c.in_ok-first_use_step.ensures.raises start there none some) _ refl refl refl,
     )
 
 pub returns-in-Some-clause-verdict : goal.returns-in-Some-clause-verdict
 returns-in-Some-clause-verdict c = λ start right none.
-    subst (λ (isa : Isa). IsFirstInTheWay isa c.args.marks.now c.in-Some.index c.in-Some.mark)
+    subst₂ (λ (isa : Isa) (heap : ℕ). IsFirstInTheWay isa heap c.args.marks.now c.in-Some.index c.in-Some.mark)
     (c.isa.ensures _ (c.in_ok-machine.ensures.shows start right)
-    ∙ post-isa keeps-isa start c.args.setup.now c.args.marks.now c.args.step) c.in-Some.ensures.some
+    ∙ post-isa keeps-isa start c.args.setup.now c.args.marks.now c.args.step)
+    (c.heap_begin.ensures _ (c.in_ok-machine.ensures.shows start right)
+    ∙ post-begin start c.args.setup.now c.args.marks.now c.args.step) c.in-Some.ensures.some
 
 pub returns-clause-right : goal.returns-clause-right
 returns-clause-right c =

@@ -8,6 +8,6 @@ returns c = record {
   file = c.in_ok-get_str.ensures ∙ first_value-rows (found_of c.args.chosen.now) (codes "FILE");
   input = c.get_str-2.ensures ∙ first_value-rows (found_of c.args.chosen.now) (codes "input");
   rules = c.get_str-3.ensures ∙ first_value-rows (found_of c.args.chosen.now) (codes "supp");
-  isa = c.in_ok-get_str-2.ensures ∙ first_value-rows (found_of c.args.chosen.now) (codes "isa");
+  profile = c.in_ok-profile_of.ensures;
   task = c.in_ok-task_of.ensures;
 }

@@ -24,7 +24,7 @@ returns-in_err-file g c =
 pub returns-in_err-image : goal.returns-in_err-image
 returns-in_err-image g c =
     rw (passed-on c.from_residual-in_err-image.result _ c.from_residual-in_err-image.ensures.1) (inl (
-      no-image (g.F.Files.gives c.args.files.now) c.args.order.now.isa.now c.args.order.now.file.now _ _ _
+      no-image (g.F.Files.gives c.args.files.now) c.args.order.now.profile c.args.order.now.file.now _ _ _
           c.in_err-image.field-0.0 c.in_ok-profile.ensures.ok
           c.in_ok-file.ensures.ok c.deref.ensures.value c.in_err-image.ensures.refused c.in_err-image.ensures.least,
       untouched _ _,

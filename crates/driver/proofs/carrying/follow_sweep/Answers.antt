@@ -27,7 +27,7 @@ returns-in_err-profile g c =
 pub returns-in_err-file : goal.returns-in_err-file
 returns-in_err-file g c =
     let near : c.args.words.now.step ≤ most_steps = search rules in
-    let none = no-file (g.F.Files.gives c.args.files.now) c.args.order.now.isa.now c.args.order.now.file.now _
+    let none = no-file (g.F.Files.gives c.args.files.now) c.args.order.now.profile c.args.order.now.file.now _
     c.in_err-file.field-0.0 c.in_ok-profile.ensures.ok c.in_err-file.ensures.err in
     rw (passed-on c.from_residual-in_err-file.result _ c.from_residual-in_err-file.ensures.1)
     (inr (near, inr (c.in_ok-request.request, c.in_ok-request.ensures.ok, inl (none, Appends-nil _))))
@@ -35,7 +35,7 @@ returns-in_err-file g c =
 pub returns-in_err-image : goal.returns-in_err-image
 returns-in_err-image g c =
     let near : c.args.words.now.step ≤ most_steps = search rules in
-    let none = no-image (g.F.Files.gives c.args.files.now) c.args.order.now.isa.now c.args.order.now.file.now _ _ _
+    let none = no-image (g.F.Files.gives c.args.files.now) c.args.order.now.profile c.args.order.now.file.now _ _ _
     c.in_err-image.field-0.0 c.in_ok-profile.ensures.ok c.in_ok-file.ensures.ok c.deref.ensures.value
     c.in_err-image.ensures.refused c.in_err-image.ensures.least in
     rw (passed-on c.from_residual-in_err-image.result _ c.from_residual-in_err-image.ensures.1)

@@ -33,7 +33,7 @@ returns-in_err-file-clause-err g c =
       inl (
         c.in_err-file.field-0.0,
         refl,
-        no-file (g.F.Files.gives c.args.files.now) c.args.order.now.isa.now c.args.order.now.file.now
+        no-file (g.F.Files.gives c.args.files.now) c.args.order.now.profile c.args.order.now.file.now
             c.in_ok-profile.profile c.in_err-file.field-0.0 c.in_ok-profile.ensures.ok c.in_err-file.ensures.err,
         untouched (g.R.Read.remaining c.args.reader.now) (g.W.Write.contents c.args.writer.now)
             (g.L.Write.contents c.args.log.now),
@@ -52,7 +52,7 @@ returns-in_err-image-clause-err g c =
       inl (
         Refused fault,
         refl,
-        no-image (g.F.Files.gives c.args.files.now) c.args.order.now.isa.now c.args.order.now.file.now
+        no-image (g.F.Files.gives c.args.files.now) c.args.order.now.profile c.args.order.now.file.now
             c.in_ok-file.file.items c.deref.result.now c.in_ok-profile.profile fault c.in_ok-profile.ensures.ok
             c.in_ok-file.ensures.ok c.deref.ensures.value c.in_err-image.ensures.refused
             c.in_err-image.ensures.least,

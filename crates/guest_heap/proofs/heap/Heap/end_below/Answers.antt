@@ -1,4 +1,4 @@
-use Rattle.std.proofs.Common.{ℕ, sym, subst, arith}
+use Rattle.std.proofs.Common.{ℕ, inl, sym, subst, arith}
 use Rattle.guest_heap.specs.Heaps.{blocks_of, live_in, freed_in, first_in}
 use Rattle.guest_heap.specs.Tables.{entries_of}
 use Rattle.guest_heap.specs.Queues.{queued}
@@ -11,8 +11,9 @@ pub returns-in-Some-clause-end : goal.returns-in-Some-clause-end
 unfolding blocks_of live_in freed_in first_in
 returns-in-Some-clause-end c =
     let heap = c.args.self.now in
-    let P : ℕ → Type 0 = EndsBelow (shown (entries_of heap.live) (queued heap.queue)) c.args.start in
-    subst P (sym c.high_end.ensures) (ends_below (entries_of heap.live) (entries_of heap.freed) (queued heap.queue)
+    let P : ℕ → Type 0 = EndsBelow (shown heap.begin (entries_of heap.live) (queued heap.queue)) c.args.start in
+    subst P (sym c.high_end.ensures)
+    (ends_below heap.begin (entries_of heap.live) (entries_of heap.freed) (queued heap.queue)
     heap.first heap.sound c.slot_of.result
     c.args.start (block_of c.in-Some.entry.now) c.in-Some.ensures (omega (arith, c.slot_of.ensures))).0
 
@@ -23,7 +24,11 @@ returns-in-Some-clause-within c =
     omega (
       arith,
       c.high_end.ensures,
-      (ends_below (entries_of heap.live) (entries_of heap.freed) (queued heap.queue) heap.first heap.sound
+      (ends_below heap.begin (entries_of heap.live) (entries_of heap.freed) (queued heap.queue) heap.first heap.sound
           c.slot_of.result
           c.args.start (block_of c.in-Some.entry.now) c.in-Some.ensures (omega (arith, c.slot_of.ensures))).1,
     )
+
+pub returns-in-None-clause-end : goal.returns-in-None-clause-end
+unfolding blocks_of
+returns-in-None-clause-end c = inl c.from.ensures

@@ -17,8 +17,8 @@ pub slot_of-slot-requires : goal.slot_of-slot-requires
 unfolding blocks_of
 slot_of-slot-requires c =
     let heap = c.args.self.now in
-    let placed = (old (entries_of heap.live) (entries_of heap.freed) (queued heap.queue) heap.first heap.sound
-    c.args.block.now c.args.trace c.requires.live).placed in
+    let placed = (old heap.begin (entries_of heap.live) (entries_of heap.freed) (queued heap.queue) heap.first
+    heap.sound c.args.block.now c.args.trace c.requires.live).placed in
     omega (arith, placed.low)
 
 pub invariant_of-self-2 : goal.invariant_of-self-2
@@ -26,29 +26,32 @@ unfolding blocks_of
 invariant_of-self-2 c =
     let heap = c.args.self.now in
     let P : ℕ → Entry = λ n. entry_for (freed_by c.args.trace c.args.block.now) n in
-    let sizes = enqueued_volume (entries_of heap.live) (entries_of heap.freed) (queued heap.queue) heap.first heap.sound
-    c.args.block.now c.args.trace c.requires.live
-    _ _ _ _ _ _ _ c.in_ok-move_to_freed.ensures.live c.in_ok-move_to_freed.ensures.freed c.push.ensures
-    c.in_ok-prepare.ensures.same c.slot_of-slot.ensures refl (c.in_ok-freed.ensures ∙ ap P heap.numbered) in
-    let lengths = enqueued_length (entries_of heap.live) (entries_of heap.freed) (queued heap.queue) heap.first
+    let sizes = enqueued_volume heap.begin (entries_of heap.live) (entries_of heap.freed) (queued heap.queue) heap.first
     heap.sound c.args.block.now c.args.trace c.requires.live
     _ _ _ _ _ _ _ c.in_ok-move_to_freed.ensures.live c.in_ok-move_to_freed.ensures.freed c.push.ensures
     c.in_ok-prepare.ensures.same c.slot_of-slot.ensures refl (c.in_ok-freed.ensures ∙ ap P heap.numbered) in
+    let lengths = enqueued_length heap.begin (entries_of heap.live) (entries_of heap.freed) (queued heap.queue)
+    heap.first heap.sound c.args.block.now c.args.trace c.requires.live
+    _ _ _ _ _ _ _ c.in_ok-move_to_freed.ensures.live c.in_ok-move_to_freed.ensures.freed c.push.ensures
+    c.in_ok-prepare.ensures.same c.slot_of-slot.ensures refl (c.in_ok-freed.ensures ∙ ap P heap.numbered) in
     record {
+      grid = heap.grid;
+      some = heap.some;
+      within = heap.within;
       sound =
-          enqueued_sound (entries_of heap.live) (entries_of heap.freed) (queued heap.queue) heap.first heap.sound
-          c.args.block.now c.args.trace c.requires.live
+          enqueued_sound heap.begin (entries_of heap.live) (entries_of heap.freed) (queued heap.queue) heap.first
+          heap.sound c.args.block.now c.args.trace c.requires.live
           _ _ _ _ _ _ _ c.in_ok-move_to_freed.ensures.live c.in_ok-move_to_freed.ensures.freed c.push.ensures
           c.in_ok-prepare.ensures.same c.slot_of-slot.ensures refl (c.in_ok-freed.ensures ∙ ap P heap.numbered);
       numbered = omega (arith, heap.numbered, lengths, c.in-Some.ensures);
       volume = omega (arith, heap.volume, sizes, c.in-Some-checked_add.ensures, c.from.ensures);
       bounded = (let Q : Blocks → Type 0 = λ bs. AreBounds bs heap.redzone (bounds_in heap.bounds) in
-          subst Q (sym (enqueued_shown (entries_of heap.live) (entries_of heap.freed) (queued heap.queue) heap.first
-          heap.sound c.args.block.now c.args.trace c.requires.live
+          subst Q (sym (enqueued_shown heap.begin (entries_of heap.live) (entries_of heap.freed) (queued heap.queue)
+          heap.first heap.sound c.args.block.now c.args.trace c.requires.live
           _ _ _ _ _ _ _ c.in_ok-move_to_freed.ensures.live c.in_ok-move_to_freed.ensures.freed c.push.ensures
           c.in_ok-prepare.ensures.same c.slot_of-slot.ensures refl
           (c.in_ok-freed.ensures ∙ ap P heap.numbered)))
-          (no_more_freed (shown (entries_of heap.live) (queued heap.queue)) c.args.block.now c.args.trace
+          (no_more_freed (shown heap.begin (entries_of heap.live) (queued heap.queue)) c.args.block.now c.args.trace
           heap.redzone
           (bounds_in heap.bounds) c.requires.live
           heap.bounded));
@@ -59,7 +62,7 @@ unfolding blocks_of
 returns-clause-ok c =
     let heap = c.args.self.now in
     let P : ℕ → Entry = λ n. entry_for (freed_by c.args.trace c.args.block.now) n in
-    enqueued_shown (entries_of heap.live) (entries_of heap.freed) (queued heap.queue) heap.first heap.sound
+    enqueued_shown heap.begin (entries_of heap.live) (entries_of heap.freed) (queued heap.queue) heap.first heap.sound
     c.args.block.now c.args.trace c.requires.live
     _ _ _ _ _ _ _ c.in_ok-move_to_freed.ensures.live c.in_ok-move_to_freed.ensures.freed c.push.ensures
     c.in_ok-prepare.ensures.same c.slot_of-slot.ensures refl (c.in_ok-freed.ensures ∙ ap P heap.numbered)
@@ -69,15 +72,18 @@ unfolding blocks_of
 invariant_of-self-in-Break-branch-3 c =
     let heap = c.args.self.now in
     record {
+      grid = heap.grid;
+      some = heap.some;
+      within = heap.within;
       sound =
-          spared_sound (entries_of heap.live) (entries_of heap.freed) (queued heap.queue) heap.first heap.sound
-          c.args.block.now c.args.trace c.requires.live
+          spared_sound heap.begin (entries_of heap.live) (entries_of heap.freed) (queued heap.queue) heap.first
+          heap.sound c.args.block.now c.args.trace c.requires.live
           _ _ _ _ _ c.in_err-move_to_freed.ensures.live_err c.prepare.ensures.same c.slot_of-slot.ensures
           c.in_err-move_to_freed.ensures.freed_err;
       numbered = heap.numbered ∙ ap (λ es. heap.first + length es) (sym c.prepare.ensures.same);
       volume = heap.volume ∙ ap volume_in (sym c.prepare.ensures.same);
       bounded =
-          same_bounds (entries_of heap.live) (entries_of c.move_to_freed.new.live) (queued heap.queue)
+          same_bounds heap.begin (entries_of heap.live) (entries_of c.move_to_freed.new.live) (queued heap.queue)
           (queued c.prepare.new.self) heap.redzone
           (bounds_in heap.bounds) c.in_err-move_to_freed.ensures.live_err c.prepare.ensures.same heap.bounded;
     }
@@ -88,20 +94,24 @@ invariant_of-self c =
     let heap = c.args.self.now in
     let same = c.prepare.ensures.same in
     record {
-      sound = same_sound _ _ _ _ _ _ heap.first refl refl same heap.sound;
+      grid = heap.grid;
+      some = heap.some;
+      within = heap.within;
+      sound = same_sound heap.begin _ _ _ _ _ _ heap.first refl refl same heap.sound;
       numbered = heap.numbered ∙ ap (λ es. heap.first + length es) (sym same);
       volume = heap.volume ∙ ap volume_in (sym same);
       bounded =
-          same_bounds (entries_of heap.live) (entries_of heap.live) (queued heap.queue) (queued c.prepare.new.self)
+          same_bounds heap.begin (entries_of heap.live) (entries_of heap.live) (queued heap.queue)
+          (queued c.prepare.new.self)
           heap.redzone (bounds_in heap.bounds) refl same heap.bounded;
     }
 
 pub returns-in_err-prepare-clause-err : goal.returns-in_err-prepare-clause-err
 unfolding blocks_of
 returns-in_err-prepare-clause-err c =
-    (on_any _ (ap (λ es. shown (entries_of c.args.self.now.live) es) c.prepare.ensures.same)).1
+    (on_any _ (ap (λ es. shown c.args.self.now.begin (entries_of c.args.self.now.live) es) c.prepare.ensures.same)).1
 
 pub returns-in_err-move_to_freed-clause-err : goal.returns-in_err-move_to_freed-clause-err
 unfolding blocks_of
 returns-in_err-move_to_freed-clause-err c =
-    (on_any _ (ap₂ shown c.in_err-move_to_freed.ensures.live_err c.prepare.ensures.same)).1
+    (on_any _ (ap₂ (shown c.args.self.now.begin) c.in_err-move_to_freed.ensures.live_err c.prepare.ensures.same)).1

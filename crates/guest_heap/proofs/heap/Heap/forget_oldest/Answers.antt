@@ -18,43 +18,43 @@ overflow_sub-self c =
 pub end_below-requires-clause-above : goal.end_below-requires-clause-above
 end_below-requires-clause-above c =
     let old = c.args.self.now in
-    let placed = front_low (entries_of old.live) (entries_of old.freed) (queued old.queue) old.first c.in-Some.entry.now
-    old.sound c.in-Some.ensures in
+    let placed = front_low old.begin (entries_of old.live) (entries_of old.freed) (queued old.queue) old.first
+    c.in-Some.entry.now old.sound c.in-Some.ensures in
     omega (arith, placed.low)
 
 pub end_below-requires-clause-below : goal.end_below-requires-clause-below
 end_below-requires-clause-below c =
     let old = c.args.self.now in
-    let placed = front_low (entries_of old.live) (entries_of old.freed) (queued old.queue) old.first c.in-Some.entry.now
-    old.sound c.in-Some.ensures in
+    let placed = front_low old.begin (entries_of old.live) (entries_of old.freed) (queued old.queue) old.first
+    c.in-Some.entry.now old.sound c.in-Some.ensures in
     omega (arith, placed.high)
 
 pub begin_above-end-requires-clause-above : goal.begin_above-end-requires-clause-above
 begin_above-end-requires-clause-above c =
     let old = c.args.self.now in
-    let placed = front_low (entries_of old.live) (entries_of old.freed) (queued old.queue) old.first c.in-Some.entry.now
-    old.sound c.in-Some.ensures in
+    let placed = front_low old.begin (entries_of old.live) (entries_of old.freed) (queued old.queue) old.first
+    c.in-Some.entry.now old.sound c.in-Some.ensures in
     omega (arith, placed.low)
 
 pub begin_above-end-requires-clause-below : goal.begin_above-end-requires-clause-below
 begin_above-end-requires-clause-below c =
     let old = c.args.self.now in
-    let placed = front_low (entries_of old.live) (entries_of old.freed) (queued old.queue) old.first c.in-Some.entry.now
-    old.sound c.in-Some.ensures in
+    let placed = front_low old.begin (entries_of old.live) (entries_of old.freed) (queued old.queue) old.first
+    c.in-Some.entry.now old.sound c.in-Some.ensures in
     omega (arith, placed.high)
 
 pub slot_of-requires : goal.slot_of-requires
 slot_of-requires c =
     let old = c.args.self.now in
-    let placed = front_low (entries_of old.live) (entries_of old.freed) (queued old.queue) old.first c.in-Some.entry.now
-    old.sound c.in-Some.ensures in
+    let placed = front_low old.begin (entries_of old.live) (entries_of old.freed) (queued old.queue) old.first
+    c.in-Some.entry.now old.sound c.in-Some.ensures in
     omega (arith, placed.low)
 
 pub set-requires : goal.set-requires
 set-requires c =
     let old = c.args.self.now in
-    let placed = front_low (entries_of old.live) (entries_of old.freed) (queued old.queue) old.first c.in-Some.entry.now
-    old.sound c.in-Some.ensures in
+    let placed = front_low old.begin (entries_of old.live) (entries_of old.freed) (queued old.queue) old.first
+    c.in-Some.entry.now old.sound c.in-Some.ensures in
     omega (arith, placed.start, placed.high, c.slot_of.ensures)
 
 pub invariant_of-self : goal.invariant_of-self
@@ -67,16 +67,18 @@ invariant_of-self c =
     let rest = ap length c.pop_front.ensures in
     let volumes = ap volume_in c.pop_front.ensures in
     record {
+      grid = old.grid;
+      some = old.some;
+      within = old.within;
       sound =
-          forget_sound (entries_of old.live) (entries_of old.freed) (entries_of c.set.new.self) (queued old.queue)
-          (queued c.pop_front.new.self) old.first e
-          old.sound c.in-Some.ensures c.pop_front.ensures
+          forget_sound old.begin (entries_of old.live) (entries_of old.freed) (entries_of c.set.new.self)
+          (queued old.queue) (queued c.pop_front.new.self) old.first e old.sound c.in-Some.ensures c.pop_front.ensures
           (elim (either_way c.set.result c.set.ensures.ok c.set.ensures.err)
           [ inl h ↦ inl (h ∙ ap (λ n. with_entry (entries_of old.freed) n None) c.slot_of.ensures) | inr h ↦ inr h ]);
       numbered = omega (arith, old.numbered, lengths, rest);
       volume = omega (arith, old.volume, sizes, volumes, c.from.ensures);
       bounded = elim c.lower.ensures [
-        | inl lowered ↦ forgotten_bounds (entries_of old.live) (entries_of old.freed) (queued old.queue)
+        | inl lowered ↦ forgotten_bounds old.begin (entries_of old.live) (entries_of old.freed) (queued old.queue)
             (queued c.pop_front.new.self) old.first old.sound e c.in-Some.ensures c.pop_front.ensures
             old.redzone c.end_below.result (record {
               first = c.aligned-first.result;

@@ -8,19 +8,19 @@ use Rattle.guest_heap.specs.Entries.{block_of}
 use Rattle.guest_heap.proofs.NearSteps.{one_holds, none_holds, near_block}
 use Rattle.guest_heap.proofs.heap.Heap.holding.Goals as goal
 
-pub returns-then-low-lt-HEAP_BEGIN-clause-only : goal.returns-then-low-lt-HEAP_BEGIN-clause-only
+pub returns-then-address-self-clause-only : goal.returns-then-address-self-clause-only
 unfolding blocks_of
-returns-then-low-lt-HEAP_BEGIN-clause-only c =
-    none_holds (entries_of c.args.self.now.live) (entries_of c.args.self.now.freed) (queued c.args.self.now.queue)
+returns-then-address-self-clause-only c =
+    none_holds _ (entries_of c.args.self.now.live) (entries_of c.args.self.now.freed) (queued c.args.self.now.queue)
     c.args.self.now.first c.args.self.now.sound
-    c.args.address (inl (omega (arith, c.from-low.ensures)))
+    c.args.address (inl c.if-address-self.true)
 
-pub returns-then-low-ge-HEAP_END-clause-only : goal.returns-then-low-ge-HEAP_END-clause-only
+pub returns-then-low-end_of-clause-only : goal.returns-then-low-end_of-clause-only
 unfolding blocks_of
-returns-then-low-ge-HEAP_END-clause-only c =
-    none_holds (entries_of c.args.self.now.live) (entries_of c.args.self.now.freed) (queued c.args.self.now.queue)
+returns-then-low-end_of-clause-only c =
+    none_holds _ (entries_of c.args.self.now.live) (entries_of c.args.self.now.freed) (queued c.args.self.now.queue)
     c.args.self.now.first c.args.self.now.sound
-    c.args.address (inr (omega (arith, c.from-low.ensures)))
+    c.args.address (inr (omega (arith, c.from-low.ensures, c.end_of.ensures)))
 
 pub returns-in-Some-clause-kept : goal.returns-in-Some-clause-kept
 returns-in-Some-clause-kept c =
@@ -36,7 +36,7 @@ returns-in-Some-clause-only c b kept holds =
     let under = c.in-Some.ensures.meets.1 in
     let here : Holds (block_of c.in-Some.entry.now) c.args.address = (omega arith, omega arith) in
     ap (λ near. near.block) c.near_of.ensures ∙ near_block (block_of c.in-Some.entry.now) c.args.address
-    ∙ one_holds (entries_of c.args.self.now.live) (entries_of c.args.self.now.freed) (queued c.args.self.now.queue)
+    ∙ one_holds _ (entries_of c.args.self.now.live) (entries_of c.args.self.now.freed) (queued c.args.self.now.queue)
     c.args.self.now.first c.args.self.now.sound
     c.args.address (block_of c.in-Some.entry.now) b c.in-Some.ensures.some kept here holds
 

@@ -5,6 +5,7 @@ use Rattle.guest_heap.proofs.BoundSteps.{none_up_to, skipped_too}
 use Rattle.guest_heap.proofs.heap.Heap.place.Goals as goal
 
 pub place_from-requires-clause-none : goal.place_from-requires-clause-none
+unfolding blocks_of
 place_from-requires-clause-none c =
     let bound = c.in_ok-bound.bound in
     let heap = c.raise_bound.new.self in

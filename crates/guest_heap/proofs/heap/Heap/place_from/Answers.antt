@@ -1,6 +1,7 @@
 use Rattle.std.proofs.lemmas.Bool.{cases_lt}
 use Rattle.std.proofs.Common.{inl, inr, arith, ◌+◌, ◌-◌, ◌<◌, max}
 use Rattle.guest_heap.specs.Blocks.{high_end, low_end}
+use Rattle.guest_heap.specs.Heaps.{blocks_of}
 use Rattle.guest_heap.specs.Entries.{block_of}
 use Rattle.guest_heap.proofs.PlaceSteps.{passed}
 use Rattle.guest_heap.proofs.heap.Heap.place_from.Goals as goal
@@ -12,6 +13,7 @@ pub aligned-behind-requires : goal.aligned-behind-requires
 aligned-behind-requires c = omega (arith, c.high_end.ensures, c.in-Some.ensures.within)
 
 pub loop-at-preserved : goal.loop-at-preserved
+unfolding blocks_of
 loop-at-preserved c =
     let end = c.high_end.ensures in
     let within = c.in-Some.ensures.within in

@@ -17,11 +17,15 @@ unfolding blocks_of
 invariant_of-self c =
     let e : Entry = c.args.entry in
     let old = c.args.self.now in
-    let P : Entries → Type 0 = λ f. AreSound f (entries_of old.freed) (queued old.queue) old.first in
+    let P : Entries → Type 0 = λ f. AreSound old.begin f (entries_of old.freed) (queued old.queue) old.first in
     record {
+      grid = old.grid;
+      some = old.some;
+      within = old.within;
       sound = elim (either_way c.set.result c.set.ensures.ok c.set.ensures.err) [
-        | inl h ↦ subst P (sym (written _ _ _ _ e h c.slot_of-slot.ensures (ap Some c.in_ok-shared.ensures.ok)))
-            (put_sound _ _ _ _ old.sound e c.requires.live c.requires.place)
+        | inl h ↦ subst P (sym (written old.begin _ _ _ _ e h c.slot_of-slot.ensures
+            (ap Some c.in_ok-shared.ensures.ok)))
+            (put_sound old.begin old.grid _ _ _ _ old.sound e c.requires.live c.requires.place)
         | inr h ↦ subst P (sym h) old.sound
       ];
       numbered = old.numbered;
@@ -29,12 +33,13 @@ invariant_of-self c =
       bounded = (let Q : Blocks → Type 0 = λ bs. AreBounds bs old.redzone (bounds_in old.bounds) in
           elim (either_way c.set.result c.set.ensures.ok c.set.ensures.err) [
             | inl h ↦ subst Q
-                (sym (ap (λ f. shown f (queued old.queue))
-                (written _ _ _ _ e h c.slot_of-slot.ensures (ap Some c.in_ok-shared.ensures.ok))
-                ∙ put_shown _ _ _ _ old.sound e c.requires.live c.requires.place))
-                (no_more_put (shown (entries_of old.live) (queued old.queue)) (block_of c.args.entry) old.redzone
+                (sym (ap (λ f. shown old.begin f (queued old.queue))
+                (written old.begin _ _ _ _ e h c.slot_of-slot.ensures (ap Some c.in_ok-shared.ensures.ok))
+                ∙ put_shown old.begin old.grid _ _ _ _ old.sound e c.requires.live c.requires.place))
+                (no_more_put (shown old.begin (entries_of old.live) (queued old.queue)) (block_of c.args.entry)
+                old.redzone
                 (bounds_in old.bounds) c.requires.place old.bounded)
-            | inr h ↦ subst Q (sym (ap (λ f. shown f (queued old.queue)) h)) old.bounded
+            | inr h ↦ subst Q (sym (ap (λ f. shown old.begin f (queued old.queue)) h)) old.bounded
           ]);
     }
 
@@ -43,6 +48,7 @@ unfolding blocks_of
 returns-clause-ok c =
     let e : Entry = c.args.entry in
     let old = c.args.self.now in
-    ap (λ f. shown f (queued old.queue)) (written _ _ _ _ e c.in_ok-set.ensures.ok c.slot_of-slot.ensures
+    ap (λ f. shown old.begin f (queued old.queue))
+    (written old.begin _ _ _ _ e c.in_ok-set.ensures.ok c.slot_of-slot.ensures
     (ap Some c.in_ok-shared.ensures.ok))
-    ∙ put_shown _ _ _ _ old.sound e c.requires.live c.requires.place
+    ∙ put_shown old.begin old.grid _ _ _ _ old.sound e c.requires.live c.requires.place

@@ -13,6 +13,9 @@ invariant_of-self c =
     let heap = c.args.self.now in
     let P : List Bound → Type 0 = λ bs. AreBounds (blocks_of heap) heap.redzone bs in
     record {
+      grid = heap.grid;
+      some = heap.some;
+      within = heap.within;
       sound = heap.sound;
       numbered = heap.numbered;
       volume = heap.volume;

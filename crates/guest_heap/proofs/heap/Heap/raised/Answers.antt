@@ -36,6 +36,6 @@ unfolding blocks_of redzone_in
 returns-in-None-clause-holds c =
     let heap = c.args.self.now in
     let own = c.get-own.result in
-    raised_holds (blocks_of heap) heap.redzone own c.args.class.now.least 0x60000000 c.get-own.ensures.size
-    (none_at_all (blocks_of heap) c.args.class.now.least heap.redzone 0x60000000 c.in-None.ensures)
+    raised_holds (blocks_of heap) heap.redzone own c.args.class.now.least c.end_of.result c.get-own.ensures.size
+    (none_at_all (blocks_of heap) c.args.class.now.least heap.redzone c.end_of.result c.in-None.ensures)
     (taken_holds (blocks_of heap) (bounds_in heap.bounds) heap.redzone own heap.bounded c.get-own.ensures.known)

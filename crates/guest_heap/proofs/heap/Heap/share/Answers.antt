@@ -16,17 +16,21 @@ invariant_of-result c =
     let live = c.in_ok-live.ensures in
     let queue = c.in_ok-queue.ensures in
     let P : List Bound → Type 0 = λ bounds. AreBounds
-    (shown (entries_of c.in_ok-live.live) (queued c.in_ok-queue.queue)) heap.redzone bounds in
+    (shown heap.begin (entries_of c.in_ok-live.live) (queued c.in_ok-queue.queue)) heap.redzone bounds in
     record {
-      sound = same_sound _ _ _ _ _ _ heap.first live c.in_ok-freed.ensures queue heap.sound;
+      grid = heap.grid;
+      some = heap.some;
+      within = heap.within;
+      sound = same_sound heap.begin _ _ _ _ _ _ heap.first live c.in_ok-freed.ensures queue heap.sound;
       numbered = heap.numbered ∙ ap (λ es. heap.first + length es) (sym queue);
       volume = heap.volume ∙ ap volume_in (sym queue);
       bounded =
-          subst P (sym c.in_ok-bounds.ensures) (same_bounds (entries_of heap.live) (entries_of c.in_ok-live.live)
+          subst P (sym c.in_ok-bounds.ensures)
+          (same_bounds heap.begin (entries_of heap.live) (entries_of c.in_ok-live.live)
           (queued heap.queue) (queued c.in_ok-queue.queue) heap.redzone (bounds_in heap.bounds) live queue
           heap.bounded);
     }
 
 pub returns : goal.returns
 unfolding blocks_of
-returns c = ap₂ shown c.in_ok-live.ensures c.in_ok-queue.ensures
+returns c = ap₂ (shown c.args.self.now.begin) c.in_ok-live.ensures c.in_ok-queue.ensures

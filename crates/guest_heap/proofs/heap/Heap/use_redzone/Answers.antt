@@ -6,6 +6,9 @@ pub invariant_of-self : goal.invariant_of-self
 invariant_of-self c =
     let heap = c.args.self.now in
     record {
+      grid = heap.grid;
+      some = heap.some;
+      within = heap.within;
       sound = heap.sound;
       numbered = heap.numbered;
       volume = heap.volume;
@@ -16,6 +19,9 @@ pub invariant_of-self-then-self-redzone : goal.invariant_of-self-then-self-redzo
 invariant_of-self-then-self-redzone c =
     let heap = c.args.self.now in
     record {
+      grid = heap.grid;
+      some = heap.some;
+      within = heap.within;
       sound = heap.sound;
       numbered = heap.numbered;
       volume = heap.volume;

@@ -1,0 +1,29 @@
+use Rattle.std.proofs.Common.{◌%◌, ◌<◌, ◌≤◌, ◌≡◌, ℕ, sym, subst}
+use Rattle.memory_map.specs.Regions.{greatest_heap_begin}
+use Rattle.guest_heap.proofs.Beginnings.{beginning}
+use Rattle.guest_heap.proofs.Bounding.{fresh_bounds}
+use Rattle.guest_heap.proofs.heap.Heap.new_in.Goals as goal
+
+pub invariant_of-result-clause-grid : goal.invariant_of-result-clause-grid
+invariant_of-result-clause-grid c =
+    let regions = c.args.regions in
+    let P : ℕ → Type 0 = λ n. n % 16 ≡ 0 in
+    subst P (sym c.heap_begin.ensures)
+    (beginning regions.heap regions.stack.begin regions.stack.end regions.sound).grid
+
+pub invariant_of-result-clause-some : goal.invariant_of-result-clause-some
+invariant_of-result-clause-some c =
+    let regions = c.args.regions in
+    let P : ℕ → Type 0 = λ n. 0 < n in
+    subst P (sym c.heap_begin.ensures)
+    (beginning regions.heap regions.stack.begin regions.stack.end regions.sound).some
+
+pub invariant_of-result-clause-within : goal.invariant_of-result-clause-within
+invariant_of-result-clause-within c =
+    let regions = c.args.regions in
+    let P : ℕ → Type 0 = λ n. n ≤ greatest_heap_begin in
+    subst P (sym c.heap_begin.ensures)
+    (beginning regions.heap regions.stack.begin regions.stack.end regions.sound).within
+
+pub invariant_of-result-clause-bounded : goal.invariant_of-result-clause-bounded
+invariant_of-result-clause-bounded c = fresh_bounds _ _ _ c.new-bounds.ensures

@@ -1,0 +1,57 @@
+-- What a program's file is read for, by the texts of a command line.
+use Rattle.std.specs.Prelude.{ℕ, ◌≡◌, ◌==◌, if◌then◌else◌, List, [], ◌∷◌, length, Option, Some, None, IsSome, unwrap_or}
+use Rattle.command_line.specs.Isas.{isa_named}
+use Rattle.command_line.specs.declared.order.ProfileWords.{ProfileWords}
+use Rattle.commands.specs.Commands.{number}
+use Rattle.ends.specs.declared.ends.End.{End}
+use Rattle.ends.specs.declared.ends.End.TheVariants.{BadIsa, BadHeapRegion, BadStackRegion, RegionsOverlap}
+use Rattle.guest_elf.specs.declared.profile.Profile.{Profile}
+use Rattle.memory_map.specs.Regions.{first_fault}
+use Rattle.memory_map.specs.declared.regions.RegionsFault.{RegionsFault}
+use Rattle.memory_map.specs.declared.regions.RegionsFault.TheVariants.{Heap, Stack, Meet}
+use Rattle.memory_map.specs.declared.regions.StackRegion.{StackRegion}
+use Rattle.text_parts.specs.Parts.{parts}
+
+-- where a text has the heap's region begin; at 0, where none begins, if the text is no number
+abbrev pub heap_in : List ℕ → ℕ
+heap_in text = unwrap_or (number text) 0
+
+-- a region without an address, which no stack has
+abbrev pub no_stack : StackRegion
+no_stack = record { begin = 0; end = 0 }
+
+abbrev pub between : Option ℕ → Option ℕ → StackRegion
+between (Some begin) (Some end) = record { begin = begin; end = end }
+between _ _ = no_stack
+
+-- `A..B`, as parts between dots
+unfoldable pub bounds_in : List (List ℕ) → StackRegion
+bounds_in (begin ∷ gap ∷ end ∷ []) = if length gap == 0 then between (number begin) (number end) else no_stack
+bounds_in _ = no_stack
+
+-- where a text has the stack's region lie
+abbrev pub stack_in : List ℕ → StackRegion
+stack_in text = bounds_in (parts 46 text)
+
+-- what is wrong with the regions of texts, if anything is
+abbrev pub fault_in : ProfileWords → Option RegionsFault
+fault_in words =
+    first_fault (heap_in words.heap.now) (stack_in words.stack.now).begin (stack_in words.stack.now).end
+
+-- the profile of texts
+pub record IsProfileNamed (words : ProfileWords) (profile : Profile) : Type 0 where
+  pub isa : isa_named words.isa.now ≡ Some profile.isa
+  pub heap : profile.regions.heap ≡ heap_in words.heap.now
+  pub stack : profile.regions.stack ≡ stack_in words.stack.now
+
+-- texts have none: no instruction set has that name, or else the regions have a fault, of which the first is told
+abbrev pub NoProfile : ProfileWords → End → Type 0
+NoProfile words (BadIsa given) = (given.now ≡ words.isa.now) × (isa_named words.isa.now ≡ None)
+NoProfile words (BadHeapRegion given) =
+    (given.now ≡ words.heap.now) × IsSome (isa_named words.isa.now) × (fault_in words ≡ Some Heap)
+NoProfile words (BadStackRegion given) =
+    (given.now ≡ words.stack.now) × IsSome (isa_named words.isa.now) × (fault_in words ≡ Some Stack)
+NoProfile words (RegionsOverlap heap stack) =
+    (heap.now ≡ words.heap.now) × (stack.now ≡ words.stack.now) × IsSome (isa_named words.isa.now)
+    × (fault_in words ≡ Some Meet)
+NoProfile words end = ⊥
