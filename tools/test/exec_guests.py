@@ -3,6 +3,7 @@ import pathlib
 
 from replaycheck.assembly import assemble
 from replaycheck.guest_files import ENTRY, elf
+from tool_rows import placed_file
 
 # Code comes first, and from here on there is data.
 DATA = ENTRY + 0x400
@@ -50,6 +51,7 @@ def put_guests(folder: pathlib.Path) -> None:
         words += [0x13] * ((DATA - ENTRY) // 4 - len(words))
         symbols = [(NAMES.get(name, "start"), ENTRY, 0x100 if name in NAMES else 4), *([ROOM] if name in WITH_ROOM else [])]
         (folder / f"{name}.elf").write_bytes(elf(words, memory=0x2000, symbols=symbols, data=b"hi\n"))
+    (folder / "placed.elf").write_bytes(placed_file())
     words = assemble(SOURCES["says"])
     words += [0x13] * ((DATA - ENTRY) // 4 - len(words))
     (folder / "stripped.elf").write_bytes(elf(words, data=b"hi\n"))

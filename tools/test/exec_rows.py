@@ -1,6 +1,8 @@
 """The rows of `test-exec`: a label, the arguments of `replaycheck exec`, and what comes of them."""
 from typing import NamedTuple
 
+from tool_rows import REGIONS
+
 QUIET = ["-q", "--error-exitcode=9"]
 MANY = 4294967295
 CTEST = ["--log-file=ctest.log", "-q", "--tool=memcheck", "--leak-check=yes", "--show-reachable=yes", "--num-callers=50"]
@@ -57,6 +59,18 @@ def statuses(first: list[str], kind: str) -> list[Row]:
     ]
 
 
+def regions(first: list[str], kind: str) -> list[Row]:
+    """Other regions of heap and stack, by both paths."""
+    return [
+        Row(f"{kind}: with regions", [*first, *REGIONS, "placed.elf"], 9, "",
+            ["== Conditional jump or move depends", "==  Address 0x90000018 is 0 bytes after a block of size 8 alloc'd"]),
+        Row(f"{kind}: without them", [*first, "placed.elf"], 126, "", ["image refused 29\n"]),
+        Row(f"{kind}: a heap region that can't be", [*first, "--heap-region=0", "says.elf"], 125, "", ["0x10000000 from 0x10000000"]),
+        Row(f"{kind}: regions that overlap", [*first, "--heap-region=0x70000000", "--stack-region=0x7f000000..0x80000000", "says.elf"],
+            125, "", ["heap region and stack region overlap: --heap-region 0x70000000 --stack-region 0x7f000000..0x80000000\n"]),
+    ]
+
+
 OPTIONS = [
     Row("without -q: a whole log", ["says.elf"], 0, said=["== replaycheck, Memcheck for RV32IM", "== Command: says.elf", "HEAP SUMMARY",
                                                         "no leaks are possible", "ERROR SUMMARY: 0 errors"]),
@@ -68,6 +82,9 @@ OPTIONS = [
         said=["options that change nothing: --vgdb=no\n", "certify: clean to step"]),
     Row("-v says it for rv32imc", ["-q", "-v", "--isa=rv32imc", "--input=hi.txt", "half.elf"], 133,
         said=["of signal 5 (SIGTRAP)", "certify: clean to step"]),
+    Row("-v says it with regions", ["-q", "-v", *REGIONS, "--input=hi.txt", "placed.elf"], 7, "",
+        ["==  Address 0x90000018 is", "certify: not clean: first use at step 2"]),
+    Row("the last --heap-region holds", [*QUIET, "--heap-region=0x30000000", *REGIONS, "placed.elf"], 9, "", ["Address 0x90000018 is"]),
     Row("the last --isa holds", ["-q", "--isa=rv32im", "--isa=rv32imc", "half.elf"], 133, said=["of signal 5 (SIGTRAP)"]),
     Row("-v says what certify says", ["-q", "-v", "reads.elf"], 0, "abc", ["certify: not asked: the run read standard input"], b"abc"),
     Row("--leak-check=no", [*QUIET, "--leak-check=no", "leaks.elf"], 0),
@@ -138,4 +155,5 @@ BEFORE = [
     Row("arguments for no file", [*QUIET, "none.elf", "a"], 127, "",
         ["replaycheck exec: cannot read none.elf: No such file or directory\n"]),
 ]
-ROWS = [*statuses(QUIET, "quiet"), *statuses([*QUIET, "--tool=memcheck"], "by Python"), *OPTIONS, *BEFORE]
+PATHS = [(QUIET, "quiet"), ([*QUIET, "--tool=memcheck"], "by Python")]
+ROWS = [*(row for path in PATHS for row in [*statuses(*path), *regions(*path)]), *OPTIONS, *BEFORE]

@@ -13,14 +13,15 @@ SUM = hashlib.sha256(b"").hexdigest()
 class Made:
     """A sweep of so many bytes, words and steps, each edit of which has an outcome by chance."""
 
-    def __init__(self, places, words=0, values="3,5,7", seed=1, outcomes=OUTCOMES, steps=0, isa="rv32im"):
+    def __init__(self, places, words=0, values="3,5,7", seed=1, outcomes=OUTCOMES, steps=0, isa="rv32im", regions=()):
         chance = random.Random(seed)
         self.head = [f"isa {isa}"] if isa != "rv32im" else []
+        self.head += regions
         self.head += [f"program 9 {SUM}", f"input {places} {SUM}", f"supp 0 {SUM}", f"bytes 0..{places - 1} {values}"]
         self.head += [f"words 0x00010000..0x{0x10000 + 4 * words - 1:08x} flips"] if words else []
         self.head += [f"steps 0..{steps - 1} pc,skip"] if steps else []
         self.head += ["step 100", "output no"]
-        self.version = 2 if steps or isa != "rv32im" else 1
+        self.version = 2 if steps or isa != "rv32im" or regions else 1
         self.outcomes = outcomes
         self.rows = []  # for each place its edits, each with an outcome
         for at in range(places):
@@ -81,6 +82,20 @@ WRONG_TABLES = [
     ("another instruction set", changed(b"sweep 1\n", b"sweep 2\nisa rv32gc\n"),
      "line 2: not one of rv32imc, rv32imac: isa rv32gc"),
     ("the usual instruction set", changed(b"sweep 1\n", b"sweep 2\nisa rv32im\n"), "line 2: not one of rv32imc, rv32imac: isa rv32im"),
+    ("a heap region in the version before", changed(b"program 9", b"heap-region 0x30000000\nprogram 9"),
+     "line 2: a line of `sweep 2` in a table of `sweep 1`: heap-region 0x30000000"),
+    ("the usual heap region", changed(b"sweep 1\n", b"sweep 2\nheap-region 0x40000000\n"),
+     "line 2: no region that has a line: heap-region 0x40000000"),
+    ("no heap region", changed(b"sweep 1\n", b"sweep 2\nheap-region 0xe0000000\n"),
+     "line 2: no region that has a line: heap-region 0xe0000000"),
+    ("a heap region in another form", changed(b"sweep 1\n", b"sweep 2\nheap-region 805306368\n"),
+     "line 2: `heap-region BEGIN` comes here, and not heap-region 805306368"),
+    ("a stack region of too few bytes", changed(b"sweep 1\n", b"sweep 2\nstack-region 0x00010000..0x0001f000\n"),
+     "line 2: no region that has a line: stack-region 0x00010000..0x0001f000"),
+    ("regions that overlap", changed(b"sweep 1\n", b"sweep 2\nheap-region 0x30000000\nstack-region 0x4fff0000..0x50000000\n"),
+     "line 3: regions that overlap: stack-region 0x4fff0000..0x50000000"),
+    ("regions in the other order", changed(b"sweep 1\n", b"sweep 2\nstack-region 0x00010000..0x00020000\nheap-region 0x30000000\n"),
+     "line 3: "),
     ("no instruction set", changed(b"sweep 1\n", b"sweep 2\nisa \n"), "line 2: `isa NAME` comes here, and not isa "),
     ("a line of the head that there is not", changed(b"step 100", b"places 5\nstep 100"), "`step N` comes here, and not places 5"),
     ("the form before this one", lambda it: b"#\tinput\tall\t9\tx\ty\t1:2\t\t0..1\t3\nunedited\t-\n",
@@ -135,6 +150,11 @@ REFUSED = [
     ("an option that there was once", ["p.elf", "--exits"], "unrecognized arguments: --exits"),
     ("an instruction set that there isn't", ["p.elf", "--isa=rv32gc"],
      "--isa: invalid choice: 'rv32gc': choose from rv32im, rv32imc, rv32imac"),
+    ("a heap region that can't be", ["p.elf", "--heap-region=0xe0000000"],
+     "--heap-region: '0xe0000000' is not a multiple of 0x10000000 from 0x10000000 to 0xd0000000"),
+    ("regions that overlap", ["p.elf", "--heap-region=0x70000000", "--stack-region=0x7f000000..0x80000000"],
+     "heap region and stack region overlap: --heap-region 0x70000000 --stack-region 0x7f000000..0x80000000"),
+    ("regions without a file", ["--from", "a", "--stack-region=0x10000..0x20000"], "--stack-region goes with a FILE"),
     ("an instruction set without a file", ["--from", "a", "--isa=rv32imc"], "--isa goes with a FILE"),
     ("values that there were once", ["p.elf", "--bytes=0", "--values=nops"], "neither all, flips, edges nor a list"),
     ("values of bytes for words", ["p.elf", "--code=main", "--values=flips"], "--words-values"),

@@ -7,6 +7,8 @@ from explore_cases import ERROR, LEAK, WRONG_TABLES, Made, changed
 from replaycheck.endings import Fault
 from replaycheck.exploring.merging import Merged, in_order, sources_in
 
+HEAP, STACK = ["heap-region 0x90000000"], ["stack-region 0x00020000..0x00040000"]
+
 # ---- the merge
 
 
@@ -31,7 +33,8 @@ def test_merge(tests):
               ("bytes, words and steps", Made(5, 7, "flips", steps=30)), ("bytes for rv32imc", Made(5, isa="rv32imc")),
               ("steps for rv32imc", Made(5, steps=9, isa="rv32imc")),
               ("bytes, words and steps for rv32imc", Made(5, 7, "flips", steps=9, isa="rv32imc")),
-              ("bytes for rv32imac", Made(5, isa="rv32imac"))]
+              ("bytes for rv32imac", Made(5, isa="rv32imac")), ("bytes with a heap region", Made(5, regions=HEAP)),
+              ("steps for rv32imc with regions", Made(5, steps=9, isa="rv32imc", regions=HEAP + STACK))]
     for label, made in sweeps:
         whole, chance = made.part(), random.Random(3)
         for count in range(1, 51) if label in ("a list", "bytes and words", "bytes, words and steps") else (1, 2, 7, 50):
@@ -56,6 +59,7 @@ def test_parts_refused(tests):
     tables = {f"p{index}": made.part(index, 5) for index in range(1, 6)}
     tables.update(half=made.part(2, 2), first=made.part(1, 2), third=made.part(3, 4), other=Made(20, seed=2).part(2, 5),
                   short=Made(20, isa="rv32imc").part(3, 5), atomic=Made(20, isa="rv32imac").part(3, 5),
+                  heap=Made(20, regions=HEAP).part(3, 5), stack=Made(20, regions=STACK).part(3, 5),
                   values=Made(20, values="3,5,8").part(3, 5),
                   step=made.part(3, 5).replace(b"step 100", b"step 99"),
                   digest=changed(b"program 9 e3", b"program 9 e4")(made.part(3, 5)),
@@ -75,6 +79,9 @@ def test_parts_refused(tests):
             ("another step", [*five[:2], "step", *five[3:]], "step"),
             ("another instruction set", [*five[:2], "short", *five[3:]], "--isa rv32imc, not rv32im"),
             ("one with atomic instructions", [*five[:2], "atomic", *five[3:]], "--isa rv32imac, not rv32im"),
+            ("another heap region", [*five[:2], "heap", *five[3:]],
+             "--heap-region 0x90000000, not the usual regions of heap and stack"),
+            ("another stack region", [*five[:2], "stack", *five[3:]], "--stack-region 0x00020000..0x00040000, not the usual"),
             ("another program", [*five[:2], "digest", *five[3:]], "another program, 9 bytes with the digest"),
             ("another unedited run", [*five[:2], "unedited", *five[3:]], "its unedited run is another one")]])
 

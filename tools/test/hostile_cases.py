@@ -3,20 +3,26 @@ import struct
 
 from replaycheck.assembly import CONTROLS, EBREAK, ECALL, FIRST_CONSTANT, addi, control, jump, load_number
 from replaycheck.guest_files import ENTRY, TOP, elf
-from replaycheck.programs import SHORT, USUAL
+from replaycheck.programs import SHORT, USUAL, isa_words
+from replaycheck.regions import USUAL_REGIONS, Regions
 
 LONGEST, MILLION = 4194304, 1048576
 NUMBERS = [0, 1, 0x7FFFFFFF, 0x80000000, 0xFFFFFFFF]
 EDGES = [0, ENTRY, ENTRY + 4096, 0x40000000, 0x50000000, 0x60000000, 0x7F000000, 0x7FFFFFF0, 0x80000000]
+# Other regions of heap and stack, with how much memory a guest has, and their edges: the stack inside of its segment, and both as far up as
+# they can be.
+ELSEWHERE = [
+    (Regions(0x90000000, (0x20000, 0x40000)), 0x40000, [0x20000, 0x40000, 0x90000000, 0xB0000000]),
+    (Regions(0xD0000000, (0xFFFE0000, 0xFFFFF000)), 0, [0xD0000000, 0xF0000000, 0xFFFE0000, 0xFFFFF000])]
 EXITS = [0x05D00893, 0x00000513, ECALL]  # addi a7, x0, 93; addi a0, x0, 0; ecall
 LOOPS = [0x0000006F]  # jal x0, 0
 # addi t0, x0, 30; addi t0, t0, -1; beq t0, x0, 8; jal ra, -8; lw a0, 0(x0); ebreak
 DEEP = [0x01E00293, 0xFFF28293, 0x00028463, 0xFF9FF0EF, 0x00002503, EBREAK]
 
 
-def case(name, program, lines=None, supp=b"", given=b"", step=4096, isa=USUAL):
-    """A case: what is typed, in a session, or the step of a report where nothing is, and the instruction set."""
-    return name, program, lines, supp, given, step, isa
+def case(name, program, lines=None, supp=b"", given=b"", step=4096, isa=USUAL, regions=USUAL_REGIONS):
+    """A case: what is typed, in a session, or the step of a report where nothing is, and options."""
+    return name, program, lines, supp, given, step, [*isa_words(isa), *regions.words]
 
 
 # ---- files
@@ -107,21 +113,34 @@ def scripts():
 
 
 def guests():
-    for edge in EDGES:
+    yield from accesses(EDGES)
+    yield from calls(NUMBERS + EDGES)
+    for regions, memory, edges in ELSEWHERE:
+        for name, program, *rest in [*accesses(edges, memory), *calls(edges, memory)]:
+            yield f"{name}, {regions.told}", program, *rest[:-1], regions.words
+
+
+def accesses(edges, memory=0):
+    """Jumps, loads and stores at each edge."""
+    for edge in edges:
         for target in [edge - 4, edge - 2, edge - 1, edge, edge + 1, edge + 2, edge + 4]:
             number = target % 2**32
-            yield case(f"a jump to {number:#x}", elf(load_number(5, number) + [0x00028067]))
+            yield case(f"a jump to {number:#x}", elf(load_number(5, number) + [0x00028067], memory))
             for width in (0, 1, 2, 4, 5):  # lb, lh, lw, lbu, lhu and sb, sh, sw
                 words = load_number(5, number) + [0x0002A503 & ~0x7000 | width << 12, EBREAK]
-                yield case(f"a load of width {width} at {number:#x}", elf(words))
+                yield case(f"a load of width {width} at {number:#x}", elf(words, memory))
                 words[2] = 0x00628023 | (width & 3) % 3 << 12
-                yield case(f"a store of width {width} at {number:#x}", elf(words))
+                yield case(f"a store of width {width} at {number:#x}", elf(words, memory))
+
+
+def calls(numbers, memory=0):
+    """Each call with each argument."""
     for call in [57, 62, 63, 64, 80, 93, 94, 214, 2001, 2002, 2003, 2004, 2005]:
-        for number in NUMBERS + EDGES:
+        for number in numbers:
             for which in (10, 11, 12):
                 words = [word for r in (10, 11, 12) for word in load_number(r, number if r == which else 1)]
                 words = load_number(17, call) + words + [ECALL, EBREAK]
-                yield case(f"call {call}, x{which} is {number:#x}", elf(words))
+                yield case(f"call {call}, x{which} is {number:#x}", elf(words, memory))
 
 
 def full():

@@ -78,6 +78,9 @@ CASES = [
     Case("a move by a control register", KEPT, 0, (
         "step 1: 4 bytes at 0x7fffffd8 read by 0x00010004", "step 8: 4 bytes at 0x7fffffe0 written by 0x00010020",
         "step 10: 4 bytes at 0x7fffffe0 read by 0x00010028"), ["mark 1 0x7fffffd8 4 defined"], ["--isa=rv32imc"]),
+    Case("with other regions", TWO, 0, ("origin 1: 4 bytes at 0x0003ffe4, undefined in step 0 by a new stack frame",
+                                        "origin 2: 4 bytes at 0x90000014, undefined in step 3 by a call of the heap"),
+         ["mark 1 0x0003ffe4 4 defined", "mark 4 0x90000014 4 defined"], ["--heap-region=0x90000000", "--stack-region=0x20000..0x40000"]),
     Case("two origins", TWO, 0, (" it hangs on 2 origins together", "origin 1: ", "stack frame", "origin 2: ",
                                  "a call of the heap", "with these 2 marks"),
          ["mark 1 0x7fffffe4 4 defined", "mark 4 0x40000014 4 defined"]),

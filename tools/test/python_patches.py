@@ -1,4 +1,4 @@
-"""Patches of words and halves, atomic instructions and control registers, by `import replaycheck`, for tools/test/test-python."""
+"""Patches of words and halves, atomic instructions, control registers and regions, by `import replaycheck`, for tools/test/test-python."""
 from __future__ import annotations
 
 import random
@@ -8,7 +8,7 @@ import replaycheck
 from replaycheck.guest_files import ENTRY, elf
 from replaycheck.scripting.scenarios import Scenario
 from rows import Rows
-from tool_rows import COUNTED, KEPT, atomic_file
+from tool_rows import COUNTED, KEPT, atomic_file, placed_file
 
 SIZE, TURNS = 16, 500
 
@@ -98,3 +98,29 @@ def test_patches(rows: Rows) -> None:
                 found = written(found, line)
             faults += [f"{lines}"] if found != wanted or unit == 4 and any("patch16" in it for it in lines) else []
         rows.row(f"lines between patches at multiples of {unit}", faults)
+
+
+def misused(action: Callable[[], object]) -> str:
+    """What is said of arguments that can't be."""
+    try:
+        action()
+    except replaycheck.Usage as fault:
+        return str(fault)
+    return "nothing"
+
+
+def test_regions(rows: Rows) -> None:
+    """A program with its code where the heap is usually, and its stack in its segment."""
+    heap, stack = 0x90000000, (0x40010000, 0x40020000)
+    with replaycheck.Run(placed_file(), heap_region=heap, stack_region=stack) as run:
+        rows.row("a run with regions", differs("notes", [it.note and str(it.note.address) for it in run.report(20).errors],
+                                               [None, "0x90000018", "0x4001ffdc"]))
+    found = [line for line, _ in replaycheck.sweep(placed_file(), function="main", step=20, heap_region=heap, stack_region=stack)]
+    rows.row("a sweep with regions", differs("edits", (found[0], len(found)), ("patch 0x40000000 0x00000013", 11)))
+    for one, other, wanted in ((5, stack, "heap_region: 5: not a multiple of 0x10000000 from 0x10000000 to 0xd0000000"),
+                               (heap, (0, 4096), "stack_region: (0, 4096): not A..B, multiples of 4096 at least 65536 apart"),
+                               (0x30000000, stack, "heap region and stack region overlap: --heap-region 0x30000000 --stack-region "
+                                                   "0x40010000..0x40020000")):
+        rows.row(f"a run: {wanted}", differs("fault", misused(lambda: replaycheck.Run(b"", heap_region=one, stack_region=other)), wanted))
+        rows.row(f"a sweep: {wanted}", differs(
+            "fault", misused(lambda: list(replaycheck.sweep(b"", heap_region=one, stack_region=other))), wanted))

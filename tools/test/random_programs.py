@@ -1,15 +1,17 @@
 """Random programs, for compare-with-twin, test-sweep-table, test-look and test-gdb."""
 import random
+from typing import NamedTuple
 
 from replaycheck.assembly import (CONTROL_IMMEDIATES, CONTROL_NUMBERS, CONTROLS, EBREAK, ECALL, FENCE, FENCE_I, FIRST_CONSTANT,
                                   LOAD_RESERVED, LOADS, STORE_CONDITIONAL, STORES, UPDATES, WFI, addi, atomic, branch, control, jump, load,
                                   load_number, of_immediate, of_registers, store)
 from replaycheck.guest_files import ENTRY
 from replaycheck.programs import ATOMIC, USUAL
+from replaycheck.regions import HEAP_STEP, LEAST_STACK, STACK_STEP, USUAL_REGIONS, Regions
 
 MEMORY, DATA = 0x10000, 0x8000
-SP, KEPT, A7, SCRATCH = 2, 8, 17, 31  # x8 is where the data lies
-READ = 63
+SP, KEPT, A0, A7, SCRATCH = 2, 8, 10, 17, 31  # x8 is where the data lies
+READ, MALLOC, FREE = 63, 2001, 2002
 # Control registers that programs use often, so that what one instruction writes another one reads.
 KEPT_CONTROLS = [CONTROL_NUMBERS[name] for name in ("mscratch", "mscratch", "mepc", "mtvec")]
 
@@ -19,12 +21,40 @@ def reading(count):
     return [*load_number(11, ENTRY + DATA), addi(10, 0, 0), addi(12, 0, count), addi(A7, 0, READ), ECALL]
 
 
-class Program:
-    """The words of the random program of a seed."""
+class Place(NamedTuple):
+    """Where a program is: its first address, how much memory it has from there on, and its regions of heap and stack."""
 
-    def __init__(self, seed):
-        self.random = random.Random(seed)
-        self.words = load_number(KEPT, ENTRY + DATA)
+    base: int
+    memory: int
+    regions: Regions
+
+
+USUAL_PLACE = Place(ENTRY, MEMORY, USUAL_REGIONS)
+# Where the heap begins that isn't at its usual place: apart from both places of code, and from the usual stack.
+HEAPS = [HEAP_STEP * it for it in (1, 2, 8, 9, 13)]
+
+
+def place_of(seed):
+    """The place of the random program of a seed, which each third has to itself: its code is where the heap is usually, or its stack is
+    inside of its segment, or both."""
+    if seed % 3:
+        return USUAL_PLACE
+    chosen = random.Random(f"place {seed}")
+    base = chosen.choice((ENTRY, USUAL_REGIONS.heap))
+    heap = chosen.choice(HEAPS if base != ENTRY else [USUAL_REGIONS.heap, *HEAPS])
+    if base != ENTRY and chosen.random() < 0.4:
+        return Place(base, MEMORY, Regions(heap, USUAL_REGIONS.stack))
+    begin = base + MEMORY + STACK_STEP * chosen.randrange(3)
+    end = begin + LEAST_STACK + STACK_STEP * chosen.randrange(8)
+    return Place(base, end + chosen.choice((0, 1, STACK_STEP)) - base, Regions(heap, (begin, end)))
+
+
+class Program:
+    """The words of the random program of a seed, for a place."""
+
+    def __init__(self, seed, place=USUAL_PLACE):
+        self.random, self.where = random.Random(seed), place
+        self.words = load_number(KEPT, place.base + DATA)
         for register in range(1, SCRATCH):
             if register not in (SP, KEPT) and self.random.random() < 0.7:
                 self.words += load_number(register, self.number())
@@ -37,10 +67,12 @@ class Program:
 
     def kinds(self):
         return [(self.arithmetic, 30), (self.immediate, 20), (self.upper, 4), (self.loads, 22), (self.stores, 16), (self.branches, 12),
-                (self.jumps, 4), (self.loop, 4), (self.frame, 4), (self.call, 1), (self.anything, 0.3)]
+                (self.jumps, 4), (self.loop, 4), (self.frame, 4), (self.call, 1), (self.anything, 0.3),
+                *([] if self.where == USUAL_PLACE else [(self.block, 3)])]
 
     def number(self):
-        edges = (0, 1, 2**31, 2**31 - 1, 2**32 - 1, 31, 32, ENTRY, ENTRY + DATA, 0x7FFFFFC0)
+        base, end = self.where.base, self.where.regions.stack[1]
+        edges = (0, 1, 2**31, 2**31 - 1, 2**32 - 1, 31, 32, base, base + DATA, end - 64)
         return self.random.choice((self.random.choice(edges), self.random.getrandbits(32), self.random.getrandbits(8)))
 
     def source(self):
@@ -116,6 +148,15 @@ class Program:
         """A call of the environment that there is not, by a number of which bits may be undefined; seldom the end."""
         number = self.random.choice([[addi(A7, 0, 59)], [load(2, A7, SP, 0), of_immediate(7, A7, A7, 7)]])
         self.words += [*([addi(A7, 0, 93)] if self.random.random() < 0.1 else number), ECALL, FENCE]
+
+    def block(self):
+        """A block of the heap, accesses in it and beside it, and perhaps its end."""
+        self.words += [addi(A0, 0, self.random.randrange(20)), addi(A7, 0, MALLOC), ECALL]
+        for _ in range(self.random.randrange(4)):
+            at = A0, self.random.randrange(-4, 24)
+            self.words.append(self.random.choice((load(2, SCRATCH, *at), store(0, self.source(), *at))))
+        if self.random.random() < 0.3:
+            self.words += [addi(A7, 0, FREE), ECALL]
 
     def anything(self):
         """An instruction of which a bit is turned: perhaps none, which ends the program."""

@@ -2,8 +2,9 @@
 """Writes the table of `replaycheck sweep` by text sessions alone: a line for an edit, its report, and the line that takes
 it back. It shares no code with the program's own sweep, and is what that is compared with.
 
-usage: tools/test/sweep_by_sessions.py PROGRAM FILE [--input F] [--supp F] [--isa NAME] [--step N] [--bytes A..B]
-       [--values all|flips|edges|LIST] [--words A..B] [--words-values skip|flips|LIST] [--with-output] [--part I/N]
+usage: tools/test/sweep_by_sessions.py PROGRAM FILE [--input F] [--supp F] [--isa NAME] [--heap-region BEGIN]
+       [--stack-region A..B] [--step N] [--bytes A..B] [--values all|flips|edges|LIST] [--words A..B]
+       [--words-values skip|flips|LIST] [--with-output] [--part I/N]
 
 In: a built replaycheck, and the options of its `sweep`.
 
@@ -23,6 +24,7 @@ import tempfile
 
 sys.dont_write_bytecode = True
 LAST_STEP, MOST_PARTS, AT_ONCE = 4194304, 1000000, 20000
+USUAL_HEAP, USUAL_STACK = 0x40000000, (0x7F000000, 0x80000000)
 NUMBER = r"0[xX][0-9a-fA-F]{1,8}|[0-9]{1,10}"
 EDGES = (0, 1, 0x7F, 0x80, 0xFF)
 HALF, WORD = 2, 4  # bytes of an instruction
@@ -84,6 +86,8 @@ def options_of(words):
     for name in ("--input", "--supp", "--bytes", "--words"):
         reader.add_argument(name)
     reader.add_argument("--isa", default="rv32im")
+    reader.add_argument("--heap-region", type=lambda it: int(it, 0), default=USUAL_HEAP)
+    reader.add_argument("--stack-region", type=lambda it: tuple(int(each, 0) for each in it.split("..")), default=USUAL_STACK)
     reader.add_argument("--step", type=lambda it: int(it, 0), default=1048576)
     reader.add_argument("--values", default="all")
     reader.add_argument("--words-values", default="skip")
@@ -103,12 +107,19 @@ def options_of(words):
     return options
 
 
+def has_regions(options):
+    """Whether heap or stack are elsewhere."""
+    return (options.heap_region, options.stack_region) != (USUAL_HEAP, USUAL_STACK)
+
+
 # ---- sessions
 
 
 def reply_to(options, room, lines):
     """What a session says to lines."""
     words = [options.program, "session", f"{room}/program", f"--isa={options.isa}"]
+    if has_regions(options):
+        words += [f"--heap-region={options.heap_region}", "--stack-region={}..{}".format(*options.stack_region)]
     words += ["--input", f"{room}/input"] if options.input is not None else []
     words += ["--supp", f"{room}/supp"] if options.supp is not None else []
     done = subprocess.run(words, input="".join(f"{line}\n" for line in lines).encode(), capture_output=True)
@@ -158,15 +169,15 @@ def outline(report, with_output):
 # ---- places and edits
 
 
-def loaded(program):
-    """The bytes that a program's file loads, by address."""
+def loaded(program, stack):
+    """The bytes that a program's file loads, by address: none in the stack's region, which a segment may have inside."""
     at, count = struct.unpack_from("<I", program, 28)[0], struct.unpack_from("<H", program, 44)[0]
     memory = {}
     for index in range(count):
         kind, offset, address, _, size, room = struct.unpack_from("<6I", program, at + 32 * index)
         if kind == 1:
             content = program[offset:offset + size]
-            memory.update((address + i, content[i] if i < size else 0) for i in range(room))
+            memory.update((address + i, content[i] if i < size else 0) for i in range(room) if not stack[0] <= address + i < stack[1])
     return memory
 
 
@@ -210,7 +221,7 @@ def instructions_in(memory, first, last):
 def code_places(options, program):
     """The words or the instructions of a sweep, as `places_of` has them."""
     look = words_in if options.isa == "rv32im" else instructions_in
-    places = list(look(loaded(program), *options.words))
+    places = list(look(loaded(program, options.stack_region), *options.words))
     if all(was is None for _, _, was in places):
         raise Bad(3, "replaycheck: words refused 4")
     for at, length, was in places:
@@ -288,7 +299,10 @@ def last_unread(options, room, offsets, end):
 
 
 def head(options, files):
-    yield from ["sweep 1"] if options.isa == "rv32im" else ["sweep 2", f"isa {options.isa}"]
+    yield "sweep 1" if options.isa == "rv32im" and not has_regions(options) else "sweep 2"
+    yield from [] if options.isa == "rv32im" else [f"isa {options.isa}"]
+    yield from [] if options.heap_region == USUAL_HEAP else [f"heap-region 0x{options.heap_region:08x}"]
+    yield from [] if options.stack_region == USUAL_STACK else ["stack-region 0x{:08x}..0x{:08x}".format(*options.stack_region)]
     for name, content in files.items():
         yield f"{name} {len(content)} {hashlib.sha256(content).hexdigest()}"
     if options.bytes:

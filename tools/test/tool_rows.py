@@ -26,11 +26,38 @@ CONTROLS = ["controls.elf", "--isa=rv32imc"]
 ODD = assemble("addi t0, sp, 2; amoadd.w a0, a0, (t0); nop")
 
 
+# Where its code is the heap is usually, and its stack is inside of its segment. It branches on a word of a frame, reads behind a block, and
+# below the stack pointer.
+PLACED_AT, PLACED_MEMORY = 0x40000000, 0x30000
+PLACED = assemble("addi sp, sp, -16; lw t0, 0(sp); beq t0, zero, next; next: li a0, 8; li a7, 2001; ecall; lw t1, 8(a0); lw t2, -4(sp); "
+                  "li a0, 7; li a7, 93; ecall")
+REGIONS = ["--heap-region=0x90000000", "--stack-region=0x40010000..0x40020000"]
+MOVED = ["placed.elf", *REGIONS]
+PLACED_ERRORS = """error 1: Conditional jump or move depends on uninitialised value(s)
+   at 0x40000008: main
+error 1: Invalid read of size 4
+   at 0x40000018: main
+ Address 0x90000018 is 0 bytes after a block of size 8 alloc'd
+   at 0x40000014: main
+error 1: Invalid read of size 4
+   at 0x4000001c: main
+ Address 0x4001ffdc is in the stack region
+"""
+
+
+def placed_file():
+    """The file of PLACED."""
+    return elf(PLACED, PLACED_MEMORY, [("main", PLACED_AT, 4 * len(PLACED))], base=PLACED_AT)
+
+
 def atomic_file():
     """The file of COUNTS."""
     return elf([], symbols=[("main", ENTRY, len(COUNTS))], data=COUNTS)
 
 
+IN_REGION = "replaycheck: image refused 29: two segments overlap, or one meets the heap or the stack region\n"
+NO_HEAP = "*--heap-region: '0xe0000000' is not a multiple of 0x10000000 from 0x10000000 to 0xd0000000\n*"
+NO_STACK = "*--stack-region: '0x1000..0x2000' is not A..B, multiples of 4096 at least 65536 apart\n*"
 NO_SET = "*--isa: invalid choice: 'rv32gc': choose from rv32im, rv32imc, rv32imac*"
 SUPPRESSED = ["run", "undefined-branches.elf", "--supp=undefined-branches.supp"]
 # Tools that wait for a child, and the variables that name the child.
@@ -111,6 +138,9 @@ def talk_rows():
               f"> look next write 0x{COUNTED:x} 4 12\nnone\n", given=f"goto 9\nlook last read 0x{COUNTED:x} 4 0\n"
               f"look next write 0x{COUNTED:x} 4 12\n".encode())
     yield Row("talk: another instruction set", ["talk", "three-words.elf", "-", "--isa=rv32gc"], 2, "", NO_SET)
+    yield Row("talk: with regions", ["talk", *MOVED, "-"], 0, "> goto 9\nok\n> look last run 0x40000008 4 0\nstep 2\n",
+              given=b"goto 9\nlook last run 0x40000008 4 0\n")
+    yield Row("talk: a heap region that can't be", ["talk", "three-words.elf", "-", "--heap-region=0xe0000000"], 2, "", NO_HEAP)
     yield Row("talk: a line with a return", ["talk", "three-words.elf", "-"], 0, "> goto 1\nok\n", given=b"goto 1\r\n")
     yield Row("talk: an input", ["talk", "packet.elf", "--input=packet.input", "--", "-"], 0, "> input 7 1\nok\n",
               given=b"input 7 1")
@@ -151,6 +181,12 @@ def when_rows():
     yield Row("when: with control registers", ["when", *CONTROLS, "state exited 7"], 0, "5\n")
     yield Row("when: for rv32imac", ["when", *ATOMIC, "state exited 7"], 0, "12\n")
     yield Row("when: atomic instructions for rv32imc", ["when", "counts.elf", "--isa=rv32imc", "stopped illegal 0x0001000a"], 0, "4\n")
+    yield Row("when: with regions", ["when", *MOVED, "Address 0x90000018"], 0, "7\n")
+    yield Row("when: without them", ["when", "placed.elf", "x"], 2, "", IN_REGION)
+    yield Row("when: a stack region that can't be", [*when, "--stack-region", "0x1000..0x2000", "x"], 2, "", NO_STACK)
+    yield Row("when: a heap region twice", ["when", *MOVED, "--heap-region=0x90000000", "x"], 2, "", "*--heap-region is given twice*")
+    yield Row("when: regions that overlap", [*when, "--heap-region=0x30000000", "--stack-region=0x40010000..0x40020000", "x"], 2, "",
+              "*heap region and stack region overlap: --heap-region 0x30000000 --stack-region 0x40010000..0x40020000\n*")
     yield Row("when: another instruction set", [*when, "--isa=rv32gc", "x"], 2, "", NO_SET)
     yield Row("when: an instruction set twice", ["when", *SHORT, *SHORT[1:], "x"], 2, "", "*--isa is given twice*")
     yield Row("when: no instruction set", [*when, "x", "--isa"], 2, "", "*--isa: its value is missing*")
@@ -173,6 +209,9 @@ def compare_rows():
     yield Row("compare: with control registers", ["compare", *CONTROLS, "patch 0x10004 0x3401f073"], 1,
               "*-state exited 7\n+state exited 4\n*")
     yield Row("compare: for rv32imac", ["compare", *ATOMIC, "patch 0x1001e 0x0e51262f"], 1, "*-state exited 7\n+state exited 6\n*")
+    yield Row("compare: with regions", ["compare", *MOVED, "patch 0x40000004 0x13"], 1,
+              "*-error 1: Conditional jump or move depends on uninitialised value(s)\n*")
+    yield Row("compare: a patch in the stack", ["compare", *MOVED, "patch 0x40010000 0x13"], 2, "", "*refused 4: *")
     yield Row("compare: another instruction set", [*compare, "--isa", "rv32gc", "input 0 8"], 2, "", NO_SET)
     yield Row("compare: a step that is too great", [*compare, "--step", "5000000", "input 0 8"], 2, "",
               "*not a number from 0*")
@@ -338,6 +377,16 @@ def run_rows():
               "*stopped: an atomic instruction at an address that is no multiple of 4*", needs=ADDR2LINE)
     yield Row("run: no atomic instruction for rv32imc", ["run", "counts.elf", "--isa=rv32imc", "--format=gcc"], 0,
               "*stopped: no instruction of RV32IMC*", needs=ADDR2LINE)
+    yield Row("run: with regions", ["run", *MOVED], 0, f"*state exited 7\n*{PLACED_ERRORS}*")
+    yield Row("run: with regions, as a report", ["run", *MOVED, "--error-exitcode=9"], 9, f"*{PLACED_ERRORS}*")
+    yield Row("run: with regions, by a session", ["run", *MOVED, "--num-callers=1"], 0, f"*{PLACED_ERRORS}*")
+    yield Row("run: with regions, as json", ["run", *MOVED, "--format=json"], 0,
+              '*"input": null,\n "heap_region": "0x90000000",\n "stack_region": "0x40010000..0x40020000",\n "step": 4194304*'
+              '"clean": false*"known": "by number"*')
+    yield Row("run: with the usual regions, as json", ["run", "half.elf", "--heap-region=0x40000000", "--format=json"], 0,
+              '*"input": null,\n "step": 4194304*')
+    yield Row("run: without regions", ["run", "placed.elf", "--format=json"], 3, "", IN_REGION)
+    yield Row("run: a heap region that can't be", ["run", "half.elf", "--heap-region=0xe0000000", "--format=json"], 2, "", NO_HEAP)
     yield Row("run: another instruction set", ["run", "half.elf", "--isa=rv32gc", "--format=json"], 2, "", NO_SET)
     for label, case, kinds, status in LEAKS:
         yield Row(f"run: {label}", ["run", "kinds.elf", f"--input=case-{case}", f"--errors-for-leak-kinds={kinds}",

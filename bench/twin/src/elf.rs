@@ -1,6 +1,9 @@
 //! The memory that an ELF file asks for (System V ABI, edition 4.1, chapters 4 and 5), where its program begins, and what its functions
 //! are called.
 
+use crate::regions::{Regions, meet};
+use std::ops::Range;
+
 const LOAD: u32 = 1;
 /// The type of a section that is the symbol table, and that of a symbol that is a function.
 const SYMBOLS: u32 = 2;
@@ -28,11 +31,39 @@ pub struct Image {
     pub entry: u32,
     /// In the order of the table.
     pub functions: Vec<Symbol>,
+    pub regions: Regions,
+}
+
+impl Segment {
+    fn range(&self) -> Range<u64> {
+        let start = u64::from(self.start);
+        start..start + u64::from(self.len)
+    }
+
+    /// What is loaded of it beside the regions; `None` if it has an address of theirs that it may not have. A stack that isn't at its usual
+    /// place may be inside of it, past the bytes that are loaded; nothing is loaded there.
+    fn beside(self, regions: &Regions) -> Option<Vec<Segment>> {
+        let all = self.range();
+        if meet(&all, &regions.heap) {
+            return None;
+        }
+        if !meet(&all, &regions.stack) {
+            return Some(vec![self]);
+        }
+        let has_room = all.start + self.bytes.len() as u64 <= regions.stack.start && regions.stack.end <= all.end;
+        if !regions.may_be_inside() || !has_room {
+            return None;
+        }
+        let (begin, end) = regions.stack_bounds();
+        let past = Segment { start: end, bytes: Vec::new(), len: (all.end - regions.stack.end) as u32 };
+        Some(vec![Segment { len: begin - self.start, ..self }, past])
+    }
 }
 
 impl Image {
-    /// Returns the image of a file for RV32; `None` if a segment or a header lies outside of the file. Nothing else is checked.
-    pub fn of(file: &[u8]) -> Option<Image> {
+    /// Returns the image of a file for RV32, for regions of heap and stack; `None` if a segment or a header lies outside of the file, or a
+    /// segment has an address of the regions that it may not have. Nothing else is checked.
+    pub fn of(file: &[u8], regions: Regions) -> Option<Image> {
         let (table, size, count) = (word(file, 28)? as usize, half(file, 42)? as usize, half(file, 44)? as usize);
         let mut segments = Vec::new();
         for header in (0..count).map(|i| table + size * i) {
@@ -42,7 +73,19 @@ impl Image {
                 segments.push(Segment { start, bytes, len: word(file, header + 20)? });
             }
         }
-        Some(Image { segments, entry: word(file, 24)?, functions: functions(file)? })
+        Image::with(segments, word(file, 24)?, functions(file)?, regions)
+    }
+
+    /// The image that loads segments beside the regions; `None` if one of them has an address there that it may not have.
+    pub fn with(segments: Vec<Segment>, entry: u32, functions: Vec<Symbol>, regions: Regions) -> Option<Image> {
+        let parts: Option<Vec<_>> = segments.into_iter().map(|it| it.beside(&regions)).collect();
+        Some(Image { segments: parts?.into_iter().flatten().collect(), entry, functions, regions })
+    }
+
+    /// The image of words at an address, and zeros after them, `len` bytes in all.
+    pub fn of_words(start: u32, words: &[u32], len: u32, regions: Regions) -> Option<Image> {
+        let bytes = words.iter().flat_map(|word| word.to_le_bytes()).collect();
+        Image::with(vec![Segment { start, bytes, len }], start, Vec::new(), regions)
     }
 
     /// Whether the `len` bytes from an address on are loaded, none beyond 2^32.

@@ -3,11 +3,9 @@
 
 use crate::elf::Image;
 use std::collections::BTreeMap;
+use std::ops::Range;
 use std::rc::Rc;
 
-/// The heap's region: its first address, and the one after its last.
-const START: u64 = 0x4000_0000;
-const END: u64 = 0x6000_0000;
 const STEP: u64 = 16;
 const GREATEST: u64 = 16_777_216;
 /// The bytes before and after each block, and those of freed blocks in all, which are the program's defaults.
@@ -70,6 +68,7 @@ pub struct Heap {
     queue: Vec<Block>,
     /// The functions that are called by name, and where they begin.
     functions: Rc<[(u32, Function)]>,
+    region: Range<u64>,
 }
 
 impl Heap {
@@ -80,7 +79,8 @@ impl Heap {
                 functions.entry(it.start).or_insert(function);
             }
         }
-        Heap { live: BTreeMap::new(), queue: Vec::new(), functions: functions.into_iter().collect() }
+        let (functions, region) = (functions.into_iter().collect(), image.regions.heap.clone());
+        Heap { live: BTreeMap::new(), queue: Vec::new(), functions, region }
     }
 
     /// The function of the heap that begins at an address.
@@ -101,13 +101,13 @@ impl Heap {
         let mut kept: Vec<(u64, u64)> = self.live.values().chain(&self.queue).map(Block::interval).collect();
         kept.sort_unstable();
         let after = |end: u64| (end + u64::from(REDZONE)).next_multiple_of(STEP);
-        let mut start = after(START);
+        let mut start = after(self.region.start);
         for (low, high) in kept {
             if interval(start, size).1 > low && high > interval(start, size).0 {
                 start = after(high);
             }
         }
-        (size <= GREATEST && interval(start, size).1 <= END).then_some(start)
+        (size <= GREATEST && interval(start, size).1 <= self.region.end).then_some(start)
     }
 
     /// Ends the live block at an address; the oldest blocks of the queue are forgotten where their sizes are too much.

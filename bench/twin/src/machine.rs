@@ -3,12 +3,13 @@
 //! section 2.4).
 
 use crate::atomics::{Atomic, atomic_of};
-use crate::elf::{Image, Segment};
+use crate::elf::Image;
 use crate::errors::{Errors, Kind};
 use crate::heap::Heap;
 use crate::isa::{HALF, Isa, WORD};
 use crate::looks::Access;
 use crate::memory::{Loaded, Memory, RangeKind};
+use crate::regions::Regions;
 use crate::short::{expand, is_long};
 use crate::stack::Stack;
 use std::collections::BTreeMap;
@@ -44,6 +45,8 @@ pub struct Machine {
     pub pc: u32,
     pub status: Status,
     pub stack: Stack,
+    /// The addresses at which the stack pointer may be in the stack, its end included.
+    stack_pointers: (u32, u32),
     pub heap: Heap,
     pub errors: Errors,
     pub input: Rc<[u8]>,
@@ -61,8 +64,7 @@ pub struct Machine {
     pub steps: u64,
 }
 
-/// Where the stack pointer points at the start, at sixteen bytes that may be used.
-const STACK_START: u32 = 0x7FFF_FFF0;
+/// How far below the end of the stack the stack pointer points at the start, at as many bytes that may be used.
 const STACK_ROOM: u32 = 16;
 /// The most bytes of a stack frame: Memcheck's default for `--max-stackframe`.
 const LARGEST_FRAME: u32 = 2_000_000;
@@ -182,17 +184,11 @@ fn is_link(r: u32) -> bool {
     r == 1 || r == 5
 }
 
-/// A defined address in the stack region, its end included.
-fn is_stack_pointer(bits: Bits) -> bool {
-    bits.undef == 0 && (0x7F00_0000..=0x8000_0000).contains(&bits.value)
-}
-
 impl Machine {
-    /// The machine before its first step: words at an address, and zeros after them, `memsz` bytes in all.
+    /// The machine before its first step, with the usual regions: words at an address, and zeros after them, `memsz` bytes in all.
     pub fn start(isa: Isa, at: u32, words: &[u32], memsz: u32) -> Machine {
-        let bytes = words.iter().flat_map(|word| word.to_le_bytes()).collect();
-        let segments = vec![Segment { start: at, bytes, len: memsz }];
-        Machine::of(isa, &Image { segments, entry: at, functions: Vec::new() }, &BTreeMap::new(), Rc::default())
+        let image = Image::of_words(at, words, memsz, Regions::default());
+        Machine::of(isa, &image.expect("no word is in a region"), &BTreeMap::new(), Rc::default())
     }
 
     /// The machine before the first step of a program, in which some bytes are others, and which reads an input.
@@ -207,9 +203,11 @@ impl Machine {
         for (addr, byte) in patches {
             memory.store::<1>(*addr, (*byte).into(), 0);
         }
-        memory.set_range(STACK_START, STACK_ROOM, RangeKind::Defined);
+        let stack_pointers = image.regions.stack_bounds();
+        let stack_start = stack_pointers.1 - STACK_ROOM;
+        memory.set_range(stack_start, STACK_ROOM, RangeKind::Defined);
         let mut registers = [known(0); 32];
-        registers[STACK_POINTER] = known(STACK_START);
+        registers[STACK_POINTER] = known(stack_start);
         Machine {
             isa,
             memory,
@@ -217,6 +215,7 @@ impl Machine {
             pc: image.entry,
             status: Status::Running,
             stack: Stack::default(),
+            stack_pointers,
             heap: Heap::of(image),
             errors: Errors::default(),
             input,
@@ -243,6 +242,7 @@ impl Machine {
         self.registers = other.registers;
         (self.pc, self.status) = (other.pc, other.status);
         self.stack.clone_from(&other.stack);
+        self.stack_pointers = other.stack_pointers;
         self.heap.clone_from(&other.heap);
         self.errors.clone_from(&other.errors);
         (self.position, self.output) = (other.position, other.output);
@@ -287,7 +287,9 @@ impl Machine {
     #[inline(never)]
     fn stack_rule(&mut self, old: Bits) {
         let new = self.registers[STACK_POINTER];
-        if is_stack_pointer(old) && is_stack_pointer(new) && new.value.abs_diff(old.value) <= LARGEST_FRAME {
+        let (first, last) = self.stack_pointers;
+        let is_in_stack = |bits: Bits| bits.undef == 0 && (first..=last).contains(&bits.value);
+        if is_in_stack(old) && is_in_stack(new) && new.value.abs_diff(old.value) <= LARGEST_FRAME {
             let len = new.value.abs_diff(old.value);
             if new.value < old.value {
                 self.memory.set_range(new.value, len, RangeKind::Undefined);

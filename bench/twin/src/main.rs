@@ -1,7 +1,8 @@
 //! A plain interpreter of RV32IM, by `--isa` also of RV32IMC and RV32IMAC, with accessible and undefined bits: what a step costs where
 //! nothing is proved. It runs the loop that `bench/run` gives the program too, and prints where it leads; or a program of words from a
 //! file, and prints where it is after them, or answers looks at its run, or tells whether noise changes it. Of an ELF file it answers the
-//! lines of a session that looks, or writes the table of a sweep of alterations at steps.
+//! lines of a session that looks, or writes the table of a sweep of alterations at steps. `--heap-region` and `--stack-region` say where heap
+//! and stack are.
 
 mod atomics;
 mod calls;
@@ -21,6 +22,9 @@ mod noise;
 mod outline;
 #[cfg(test)]
 mod profile_tests;
+#[cfg(test)]
+mod region_tests;
+mod regions;
 mod request;
 mod session;
 mod short;
@@ -34,9 +38,11 @@ use elf::Image;
 use isa::Isa;
 use looks::Run;
 use machine::{Machine, Status};
+use regions::Regions;
 use request::Request;
 use session::Session;
 use std::collections::BTreeMap;
+use std::rc::Rc;
 use std::time::Instant;
 
 /// lui x5,0x10; lw x6,256(x5); addi x6,x6,1; sw x6,256(x5); mul x7,x6,x6; xor x8,x7,x6; bne x6,x0,-20
@@ -47,67 +53,97 @@ const PROGRAM_START: u32 = 0x0001_0000;
 /// How many bytes of memory the program has.
 const MEMORY: u32 = 0x2000;
 
+/// What a program is run for.
+struct Setup {
+    isa: Isa,
+    regions: Regions,
+}
+
 fn main() {
     let mut words: Vec<String> = std::env::args().skip(1).collect();
-    let Some(isa) = take_isa(&mut words) else {
-        eprintln!("twin: --isa is rv32im, rv32imc or rv32imac");
+    let setup = take_setup(&mut words).unwrap_or_else(|fault| {
+        eprintln!("twin: {fault}");
         std::process::exit(2);
-    };
+    });
     if words.first().is_some_and(|word| word == "sweep") {
-        std::process::exit(sweep_of(isa, &words[1..]));
+        std::process::exit(sweep_of(setup, &words[1..]));
     }
     let number = |at: usize| words.get(at).and_then(|word| word.parse().ok());
+    let given = |at: usize| std::fs::read(&words[at]).ok();
+    let no_words = || println!("twin: no such file, or one that meets a region");
     match (words.len(), number(0), number(1)) {
         (1, None, _) if words[0] == "halves" => tell_halves(),
-        (3, None, Some(memory)) if words[0] == "looks" => match std::fs::read(&words[2]) {
-            Ok(bytes) => look(isa, memory as u32, &bytes),
-            Err(fault) => println!("twin: {fault}"),
+        (3, None, Some(memory)) if words[0] == "looks" => {
+            match given(2).and_then(|bytes| words_of(&setup, memory as u32, &bytes)) {
+                Some(image) => look(setup.isa, &image),
+                None => no_words(),
+            }
+        }
+        (4, None, Some(steps)) if words[0] == "clean" => match (number(2), given(3)) {
+            (Some(memory), Some(bytes)) => match words_of(&setup, memory as u32, &bytes) {
+                Some(image) => compare_with_noise(setup.isa, steps, &image),
+                None => no_words(),
+            },
+            _ => no_words(),
         },
-        (4, None, Some(steps)) if words[0] == "clean" => match (number(2), std::fs::read(&words[3])) {
-            (Some(memory), Ok(bytes)) => compare_with_noise(isa, steps, memory as u32, &bytes),
-            _ => println!("twin: no such file"),
-        },
-        (2 | 3, None, _) if words[0] == "session" => match files(&words[1..]) {
-            Some((image, input)) => hold(Session::new(isa, image, input)),
-            None => println!("twin: no such file, or no program"),
-        },
-        (3 | 4, None, Some(steps)) if words[0] == "summary" => match files(&words[2..]) {
-            Some((image, input)) => summarize(isa, steps, image, input),
-            None => println!("twin: no such file, or no program"),
-        },
-        (1, Some(steps), _) => time(isa, steps),
-        (3, Some(steps), Some(memory)) => match std::fs::read(&words[2]) {
-            Ok(bytes) => tell(isa, steps, memory as u32, &bytes),
-            Err(fault) => println!("twin: {fault}"),
+        (2 | 3, None, _) if words[0] == "session" => {
+            with_files(&setup, &words[1..], |image, input| hold(Session::new(setup.isa, image, input)));
+        }
+        (3 | 4, None, Some(steps)) if words[0] == "summary" => {
+            with_files(&setup, &words[2..], |image, input| summarize(setup.isa, steps, image, input));
+        }
+        (3 | 4, None, Some(steps)) if words[0] == "errors" => {
+            with_files(&setup, &words[2..], |image, input| tell(setup.isa, steps, &image, input));
+        }
+        (1, Some(steps), _) => time(setup.isa, steps),
+        (3, Some(steps), Some(memory)) => match given(2).and_then(|bytes| words_of(&setup, memory as u32, &bytes)) {
+            Some(image) => tell(setup.isa, steps, &image, Vec::new()),
+            None => no_words(),
         },
         _ => println!(
             "usage: twin STEPS | twin STEPS MEMORY FILE | twin looks MEMORY FILE | twin clean STEPS MEMORY FILE \
-             | twin session PROGRAM [INPUT] | twin summary STEPS PROGRAM [INPUT] | twin halves \
+             | twin session PROGRAM [INPUT] | twin summary STEPS PROGRAM [INPUT] | twin errors STEPS PROGRAM [INPUT] | twin halves \
              | twin sweep PROGRAM --at A..B --faults LIST [--code-range LO..HI] [--pairs skip] \
-             [--step N] [--input F] [--supp F] [--with-output] [--part I/N]; each with [--isa rv32im|rv32imc|rv32imac]"
+             [--step N] [--input F] [--supp F] [--with-output] [--part I/N]; each with [--isa rv32im|rv32imc|rv32imac] \
+             [--heap-region BEGIN] [--stack-region A..B]"
         ),
     }
 }
 
-/// Takes `--isa NAME` or `--isa=NAME` out of the words, wherever it is: the last one counts. `None` if there is no such profile.
-fn take_isa(words: &mut Vec<String>) -> Option<Isa> {
-    let mut isa = Isa::Rv32im;
-    while let Some(at) = words.iter().position(|word| word == "--isa" || word.starts_with("--isa=")) {
+/// Takes `--NAME VALUE` or `--NAME=VALUE` out of the words, wherever it is: the last one counts.
+///
+/// # Errors
+///
+/// That there is no value.
+fn take(words: &mut Vec<String>, name: &str) -> Result<Option<String>, String> {
+    let (option, begin, mut value) = (format!("--{name}"), format!("--{name}="), None);
+    while let Some(at) = words.iter().position(|word| *word == option || word.starts_with(&begin)) {
         let word = words.remove(at);
-        let name = match word.strip_prefix("--isa=") {
-            Some(name) => name.to_string(),
+        value = Some(match word.strip_prefix(&begin) {
+            Some(text) => text.to_string(),
             None if at < words.len() => words.remove(at),
-            None => return None,
-        };
-        isa = Isa::of(&name)?;
+            None => return Err(format!("{option} needs a value")),
+        });
     }
-    Some(isa)
+    Ok(value)
+}
+
+/// Takes what a program is run for out of the words.
+///
+/// # Errors
+///
+/// What is wrong with the first value at fault: that of the instruction set comes first.
+fn take_setup(words: &mut Vec<String>) -> Result<Setup, String> {
+    let isa = take(words, "isa")?.map_or(Some(Isa::Rv32im), |name| Isa::of(&name));
+    let isa = isa.ok_or("--isa is rv32im, rv32imc or rv32imac")?;
+    let [heap, stack] = regions::OPTIONS.map(|name| take(words, name));
+    Ok(Setup { isa, regions: Regions::of(heap?.as_deref(), stack?.as_deref())? })
 }
 
 /// Writes the table of a sweep, and answers the exit status.
-fn sweep_of(isa: Isa, words: &[String]) -> i32 {
+fn sweep_of(setup: Setup, words: &[String]) -> i32 {
     let out = std::io::BufWriter::new(std::io::stdout().lock());
-    match Request::of(isa, words).and_then(|request| sweep::sweep(&request, out)) {
+    match Request::of(setup.isa, setup.regions, words).and_then(|request| sweep::sweep(&request, out)) {
         Ok(()) => 0,
         Err(fault) => {
             eprintln!("twin: {fault}");
@@ -116,9 +152,16 @@ fn sweep_of(isa: Isa, words: &[String]) -> i32 {
     }
 }
 
-/// The program and the input, which is empty without a file.
-fn files(names: &[String]) -> Option<(Image, Vec<u8>)> {
-    let image = Image::of(&std::fs::read(&names[0]).ok()?)?;
+/// Gives a program and an input, which is empty without a file, to something.
+fn with_files(setup: &Setup, names: &[String], act: impl FnOnce(Image, Vec<u8>)) {
+    match files(setup, names) {
+        Some((image, input)) => act(image, input),
+        None => println!("twin: no such file, or no program"),
+    }
+}
+
+fn files(setup: &Setup, names: &[String]) -> Option<(Image, Vec<u8>)> {
+    let image = Image::of(&std::fs::read(&names[0]).ok()?, setup.regions.clone())?;
     let input = names.get(1).map_or(Ok(Vec::new()), std::fs::read).ok()?;
     Some((image, input))
 }
@@ -150,10 +193,10 @@ fn make(machine: &mut Machine, steps: u64) -> u64 {
     made
 }
 
-/// Makes so many steps of a program whose words are the bytes of a file, in so many bytes of memory, and prints the state, and each
-/// error: its instruction, how often it came, its first address or `-`, and its text.
-fn tell(isa: Isa, steps: u64, memory: u32, bytes: &[u8]) {
-    let mut machine = Machine::start(isa, PROGRAM_START, &words_of(bytes), memory);
+/// Makes so many steps of a program, and prints the state, and each error: its instruction, how often it came, its first address or `-`, and
+/// its text.
+fn tell(isa: Isa, steps: u64, image: &Image, input: Vec<u8>) {
+    let mut machine = Machine::of(isa, image, &BTreeMap::new(), input.into());
     make(&mut machine, steps);
     println!("{:?} {:#010x}", machine.status, machine.pc);
     for ((kind, pc), (count, address)) in machine.errors.by_place() {
@@ -182,9 +225,8 @@ const SEEDS: [u64; 3] = [1, 77, 0xDEAD_BEEF];
 
 /// Prints up to which step such a program is clean; whether its run is the same under noise at that step and at some before it, with how
 /// many errors; and the same of its whole run, where that has a use.
-fn compare_with_noise(isa: Isa, steps: u64, memory: u32, bytes: &[u8]) {
-    let words = words_of(bytes);
-    let start = || Machine::start(isa, PROGRAM_START, &words, memory);
+fn compare_with_noise(isa: Isa, steps: u64, image: &Image) {
+    let start = || Machine::of(isa, image, &BTreeMap::new(), Rc::default());
     let told = |steps| {
         let (is_same, errors) = noise::is_same(&start, steps, &SEEDS);
         format!("{} {errors}", if is_same { "same" } else { "differs" })
@@ -199,14 +241,15 @@ fn compare_with_noise(isa: Isa, steps: u64, memory: u32, bytes: &[u8]) {
     }
 }
 
-fn words_of(bytes: &[u8]) -> Vec<u32> {
-    bytes.as_chunks().0.iter().map(|word| u32::from_le_bytes(*word)).collect()
+/// The program whose words are the bytes of a file, in so many bytes of memory.
+fn words_of(setup: &Setup, memory: u32, bytes: &[u8]) -> Option<Image> {
+    let words: Vec<u32> = bytes.as_chunks().0.iter().map(|word| u32::from_le_bytes(*word)).collect();
+    Image::of_words(PROGRAM_START, &words, memory, setup.regions.clone())
 }
 
 /// Answers each line of standard input that looks at the run of such a program.
-fn look(isa: Isa, memory: u32, bytes: &[u8]) {
-    let words = words_of(bytes);
-    let run = Run { start: &|| Machine::start(isa, PROGRAM_START, &words, memory), changes: BTreeMap::new() };
+fn look(isa: Isa, image: &Image) {
+    let run = Run { start: &|| Machine::of(isa, image, &BTreeMap::new(), Rc::default()), changes: BTreeMap::new() };
     for line in std::io::stdin().lines().map_while(Result::ok) {
         println!("{}", looks::answer(&run, &line).unwrap_or("no look".to_string()));
     }

@@ -7,6 +7,7 @@ use crate::isa::Isa;
 use crate::looks::Access;
 use crate::machine::{Bits, Machine, Status};
 use crate::memory::RangeKind;
+use crate::regions::Regions;
 use crate::session::Session;
 
 const START: u32 = 0x0001_0000;
@@ -253,6 +254,7 @@ fn patches_are_at_each_half_and_later_ones_are_over_earlier_ones() {
         segments: vec![Segment { start: START, bytes: vec![1, 0, 1, 0, 1, 0, 1, 0], len: 8 }],
         entry: START,
         functions: Vec::new(),
+        regions: Regions::default(),
     };
     for isa in [Isa::Rv32imc, Isa::Rv32imac] {
         let mut session = Session::new(isa, image(), Vec::new());

@@ -2,6 +2,7 @@
 
 use crate::isa::Isa;
 use crate::models::{MODELS, Model};
+use crate::regions::Regions;
 
 const LAST_STEP: u32 = 4_194_304;
 const DEFAULT_STEP: u32 = 1_048_576;
@@ -9,6 +10,7 @@ const MOST_PARTS: u64 = 1_000_000;
 
 pub struct Request {
     pub isa: Isa,
+    pub regions: Regions,
     pub program: Vec<u8>,
     pub input: Vec<u8>,
     pub suppressions: Vec<u8>,
@@ -99,12 +101,12 @@ fn models(text: &str) -> Option<Vec<Model>> {
 }
 
 impl Request {
-    /// Reads the words of a command line after `sweep`, without `--isa`, and the files that they name.
+    /// Reads the words of a command line after `sweep`, without what says the instruction set and the regions, and the files that they name.
     ///
     /// # Errors
     ///
     /// What is wrong with the first word or file at fault.
-    pub fn of(isa: Isa, words: &[String]) -> Result<Request, String> {
+    pub fn of(isa: Isa, regions: Regions, words: &[String]) -> Result<Request, String> {
         let words = Words::of(words)?;
         let step = words.get("--step").map_or(Some(DEFAULT_STEP), number);
         let step = step.filter(|step| *step <= LAST_STEP).ok_or("no such step")?;
@@ -118,6 +120,7 @@ impl Request {
         let pairs = words.get("--pairs").map(|text| if text == "skip" { Ok(()) } else { Err("no such pairs") }).transpose()?;
         Ok(Request {
             isa,
+            regions,
             program: read(words.file.as_deref().ok_or("no program")?)?,
             input: words.file("--input")?,
             suppressions: words.file("--supp")?,

@@ -145,6 +145,7 @@ fn head(request: &Request, out: &mut impl Write) -> io::Result<()> {
     if request.isa != Isa::Rv32im {
         writeln!(out, "isa {}", request.isa.name())?;
     }
+    write!(out, "{}", request.regions.lines())?;
     for (name, bytes) in [("program", &request.program), ("input", &request.input), ("supp", &request.suppressions)] {
         writeln!(out, "{name} {} {}", bytes.len(), sha256(bytes))?;
     }
@@ -161,12 +162,12 @@ fn head(request: &Request, out: &mut impl Write) -> io::Result<()> {
 ///
 /// What is wrong with the program or the suppressions, or with writing.
 pub fn sweep(request: &Request, mut out: impl Write) -> Result<(), String> {
-    let image = Image::of(&request.program).ok_or("no program")?;
+    let image = Image::of(&request.program, request.regions.clone()).ok_or("no program")?;
     let rules = suppressions::parse(&request.suppressions).ok_or("no suppressions")?;
     let input: Rc<[u8]> = request.input.clone().into();
     let start = || Machine::of(request.isa, &image, &BTreeMap::new(), input.clone());
     let (mut before, mut second, run) = (start(), start(), start());
-    let image = Image::of(&request.program).ok_or("no program")?;
+    let image = Image::of(&request.program, request.regions.clone()).ok_or("no program")?;
     head(request, &mut out).map_err(|fault| fault.to_string())?;
     let table = Table { out, numbers: HashMap::new(), tallies: Vec::new(), edits: 0, steps: 0 };
     let mut sweep = Sweep { request, writer: Writer::new(image, rules, request.with_output), table, run };

@@ -8,6 +8,7 @@ use crate::isa::Isa;
 use crate::leaks::{self, LeakKind};
 use crate::machine::{Bits, Machine, Status};
 use crate::memory::RangeKind;
+use crate::regions::Regions;
 use crate::request::Request;
 use crate::session::Session;
 use crate::suppressions::{self, Target};
@@ -128,7 +129,7 @@ fn a_machine_that_has_ended_takes_marks_only() {
 /// A session on the program that waits, whose segment has so many bytes.
 fn session(len: u32) -> Session {
     let segments = vec![Segment { start: START, bytes: 0x6Fu32.to_le_bytes().to_vec(), len }];
-    Session::new(Isa::Rv32im, Image { segments, entry: START, functions: Vec::new() }, vec![1, 2, 3])
+    Session::new(Isa::Rv32im, Image { segments, entry: START, functions: Vec::new(), regions: Regions::default() }, vec![1, 2, 3])
 }
 
 #[test]
@@ -192,7 +193,8 @@ fn a_hash_is_that_of_the_standard() {
 fn at_function(name: &str) -> Machine {
     let functions = vec![Symbol { start: START, len: 0, name: name.into() }];
     let segments = vec![Segment { start: START, bytes: Vec::new(), len: 0x1000 }];
-    let mut machine = Machine::of(Isa::Rv32im, &Image { segments, entry: START, functions }, &BTreeMap::new(), Rc::default());
+    let image = Image { segments, entry: START, functions, regions: Regions::default() };
+    let mut machine = Machine::of(Isa::Rv32im, &image, &BTreeMap::new(), Rc::default());
     machine.registers[1].value = START;
     machine
 }
@@ -258,10 +260,10 @@ fn a_suppression_fits_the_first_names_of_a_trace() {
 fn a_sweep_is_refused_before_it_begins() {
     for words in ["--faults=skip", "--at=0", "--at=0 --faults=skip,skip", "--at=0 --faults=memory", "--at=2..1 --faults=skip"] {
         let words: Vec<String> = words.split(' ').map(String::from).collect();
-        assert!(Request::of(Isa::Rv32im, &words).is_err(), "{words:?}");
+        assert!(Request::of(Isa::Rv32im, Regions::default(), &words).is_err(), "{words:?}");
     }
     for words in ["--at=5 --faults=skip --step=5", "--at=0.. --faults=skip --step=0", "--at=0 --faults=skip --part=2/1"] {
         let words: Vec<String> = words.split(' ').map(String::from).collect();
-        assert!(Request::of(Isa::Rv32im, &words).is_err(), "{words:?}");
+        assert!(Request::of(Isa::Rv32im, Regions::default(), &words).is_err(), "{words:?}");
     }
 }

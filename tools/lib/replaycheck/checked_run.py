@@ -99,7 +99,7 @@ def suppressions_of(options):
 def replies(options, lines, supp, lends):
     """The lines with which the program answers those of a session, or, where there are none, its report."""
     words = [program(), "session"] if lines else [program(), "run", "--step", str(options.step)]
-    words += isa_words(options.isa)
+    words += [*isa_words(options.isa), *options.regions.words]
     for name, path in (("--input", options.input), ("--supp", supp)):
         words += [name, path_of(path)] if path is not None else []
     given = "".join(line + "\n" for line in lines).encode()
@@ -150,7 +150,7 @@ def verdict_line(options):
         return ""
     lines = [f"option {name} {getattr(options, name)}" for name in ("redzone", "queue") if getattr(options, name) is not None]
     given = ["--input", path_of(options.input)] if options.input is not None else []
-    words = [program(), "look", *given, *isa_words(options.isa), path_of(options.file)]
+    words = [program(), "look", *given, *isa_words(options.isa), *options.regions.words, path_of(options.file)]
     asked = "".join(f"{line}\n" for line in [*lines, f"goto {options.step}", "look certify"]).encode()
     _, told, _ = outcome(words, asked)
     return told.decode("utf-8", "surrogateescape").rstrip("\n").rpartition("\n")[2]
@@ -167,7 +167,7 @@ def formatted(told, options, heap):
     from replaycheck.findings import Shown
     from replaycheck.reports import Lines, read_report
     counted = options.errors_for_leak_kinds[1]
-    shown = Shown(read_report(Lines(told)), options.file, options.input, counted, heap, options.require_heap, options.isa)
+    shown = Shown(read_report(Lines(told)), options.file, options.input, counted, heap, options.require_heap, options.isa, options.regions)
     shown.version = version() if options.format == "sarif" else None
     shown.verdict = verdict_line(options) if options.format == "json" else ""
     return formats.FORMATS[options.format](with_places(shown, options))
@@ -190,7 +190,7 @@ def checked(options):
         verdict = Verdict(told)
     except (IndexError, KeyError, ValueError):
         raise Fault(f"{program()}: what it printed is no report: {told[0][:80]!r}") from None
-    heap = heap_of_run(options.file, options.input, verdict.step, verdict.has_blocks(), options.isa)
+    heap = heap_of_run(options.file, options.input, verdict.step, verdict.has_blocks(), options.isa, options.regions)
     write("".join(line + "\n" for line in told) if options.format == "text" else formatted(told, options, heap))
     flush()
     for line in notices(options, verdict, heap):

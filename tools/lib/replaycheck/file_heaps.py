@@ -9,6 +9,7 @@ from replaycheck.adopting.heap_names import KNOWN, LEFT
 from replaycheck.allocators import HEAP, RUSTS
 from replaycheck.children import outcome
 from replaycheck.programs import ISAS, isa_words, path_of, program, unit_of
+from replaycheck.regions import USUAL_REGIONS
 
 OTHERS = {it.partition("=")[0] for it in KNOWN} - {*HEAP} | {*LEFT}
 NO_TYPE, FUNCTION, SYMBOLS, LOAD = 0, 2, 2, 1
@@ -16,8 +17,9 @@ LONGEST_FILE = 1 << 26
 ECALL = 0x00000073
 # `li a7,2001` to `li a7,2004`, by which a call of the heap is chosen.
 CHOICES = [number << 20 | 17 << 7 | 0x13 for number in range(2001, 2005)]
-# Where the first block of a heap begins: its first byte becomes accessible by the first call that makes a block.
-FIRST_BLOCK = 0x40000010
+# Where the first block of a heap begins, from the region's begin on. Its first byte becomes accessible by the first call for a block.
+BEFORE_BLOCKS = 16
+FIRST_BLOCK = USUAL_REGIONS.heap + BEFORE_BLOCKS
 BY_NAME, BY_NUMBER, NONE, NO_SYMBOLS, OTHER_NAMES = "by name", "by number", "none", "no symbols", "other names"
 
 
@@ -130,19 +132,20 @@ def heap_in(data, isa):
     return Heap(OTHER_NAMES, others) if others else Heap(NONE)
 
 
-def makes_blocks(file, given, step, isa):
+def makes_blocks(file, given, step, isa, regions=USUAL_REGIONS):
     """Whether a run makes a block of the heap before a step, whatever its code looks like. It isn't known of an input that can't be read
     twice."""
     if given is not None and not os.path.isfile(given):
         return False
-    words = [program(), "look", *(["--input", path_of(given)] if given is not None else []), *isa_words(isa), path_of(file)]
-    _, told, _ = outcome(words, f"look next shadow 0x{FIRST_BLOCK:x} 1 {step}\n".encode())
+    words = [program(), "look", *(["--input", path_of(given)] if given is not None else []), *isa_words(isa), *regions.words, path_of(file)]
+    _, told, _ = outcome(words, f"look next shadow 0x{regions.heap + BEFORE_BLOCKS:x} 1 {step}\n".encode())
     return told.startswith(b"step ")
 
 
-def heap_of_run(file, given, step, has_blocks=False, isa=ISAS[0]):
+def heap_of_run(file, given, step, has_blocks=False, isa=ISAS[0], regions=USUAL_REGIONS):
     """The heap of a program's file, as its run up to a step shows it; None of a file that can't be read twice, such as a pipe. `has_blocks`
-    says that the run has made a block, as far as that is known already. `isa` is the run's instruction set."""
+    says that the run has made a block, as far as that is known already. `isa` is the run's instruction set, and `regions` where its
+    heap and stack are."""
     if not os.path.isfile(file):
         return None
     try:
@@ -150,6 +153,6 @@ def heap_of_run(file, given, step, has_blocks=False, isa=ISAS[0]):
             heap = heap_in(opened.read(LONGEST_FILE + 1), isa)
     except (OSError, struct.error):  # it has changed since it was run
         return None
-    if heap.is_unseen and (has_blocks or makes_blocks(file, given, step, isa)):
+    if heap.is_unseen and (has_blocks or makes_blocks(file, given, step, isa, regions)):
         return Heap(BY_NUMBER)
     return heap

@@ -6,6 +6,7 @@ from replaycheck.demangling import Demangler
 from replaycheck.endings import Fault
 from replaycheck.places import NoPlaces, Place, Places
 from replaycheck.programs import ATOMIC, USUAL, unit_of
+from replaycheck.regions import USUAL_REGIONS
 from replaycheck.records import Record
 from replaycheck.reports import LEAK_KINDS, Address, Frame, Report
 
@@ -92,8 +93,9 @@ class Shown:
     """A report, the files of its run, and how it is shown: where instructions stand, which leaks count as errors, which heap the file has,
     if that is known, and whether an unseen heap counts as an error."""
 
-    def __init__(self, report: Report, file: str, given: str | None, leaks_that_count, heap=None, needs_heap=False, isa=USUAL):
-        self.report, self.file, self.given, self.isa = report, file, given, isa
+    def __init__(self, report: Report, file: str, given: str | None, leaks_that_count, heap=None, needs_heap=False, isa=USUAL,
+                 regions=USUAL_REGIONS):
+        self.report, self.file, self.given, self.isa, self.regions = report, file, given, isa, regions
         self.leaks_that_count, self.heap, self.needs_heap = leaks_that_count, heap, needs_heap
         self.made, self.places, self.names, self.verdict = {}, None, None, ""
 

@@ -96,7 +96,8 @@ def json_text(shown):
     whole = {
         "format": "replaycheck report", "version": JSON_VERSION,
         "program": printable(shown.file), "input": shown.given and printable(shown.given),
-        **({"isa": shown.isa} if shown.isa != ISAS[0] else {}), "step": report.step,
+        **({"isa": shown.isa} if shown.isa != ISAS[0] else {}),
+        **{name[2:].replace("-", "_"): value for name, value in shown.regions.options}, "step": report.step,
         "state": {"name": report.state.name, "why": report.state.why, "address": address_text(report.state.address),
                   "status": report.state.status},
         "ended": report.state.name != "running",

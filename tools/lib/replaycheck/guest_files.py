@@ -8,9 +8,9 @@ DATA = TOP / "examples" / "sessions"
 ENTRY = 0x10000
 
 
-def elf(words, memory=0, symbols=(), data=b"", entry=ENTRY):
-    """A static program for RV32: a segment of these words at ENTRY and the data after them, of so many bytes where that
-    is more, functions, each a name, an address and a size, and its entry."""
+def elf(words, memory=0, symbols=(), data=b"", entry=None, base=ENTRY):
+    """A static program for RV32: a segment of these words at a base and the data after them, of so many bytes where that
+    is more, functions, each a name, an address and a size, and its entry, which is the base if none is given."""
     content = b"".join(struct.pack("<I", word) for word in words) + data
     names = sorted({symbol[0] for symbol in symbols})
     texts = [name.encode() + b"\0" for name in names]
@@ -24,8 +24,9 @@ def elf(words, memory=0, symbols=(), data=b"", entry=ENTRY):
     tail = table + strings + headers if symbols else b""
     place = 84 + len(content) + len(table) + len(strings) if symbols else 0
     header = b"\x7fELF\x01\x01\x01" + bytes(9)
-    header += struct.pack("<HHIIIIIHHHHHH", 2, 243, 1, entry, 52, place, 0, 52, 32, 1, 40, 3 if symbols else 0, 0)
-    segment = struct.pack("<8I", 1, 84, ENTRY, ENTRY, len(content), max(memory, len(content)), 7, 4)
+    begin = base if entry is None else entry
+    header += struct.pack("<HHIIIIIHHHHHH", 2, 243, 1, begin, 52, place, 0, 52, 32, 1, 40, 3 if symbols else 0, 0)
+    segment = struct.pack("<8I", 1, 84, base, base, len(content), max(memory, len(content)), 7, 4)
     return header + segment + content + tail
 
 

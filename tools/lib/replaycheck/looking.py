@@ -4,6 +4,7 @@ from typing import List
 
 from replaycheck.options import LAST_STEP
 from replaycheck.programs import ISAS
+from replaycheck.regions import USUAL_REGIONS
 from replaycheck.refusals import with_words
 from replaycheck.reports import reports_in
 from replaycheck.sessions import Refused, Session
@@ -41,8 +42,8 @@ class Bytes:
 class Run:
     """The lines of `replaycheck look` on a program, and the step that is looked at."""
 
-    def __init__(self, file, given, supp, isa=ISAS[0]):
-        self.files, self.isa, self.edits, self.session = (file, given, supp), isa, [], None
+    def __init__(self, file, given, supp, isa=ISAS[0], regions=USUAL_REGIONS):
+        self.files, self.isa, self.regions, self.edits, self.session = (file, given, supp), isa, regions, [], None
         self.step = self.chosen = 0
         self.ready()
         self.forget()
@@ -56,7 +57,7 @@ class Run:
     def open(self):
         """Begins a session, with the edits and the chosen step of the one before it."""
         lines = [*self.edits, f"goto {self.chosen}"]
-        self.session, self.lines = Session(*self.files, command="look", isa=self.isa), len(lines)
+        self.session, self.lines = Session(*self.files, command="look", isa=self.isa, regions=self.regions), len(lines)
         self.session.accept_all(lines)
 
     def drop(self):

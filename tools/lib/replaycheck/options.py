@@ -3,6 +3,7 @@ import sys
 
 from replaycheck.endings import Fault, write
 from replaycheck.programs import ISAS
+from replaycheck.regions import HEAP_WANTED, STACK_WANTED, USUAL_REGIONS, Regions, is_heap, is_stack, overlap
 
 LAST_STEP, USUAL_STEP = 4194304, 1048576
 MANY = {"*": 0, "+": 1}
@@ -83,10 +84,16 @@ class Reader:
         self.option("--input")
         self.option("--supp")
         self.isa_option()
+        self.region_options()
 
     def isa_option(self):
         """Adds the instruction set that the program's file is read for."""
         self.option("--isa", choices=ISAS, default=ISAS[0])
+
+    def region_options(self):
+        """Adds the regions of heap and stack. The options then have `regions`, too."""
+        self.option("--heap-region", type=heap_region)
+        self.option("--stack-region", type=stack_region)
 
     def read(self, words=None):
         """The options of a command line. An argument after `--` is none, whatever it begins with."""
@@ -103,6 +110,8 @@ class Reader:
         try:
             bare, unknown = self.read_options(words[:end], options, given)
             self.place(bare + words[end + 1:], unknown, options)
+            if "--heap-region" in self.options:
+                options.regions = regions_of(options.heap_region, options.stack_region)
         except Fault as fault:
             self.error(str(fault))
         return options
@@ -198,6 +207,34 @@ def number(least, greatest):
             raise BadValue(f"{text!r} is not a number from {least} to {greatest}")
         return value
     return read
+
+
+def address(text):
+    """The number that a text is, or one that is none of an address."""
+    return int(text, 16 if text[:2] in ("0x", "0X") else 10) if is_number(text) else 1 << 32
+
+
+def heap_region(text):
+    """Reads where the heap's region begins."""
+    if not is_heap(address(text)):
+        raise BadValue(f"{text!r} is not {HEAP_WANTED}")
+    return address(text)
+
+
+def stack_region(text):
+    """Reads where the stack's region begins and ends."""
+    begin, _, end = text.partition("..")
+    if not is_stack(address(begin), address(end)):
+        raise BadValue(f"{text!r} is not {STACK_WANTED}")
+    return address(begin), address(end)
+
+
+def regions_of(heap, stack):
+    """The regions that two options say, each None where it isn't given."""
+    regions = Regions(USUAL_REGIONS.heap if heap is None else heap, USUAL_REGIONS.stack if stack is None else stack)
+    if regions.meet():
+        raise Fault(overlap(regions))
+    return regions
 
 
 def one_line(text):

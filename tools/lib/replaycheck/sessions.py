@@ -2,6 +2,7 @@
 from replaycheck.children import piped
 from replaycheck.programs import ISAS, isa_words, path_of, program
 from replaycheck.refusals import Ended, Refused
+from replaycheck.regions import USUAL_REGIONS
 
 # How many lines are sent before their replies are read: those fit into a pipe, so that neither side waits for the other one.
 AT_ONCE = 1000
@@ -13,10 +14,12 @@ LONG_LOOKS = {"registers": 32, "memory": 2}
 
 class Session:
     """A session on a program's file with its input and its suppressions, or what another command that answers lines does there. Paths are
-    texts or have the method `__fspath__`. `path` is that of the program, if it isn't the usual one, and `isa` the instruction set."""
+    texts or have the method `__fspath__`. `path` is that of the program, if it isn't the usual one, `isa` the instruction set, and
+    `regions` where heap and stack are."""
 
-    def __init__(self, file, given=None, supp=None, keeps_status=False, lends=(), command="session", path=None, isa=ISAS[0]):
-        words = [path or program(), command, *isa_words(isa)]
+    def __init__(self, file, given=None, supp=None, keeps_status=False, lends=(), command="session", path=None, isa=ISAS[0],
+                 regions=USUAL_REGIONS):
+        words = [path or program(), command, *isa_words(isa), *regions.words]
         words += ["--input", path_of(given)] if given is not None else []
         words += ["--supp", path_of(supp)] if supp is not None else []
         self.keeps_status = keeps_status

@@ -34,6 +34,7 @@ def options_of(page):
     reader.repeated("--keep")
     reader.repeated("--devices")
     reader.isa_option()
+    reader.region_options()
     options = reader.read()
     names = [name for name, _, _ in options.heap] + options.keep
     twice = next((name for i, name in enumerate(names) if name in names[:i]), None)
@@ -87,7 +88,7 @@ def healed(findings, heaps, kept, asked=USUAL):
     if len(content) > ROOM:
         raise Fault(f"the cured file would have more than {ROOM} bytes: leave its debug information out: "
                     "riscv64-unknown-elf-objcopy --strip-debug")
-    again = Findings(content, heaps, kept, asked)
+    again = Findings(content, heaps, kept, asked, findings.regions)
     if again.hopeless() or again.cures():
         raise Fault("the file's code overlaps its own tables: it is damaged, or not from a linker")
     return content, changes
@@ -119,7 +120,7 @@ def answer_for_devices(findings, inputs, kept):
 def adopt(options):
     """Looks at a file, writes another one if asked to, tells both, and returns the exit status."""
     data = read(options.file)
-    findings = Findings(data, options.heap, options.keep, options.isa)
+    findings = Findings(data, options.heap, options.keep, options.isa, options.regions)
     if findings.damaged:
         fault = findings.damaged
         raise Fault(f"{options.file}: {fault.what} (image refused {fault.number}): {fault.cure}")

@@ -5,12 +5,13 @@ import collections
 import functools
 import struct
 
+from replaycheck.regions import USUAL_REGIONS
+
 EXECUTABLE, RISC_V, LOAD, INTERPRETER, SYMBOLS = 2, 243, 1, 3, 2
 HEADER, PROGRAM_HEADER, SECTION_HEADER, SYMBOL = 52, 32, 40, 16
 ENTRY, PROGRAM_TABLE, SECTION_TABLE, FLAGS, PROGRAM_COUNT = 24, 28, 32, 36, 44
 IS_COMPRESSED, HAS_CODE, NO_TYPE, OBJECT, FUNCTION = 1, 4, 0, 1, 2
 ROOM = 16777216
-REGIONS = [("heap", 0x40000000, 0x60000000), ("stack", 0x7F000000, 0x80000000)]
 LONGEST_NAME = 1000
 # Of how many addresses a line has all.
 SHOWN = 4
@@ -18,9 +19,9 @@ SHOWN = 4
 Segment = collections.namedtuple("Segment", "kind offset vaddr paddr filesz memsz flags align")
 Section = collections.namedtuple("Section", "name kind flags addr offset size link info align entsize")
 Symbol = collections.namedtuple("Symbol", "name value size info other section")
-# What makes the program refuse a file: its number, what it is, the cure, and whether more of the file can be read all
-# the same.
-Refusal = collections.namedtuple("Refusal", "number what cure readable")
+# What makes the program refuse a file: its number, what it is, the cure, whether more of the file can be read all the same, and the region
+# that a segment meets.
+Refusal = collections.namedtuple("Refusal", "number what cure readable region", defaults=(None,))
 
 
 def word_at(data, offset):
@@ -36,16 +37,22 @@ def ends_within(data, offset, size):
 
 
 class Elf:
-    """A file whose header and tables lie within it: `refusals` must have found none that isn't readable."""
+    """A file whose header and tables lie within it: `refusals` must have found none that isn't readable. `regions` are where a run has its
+    heap and its stack."""
 
-    def __init__(self, data):
-        self.data = data
+    def __init__(self, data, regions=USUAL_REGIONS):
+        self.data, self.regions = data, regions
         self.entry, self.flags = word_at(data, ENTRY), word_at(data, FLAGS)
         self.segments = self.table(Segment, "<8I", PROGRAM_TABLE, PROGRAM_COUNT, PROGRAM_HEADER)
         has_sections = word_at(data, SECTION_TABLE) and half_at(data, 48)
         self.sections = self.table(Section, "<10I", SECTION_TABLE, 48, SECTION_HEADER) if has_sections else []
         self.loads = [it for it in self.segments if it.kind == LOAD and (it.memsz or it.filesz)]
         self.symbol_table = next((i for i, it in enumerate(self.sections) if it.kind == SYMBOLS), None)
+
+    @functools.cached_property
+    def loaded(self):
+        """The ranges that are loaded, in the order of the segments."""
+        return [part for it in self.loads for part in self.regions.loaded(it)]
 
     def table(self, form, layout, place, count, size):
         at = word_at(self.data, place)
@@ -219,13 +226,14 @@ def bad_symbols(elf):
 
 def meeting(elf):
     """Refusals by where segments lie: each that meets a region, and the first two that meet."""
-    ranges = sorted((it.vaddr, it.vaddr + it.memsz) for it in elf.loads if it.memsz)
-    for start, end in ranges:
-        for name, low, high in REGIONS:
-            if start < high and low < end:
+    segments = sorted((it for it in elf.loads if it.memsz), key=lambda it: (it.vaddr, it.memsz))
+    ranges = [(it.vaddr, it.vaddr + it.memsz) for it in segments]
+    for it, (start, end) in zip(segments, ranges):
+        for name, low, high in elf.regions.ranges:
+            if name in elf.regions.met(it):
                 yield Refusal(29, f"a segment at 0x{start:08x} to 0x{end - 1:08x}, in the {name}'s region, "
                               f"0x{low:08x} to 0x{high - 1:08x}",
-                              "give that memory another ORIGIN in the linker script, such as 0x80000000", True)
+                              "give that memory another ORIGIN in the linker script, such as 0x80000000", True, name)
     for (start, end), (after, _) in zip(ranges, ranges[1:]):
         if after < end:
             yield Refusal(29, f"segments that overlap, from 0x{start:08x} and from 0x{after:08x} on",
@@ -234,7 +242,7 @@ def meeting(elf):
 
 
 def too_large(elf):
-    total = sum(it.memsz for it in elf.loads)
+    total = sum(end - start for start, end in elf.loaded)
     if total > ROOM:
         yield Refusal(30, f"{total} bytes to load, where {ROOM} can be",
                       "a linker script that reserves all RAM does so: make its heap and stack smaller", True)
@@ -243,9 +251,9 @@ def too_large(elf):
                       "leave its debug information out: riscv64-unknown-elf-objcopy --strip-debug", True)
 
 
-def refusals(data):
-    """Why the program would refuse a file: all that can be told, in the order in which the program tests. After one
-    that isn't readable there is none."""
+def refusals(data, regions=USUAL_REGIONS):
+    """Why the program would refuse a file, for regions of heap and stack: all that can be told, in the order in which the program tests.
+    After one that isn't readable there is none."""
     fault = beginning(data)
     if fault:
         return [fault]
@@ -259,7 +267,7 @@ def refusals(data):
     fault = tables(data)
     if fault:
         return found + [fault]
-    elf = Elf(data)
+    elf = Elf(data, regions)
     if any(it.kind == INTERPRETER for it in elf.segments):
         found.append(Refusal(27, "a dynamic linker that is to load it", "link with -static -no-pie", True))
     if any(is_bad(data, it) for it in elf.loads):

@@ -3,13 +3,15 @@ cures."""
 import collections
 
 from replaycheck.programs import ISAS, SHORT, USUAL
+from replaycheck.regions import USUAL_REGIONS
 
 from .code import Code, CodeOfHalves, joined, replaced, stack_words, without
 from .devices import Driving
-from .elf import IS_COMPRESSED, REGIONS, ROOM, Elf, refusals
+from .elf import IS_COMPRESSED, ROOM, Elf, refusals
 from .heaps import Plan
 from .instructions import is_control
 from .outside import reached
+from .regions import fitting, has_own, own_stack
 from .semihosting import Hosting, sites
 
 # What only a rebuild cures, or an option: what it is, the cure, whether nothing of the file runs before, and whether an option cures it.
@@ -21,29 +23,48 @@ TARGET = "-march=rv32im -mabi=ilp32"
 
 class Findings:
     """All that is found in a file. `elf` is None where it can't be read so far. `isa` is the instruction set for which the file is to be
-    run: the one that is asked for, unless it needs another one to have all that is missing."""
+    run: the one that is asked for, unless it needs another one to have all that is missing. `regions` are where it is to have heap and
+    stack: those that are asked for, unless a segment meets them. `own` is the start file's stack, if it can be the stack's region."""
 
-    def __init__(self, data, heaps, kept, asked=USUAL):
-        refused = refusals(data)
-        self.obstacles = [Obstacle(f"{it.what} (image refused {it.number})", it.cure, True) for it in refused]
+    def __init__(self, data, heaps, kept, asked=USUAL, regions=USUAL_REGIONS):
+        refused = refusals(data, regions)
         self.damaged = next((it for it in refused if it.number in DAMAGED), None)
-        self.elf = Elf(data) if all(it.readable for it in refused) else None
+        self.regions, self.elf, self.own = regions, Elf(data, regions) if all(it.readable for it in refused) else None, None
+        is_cured = self.elf is not None and any(it.region for it in refused) and self.place(data)
+        if is_cured:
+            met = [it for it in refused if it.region]
+            refused = sorted([*met, *refusals(data, self.regions)], key=lambda it: it.number)
+        self.obstacles = [in_the_way(it, self.regions if is_cured else None) for it in refused]
         self.plan, self.control, self.stack, self.copied, self.devices = None, [], [], [], []
         self.hosting, self.driving, self.runs, self.isa, self.asked = None, None, 0, USUAL, asked
         if self.elf is None:
             return
         if self.elf.flags & IS_COMPRESSED:
             code = CodeOfHalves(self.elf)
-            self.isa = USUAL if self.obstacles else set_of(code)
-            self.obstacles.append(compressed(self.elf, self.option))
-            self.obstacles += returning(self.elf, code) if self.option else []
+            self.isa = USUAL if self.hopeless() else set_of(code)
+            self.obstacles.append(compressed(self.elf, self.isa_option))
+            self.obstacles += returning(self.elf, code) if self.isa_option else []
+            self.own = own_stack(self.elf, [])
         if not self.hopeless():
             self.look(heaps, kept)
 
+    def place(self, data):
+        """Puts heap and stack where no segment is. Returns whether there is such a place."""
+        self.own = own_stack(self.elf, [] if self.elf.flags & IS_COMPRESSED else stack_words(Code(self.elf), self.elf.entry))
+        found = fitting(self.elf, self.own)
+        if found is not None:
+            self.regions, self.elf = found, Elf(data, found)
+        return found is not None
+
+    @property
+    def isa_option(self):
+        """The option for the instruction set, None for the usual one."""
+        return None if self.isa == USUAL else f"--isa {self.isa}"
+
     @property
     def option(self):
-        """The option of the program without which the file doesn't run, or not to its end; None if there is none."""
-        return None if self.isa == USUAL else f"--isa {self.isa}"
+        """The options of the program without which the file doesn't run, or not to its end; None if there are none."""
+        return " ".join(filter(None, (self.isa_option, self.regions.told))) or None
 
     def hopeless(self):
         """Whether nothing that can be done to the file makes any of it run."""
@@ -69,8 +90,10 @@ class Findings:
         self.isa = max(needed, self.asked, key=ISAS.index)
         unknown = code.control if self.isa == USUAL else code.returns()
         self.control = [replaced(code, it) for it in unknown if self.elf.function_at(it.address) not in kept]
-        self.stack = [it for it in stack_words(code, self.elf.entry) if self.elf.function_at(it.address) not in kept]
-        self.obstacles += of_code(self.elf, code, self.option if needed != USUAL else None)
+        words = stack_words(code, self.elf.entry)
+        self.own = own_stack(self.elf, words)
+        self.stack = [it for it in words if self.elf.function_at(it.address) not in kept and not has_own(self.regions, self.own)]
+        self.obstacles += of_code(self.elf, code, self.isa_option if needed != USUAL else None)
         self.copied, unplaced = physical(self.elf)
         self.obstacles += [Obstacle(
             f"{it.filesz} bytes for 0x{it.vaddr:08x} that the linker script puts to 0x{it.paddr:08x}, where they can't "
@@ -104,7 +127,7 @@ class Findings:
 
     def loaded(self):
         """How many bytes are loaded, with those at physical addresses."""
-        return sum(it.memsz for it in self.elf.loads) + sum(it.filesz for it in self.copied)
+        return sum(end - start for start, end in self.elf.loaded) + sum(it.filesz for it in self.copied)
 
     def added(self):
         """What is added to the file."""
@@ -119,7 +142,20 @@ class Findings:
     def other_cure(self):
         """The option of the program that is enough in place of all cures, or None."""
         controls = [it for it in self.control if is_control(it.word)]
-        return f"--isa {SHORT}" if controls and len(controls) == self.cures() else None
+        if not controls or len(controls) != self.cures():
+            return None
+        return " ".join(filter(None, (f"--isa {SHORT}", self.regions.told)))
+
+
+def in_the_way(refusal, regions):
+    """The obstacle of a refusal, with the option that cures it if regions are given that do."""
+    what = f"{refusal.what} (image refused {refusal.number})"
+    if not refusal.region or regions is None:
+        return Obstacle(what, refusal.cure, True)
+    option = f"--{refusal.region}-region"
+    value = dict(regions.options).get(option)
+    cure = f"give the option {option} {value}, which puts the {refusal.region} there" if value else f"leave the option {option} out"
+    return Obstacle(what, cure, False, True)
 
 
 def set_of(code):
@@ -176,11 +212,11 @@ def physical(elf):
     if not any(it.paddr for it in elf.contents):
         return copied, unplaced
     taken = joined((it.vaddr, it.vaddr + it.memsz) for it in elf.loads)
-    total, count, last = sum(it.memsz for it in elf.loads), len(elf.segments), 0
+    total, count, last = sum(end - start for start, end in elf.loaded), len(elf.segments), 0
     for it in sorted(elf.contents, key=lambda it: it.paddr):
         if it.paddr == it.vaddr or has_bytes(elf, it):
             continue
-        why = unloadable(it, taken, last)
+        why = unloadable(it, taken, last, elf.regions)
         if total + it.filesz > ROOM:
             why = why or f"there would be more than {ROOM} bytes"
         if count + 1 >= 0xFFFF:
@@ -193,13 +229,13 @@ def physical(elf):
     return copied, unplaced
 
 
-def unloadable(segment, taken, last):
+def unloadable(segment, taken, last, regions):
     """Why a segment can't be loaded at its physical address beside what is loaded, where those before it end at last;
     or None."""
     start, end = segment.paddr, segment.paddr + segment.filesz
     if end > 1 << 32:
         return "addresses end at 0xffffffff"
-    region = next((name for name, low, high in REGIONS if start < high and low < end), None)
+    region = next((name for name, low, high in regions.ranges if start < high and low < end), None)
     if region:
         return f"it is the {region}'s region"
     meets = start < last or without([[start, end]], taken) != [[start, end]]

@@ -6,7 +6,7 @@ from replaycheck.stand_ins import ACCESSES
 
 from . import instructions as isa
 from .code import joined
-from .elf import REGIONS, word_at
+from .elf import word_at
 
 # What a device is called, by its first address and by how many it has.
 DEVICES = [(0x100000, 0x1000, "the test device of QEMU's virt"), (0x2000000, 0x10000, "a clock, the CLINT"),
@@ -23,7 +23,7 @@ Reached = collections.namedtuple("Reached", "first last name places")
 def memory_of(elf, copied):
     """Where a run has memory; the first page, to which a null pointer leads; and what follows a segment, where an empty
     table of the linker script may begin and end."""
-    regions = [(low, high) for _, low, high in REGIONS]
+    regions = [(low, high) for _, low, high in elf.regions.ranges]
     return joined([(0, PAGE), *regions, *((it.vaddr, it.vaddr + it.memsz + PAGE) for it in elf.loads),
                    *((it.paddr, it.paddr + it.filesz) for it in copied)])
 

@@ -2,6 +2,7 @@
 from replaycheck.programs import SHORT
 
 from . import instructions as isa
+from . import regions
 from .heaps import PARAMETERS
 
 HEAP = "functions of a heap by other names, whose blocks are unknown: free of one would be a false error"
@@ -89,6 +90,8 @@ def lines(findings, written, changes):
     changed."""
     if findings.plan:
         yield heap_line(findings.plan)
+    if regions.is_told(findings.regions, findings.own) and not (written and findings.stack):
+        yield regions.line(findings.own)
     if findings.cures():
         yield "cured:" if written else "can be cured, with -o OUT:"
         yield from cure_lines(findings)
@@ -125,7 +128,7 @@ def verdict(findings, name, out):
 
 def without_option(findings):
     """Without which option a file won't run, and how far with it."""
-    if not findings.option:
+    if not findings.option or any(it.stops_all and not it.by_option for it in findings.obstacles):
         return ""
     far = "" if all(it.by_option for it in findings.obstacles) else ", and with it as far as it meets nothing that needs a rebuild"
     return f" without {findings.option}{far}"

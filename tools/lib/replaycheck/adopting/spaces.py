@@ -4,7 +4,6 @@ import collections
 
 from . import instructions as isa
 from .code import joined, without
-from .elf import REGIONS
 from .outside import DEVICES, PAGE
 
 # How far a jump goes there and back, less what a stub has.
@@ -18,7 +17,7 @@ Group = collections.namedtuple("Group", "address sites")
 
 def taken(elf):
     """What isn't free: segments, the physical addresses of their bytes, regions, known devices and the first page."""
-    return [(0, PAGE), *((low, high) for _, low, high in REGIONS), *((first, first + size) for first, size, _ in DEVICES),
+    return [(0, PAGE), *((low, high) for _, low, high in elf.regions.ranges), *((first, first + size) for first, size, _ in DEVICES),
             *((it.vaddr, it.vaddr + it.memsz) for it in elf.loads), *((it.paddr, it.paddr + it.filesz) for it in elf.contents)]
 
 

@@ -11,7 +11,7 @@ from .devices import spans
 def reaching(path, given, elf, isa, known, can_be):
     """Loads and stores that reach a device in a run and aren't known yet. A register that is polled hides those that come
     after it, which another run finds once the first is answered."""
-    run, found = Run(path, given, None, isa), set()
+    run, found = Run(path, given, None, isa, elf.regions), set()
     for span in spans(elf):
         for kind in ("read", "write"):
             step = 0

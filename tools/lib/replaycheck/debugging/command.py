@@ -25,6 +25,7 @@ def options_of(page):
     reader.option("--input")
     reader.option("--supp")
     reader.isa_option()
+    reader.region_options()
     reader.option("--port", type=number(0, 65535))
     reader.option("--commands", is_flag=True)
     options = reader.read()
@@ -37,7 +38,7 @@ def debug(options):
     if options.commands:
         write(COMMANDS)
         return 0
-    run = Run(options.file, options.input, options.supp, options.isa)
+    run = Run(options.file, options.input, options.supp, options.isa, options.regions)
     run.registers()  # what keeps the program from its work is told before gdb is answered
     goer = Goer(run)
     alterer = Alterer(run)

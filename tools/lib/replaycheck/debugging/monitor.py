@@ -10,7 +10,7 @@ from replaycheck.endings import Fault, start
 from replaycheck.guest_files import TOP
 from replaycheck.looking import DEFINED, NO_ACCESS
 from replaycheck.options import LAST_STEP
-from replaycheck.origins.image import HEAP, LONGEST_FILE, STACK, STACK_TOP
+from replaycheck.origins.image import LONGEST_FILE
 from replaycheck.reports import SUMS
 from replaycheck.sessions import isa_words, path_of
 
@@ -51,7 +51,7 @@ class Monitor:
     def __init__(self, run, goer, alterer):
         self.run, self.goer, self.alterer = run, goer, alterer
         with open(run.files[0], "rb") as file:
-            self.loads = [(it.vaddr, it.vaddr + it.memsz) for it in Elf(file.read(LONGEST_FILE)).loads if it.memsz]
+            self.loads = Elf(file.read(LONGEST_FILE), run.regions).loaded
         self.by_word = {
             "help": self.help, "step": self.where, "goto": self.goto, "end": self.end, "report": self.report,
             "errors": self.report, "leak_check": self.report, "get_vbits": self.get_vbits,
@@ -113,7 +113,7 @@ class Monitor:
         file, given, supp = self.run.files
         asked = ["--input", path_of(given)] if given is not None else []
         asked += ["--supp", path_of(supp)] if supp is not None else []
-        asked += isa_words(self.run.isa)
+        asked += [*isa_words(self.run.isa), *self.run.regions.words]
         asked += [it for line in self.run.edits for it in ("--line", line)]
         asked += [f"--last={min(self.run.step + 1, LAST_STEP)}", f"--error={number(words[0]) if words else 1}"]
         child = start([str(TOP / "tools" / "bin" / "replaycheck-origin"), path_of(file), *asked], stdin=subprocess.DEVNULL,
@@ -163,7 +163,8 @@ class Monitor:
         ranges = [(begin + 3 & ~3, end) for begin, end in self.loads]
         ranges += self.blocks()
         sp = seen.values[2] & ~3
-        return ranges + ([(sp, min(STACK_TOP, sp + MOST))] if STACK <= sp < STACK_TOP else [])
+        begin, end = self.run.regions.stack
+        return ranges + ([(sp, min(end, sp + MOST))] if begin <= sp < end else [])
 
     def block_list(self, word, *words):
         taken(words, 0, 0, word)
@@ -174,7 +175,8 @@ class Monitor:
     def blocks(self):
         """Ranges of the heap whose bytes may be accessed, in order: as many bytes as the report counts."""
         wanted, found = sum(it.size for it in self.run.report(self.run.step).sums.values()), []
-        for address in range(HEAP, HEAP + HEAP_SEEN, PART):
+        heap = self.run.regions.heap
+        for address in range(heap, heap + HEAP_SEEN, PART):
             if wanted <= 0:
                 break
             for it in ACCESSIBLE.finditer(self.run.memory(address, PART).undefined):

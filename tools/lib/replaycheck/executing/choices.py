@@ -2,8 +2,9 @@
 import os
 
 from replaycheck.endings import Fault
-from replaycheck.options import BadValue, number
+from replaycheck.options import BadValue, heap_region, number, regions_of, stack_region
 from replaycheck.programs import ISAS
+from replaycheck.regions import USUAL_REGIONS
 from replaycheck.verdicts import LEAK_KINDS
 
 FAILED = 125
@@ -39,7 +40,7 @@ class Choices:
         self.quiet = self.verbose = self.require_heap = self.full_paths = self.asks_for_help = False
         self.demangle, self.strip_prefix, self.error_exitcode = True, None, 0
         self.suppressions, self.patches, self.unused = [], [], []
-        self.isa = ISAS[0]
+        self.isa, self.heap_region, self.stack_region, self.regions = ISAS[0], None, None, USUAL_REGIONS
         # Options of the program, by their names there.
         self.passed: dict[str, str] = {}
         self.file, self.arguments = "", []
@@ -125,6 +126,7 @@ def yes_or_no(text):
 
 WITH_VALUE = {
     "--isa": sets("isa", one_of(*ISAS)),
+    "--heap-region": sets("heap_region", heap_region), "--stack-region": sets("stack_region", stack_region),
     "--input": sets("input"), "--report": sets("report"), "--log-file": sets("log_file"), "--log-fd": sets("log_fd", number(0, 1023)),
     "--log-format": sets("log_format", one_of(*FORMATS)), "--demangle": sets("demangle", yes_or_no),
     "--strip-prefix": sets("strip_prefix"), "--error-exitcode": sets("error_exitcode", number(0, 255)),
@@ -230,6 +232,10 @@ def choices_of(words):
 
 def judge(choices):
     """Rejects options that contradict each other. A report in a file is a log in the form of a report."""
+    try:
+        choices.regions = regions_of(choices.heap_region, choices.stack_region)
+    except Fault as fault:
+        raise Usage(str(fault)) from None
     logs = [name for name, value in (("--report", choices.report), ("--log-file", choices.log_file), ("--log-fd", choices.log_fd))
             if value is not None]
     if len(logs) > 1:

@@ -55,7 +55,7 @@ def all_patches(choices):
 
 def words_for(choices, supp, report):
     """The arguments of the program."""
-    words = [program(), "exec", "--report", report, *isa_words(choices.isa)]
+    words = [program(), "exec", "--report", report, *isa_words(choices.isa), *choices.regions.words]
     for name, text in choices.passed.items():
         words += [f"--{name}", text]
     for name, path in (("--input", choices.input), ("--supp", supp)):
@@ -102,7 +102,7 @@ def heap_of(choices, report):
         return None
     from replaycheck.file_heaps import heap_of_run
     has_blocks = any(it.blocks for it in report.sums.values())
-    return heap_of_run(choices.file, choices.input, min(report.step, LAST_STEP), has_blocks, choices.isa)
+    return heap_of_run(choices.file, choices.input, min(report.step, LAST_STEP), has_blocks, choices.isa, choices.regions)
 
 
 def certificate(choices, report):
@@ -112,7 +112,7 @@ def certificate(choices, report):
     lines = [f"option {name} {choices.passed[name]}" for name in ("redzone", "queue") if name in choices.passed]
     lines += ["patch {} {}".format(*patch.split("=")) for patch in all_patches(choices)]
     lines += [f"goto {min(report.step, LAST_STEP)}", "look certify"]
-    given = isa_words(choices.isa) + (["--input", path_of(choices.input)] if choices.input is not None else [])
+    given = isa_words(choices.isa) + choices.regions.words + (["--input", path_of(choices.input)] if choices.input is not None else [])
     _, told, _ = outcome([program(), "look", *given, path_of(choices.file)], "".join(f"{it}\n" for it in lines).encode())
     return "certify: " + told.decode("utf-8", "surrogateescape").rstrip("\n").rpartition("\n")[2]
 

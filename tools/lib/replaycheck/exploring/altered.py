@@ -51,7 +51,8 @@ class Instructions:
         if before is not None:
             before.end()
         self.asked = 0
-        return Session(*(it.path or None for it in self.request.files), command="look", isa=self.request.isa)
+        return Session(*(it.path or None for it in self.request.files), command="look", isa=self.request.isa,
+                       regions=self.request.regions)
 
     def look(self, session: Session, skipped: Optional[int], steps: List[int]) -> None:
         """Looks at steps, by lines that go together into a pipe. Of a program that doesn't have skips nothing is learnt."""

@@ -11,7 +11,7 @@ from replaycheck.sessions import program
 
 from . import goals, remote, scripts
 from .altered import Instructions
-from .heads import MOST_PARTS, told_isa
+from .heads import MOST_PARTS, told_isa, told_regions
 from .keeping import Kept, Room
 from .lines import shown_name
 from .merging import Merged, in_order, sources_in, spooled
@@ -32,6 +32,7 @@ def options_of(page):
     for name in ("--input", "--supp", "--code", "--keep", "--goal", "--table", "--svg", "--sshlogin"):
         reader.option(name)
     reader.option("--isa", choices=ISAS)
+    reader.region_options()
     reader.option("--step", type=number(0, LAST_STEP))
     reader.option("--bytes", type=range_of)
     reader.option("--words", type=words_of)
@@ -62,7 +63,8 @@ def check(reader, options):
               if getattr(options, it[2:].replace("-", "_")) not in (None, False)]
     faults = [(options.file is None and not options.tables, "no FILE, and no --from"),
               (options.file is None and (options.input or options.supp), "--input and --supp go with a FILE"),
-              (options.file is None and options.isa is not None, "--isa goes with a FILE"),
+              *((options.file is None and getattr(options, name) is not None, f"--{name.replace('_', '-')} goes with a FILE")
+                for name in ("isa", "heap_region", "stack_region")),
               (options.tables and making, f"--from takes tables that are there: {' '.join(making)} makes them"),
               (options.at is None and options.code is not None and options.words is not None, "--code and --words at once"),
               (options.code is not None and options.code_range is not None, "--code and --code-range at once"),
@@ -169,12 +171,12 @@ def anonymous(head):
     """What a sweep is called of which the files aren't there."""
     (size, digest), (length, other), _ = head.files
     given = f" with {length} bytes ({other[:12]}..)" if length else ""
-    return f"a program of {size} bytes ({digest[:12]}..){given}{told_isa(head.isa)}"
+    return f"a program of {size} bytes ({digest[:12]}..){given}{told_isa(head.isa)}{told_regions(head.regions)}"
 
 
 def check_heap(options, request):
     """Says where errors of the heap can't be found in the runs of a sweep."""
-    heap = heap_of_run(request.program.path, request.input.path or None, request.step, isa=request.isa)
+    heap = heap_of_run(request.program.path, request.input.path or None, request.step, isa=request.isa, regions=request.regions)
     if heap and heap.is_unseen:
         notice = heap.notice(shown_name(request.program.name))
         if options.require_heap:

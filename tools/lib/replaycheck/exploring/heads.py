@@ -7,6 +7,7 @@ from typing import Callable, List, Optional, Tuple, Union
 
 from replaycheck.options import LAST_STEP
 from replaycheck.programs import ISAS, unit_of
+from replaycheck.regions import USUAL_REGIONS, Regions, is_heap, is_stack
 
 from .lines import NUMBER, BadTable, shown
 from .ranges import Code, Range
@@ -24,8 +25,10 @@ PART = re.compile(rb"part (%b)/(%b)" % (NUMBER, NUMBER))
 OLD = re.compile(rb"#\t(input|patch)\t")
 SMALL = {"program": 1 << 27, "input": LONGEST_INPUT, "supp": LONGEST_INPUT}
 ISA = re.compile(rb"isa ([a-z0-9]{1,20})")
+HEAP = re.compile(rb"heap-region (%b)" % WORD)
+STACK = re.compile(rb"stack-region (%b)\.\.(%b)" % (WORD, WORD))
 # The versions of tables, each with what its head has: a table has the least version that can say what it is of.
-VERSIONS = {b"sweep 1": "bytes or words", b"sweep 2": "steps too, or an instruction set"}
+VERSIONS = {b"sweep 1": "bytes or words", b"sweep 2": "steps too, an instruction set or regions"}
 
 
 @dataclass(frozen=True)
@@ -34,6 +37,7 @@ class Head:
 
     lines: Tuple[bytes, ...]
     isa: str
+    regions: Regions
     files: Tuple[Tuple[int, str], ...]
     ranges: Tuple[Union[Range, Steps], ...]
     step: int
@@ -76,12 +80,22 @@ class Head:
 
     def same(self):
         """What must be equal in the parts of one sweep."""
-        return self.isa, self.files, self.ranges, self.step, self.has_output
+        return self.isa, self.regions, self.files, self.ranges, self.step, self.has_output
 
 
 def told_isa(isa):
     """What follows the name of a program in a text: its instruction set, where that isn't the usual one."""
     return "" if isa == ISAS[0] else f" for {isa}"
+
+
+def told_regions(regions):
+    """The same of its regions of heap and stack."""
+    return f" with {regions.told}" if regions.told else ""
+
+
+def told_places(regions):
+    """Regions as a fault has them."""
+    return regions.told or "the usual regions of heap and stack"
 
 
 def cut(places, index, count):
@@ -146,11 +160,31 @@ def read_isa(lines, version):
     return name
 
 
-def read_steps(lines, version, limit, isa):
+def read_regions(lines, version):
+    """The regions of heap and stack, on each of which a table has a line where it isn't the usual one. It is of version 2 then."""
+    heap, stack = USUAL_REGIONS.heap, USUAL_REGIONS.stack
+    if lines.next.startswith(b"heap-region "):
+        must_be_second(lines, version)
+        heap = int(lines.must(HEAP, "`heap-region BEGIN`")[1], 16)
+        if not is_heap(heap) or heap == USUAL_REGIONS.heap:
+            lines.fault("no region that has a line")
+    if lines.next.startswith(b"stack-region "):
+        must_be_second(lines, version)
+        found = lines.must(STACK, "`stack-region A..B`")
+        stack = int(found[1], 16), int(found[2], 16)
+        if not is_stack(*stack) or stack == USUAL_REGIONS.stack:
+            lines.fault("no region that has a line")
+    regions = Regions(heap, stack)
+    if regions.meet():
+        lines.fault("regions that overlap")
+    return regions
+
+
+def read_steps(lines, version, limit, isa, regions):
     """The steps at which the machine is altered, or None where the next line has none. A table of version 1 has none. One of version 2
-    does, unless it names an instruction set."""
+    does, unless it names an instruction set or regions."""
     has_steps = lines.next.startswith(b"steps ")
-    if version == b"sweep 2" and not has_steps and isa == ISAS[0]:
+    if version == b"sweep 2" and not has_steps and isa == ISAS[0] and regions == USUAL_REGIONS:
         lines.other("`steps A..B MODELS`, as in each table of `sweep 2`,")
     if not has_steps:
         return None
@@ -186,11 +220,12 @@ def read_head(lines):
     taken = lines.taken = []
     version = read_version(lines)
     isa = read_isa(lines, version)
+    regions = read_regions(lines, version)
     files = tuple(read_files(lines))
     ranges: List[Union[Range, Steps, None]] = [read_range(lines, "bytes", BYTES, LONGEST_INPUT - 1, 255),
                                                read_range(lines, "words", WORDS, 0xFFFFFFFF, 0xFFFFFFFF,
                                                           form_of_words(isa)),
-                                               read_steps(lines, version, LAST_STEP, isa)]
+                                               read_steps(lines, version, LAST_STEP, isa, regions)]
     step = at_most(lines, lines.must(STEP, "`step N`")[1], LAST_STEP, "a step")
     has_output = lines.must(OUTPUT, "`output yes` or `output no`")[1] == b"yes"
     before = tuple(taken)
@@ -203,4 +238,4 @@ def read_head(lines):
     if ranges[2] and ranges[2].last >= step:
         lines.fault(f"steps up to {ranges[2].last}, and runs that are compared at step {step}")
     lines.taken = None
-    return Head(before, isa, files, tuple(it for it in ranges if it), step, has_output, (index, count))
+    return Head(before, isa, regions, files, tuple(it for it in ranges if it), step, has_output, (index, count))

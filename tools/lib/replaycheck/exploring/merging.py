@@ -4,7 +4,7 @@ import re
 from dataclasses import dataclass
 from typing import Callable, Dict, List, Optional, Tuple
 
-from .heads import Head, read_head
+from .heads import Head, read_head, told_places
 from .lines import BadTable, Lines, shown_name
 from .ranges import Range
 from .tables import Table
@@ -146,6 +146,8 @@ def difference(one, other):
     """What is not the same in two heads."""
     if one.isa != other.isa:
         return f"--isa {one.isa}, not {other.isa}"
+    if one.regions != other.regions:
+        return f"{told_places(one.regions)}, not {told_places(other.regions)}"
     for name, left, right in zip(("program", "input", "supp"), one.files, other.files):
         if left != right:
             return (f"another {name}, {left[0]} bytes with the digest {left[1][:16]}.., not {right[0]} with "

@@ -154,12 +154,14 @@ def loaded(elf: Elf) -> Iterator[Tuple[int, bytearray]]:
     """What a file loads, in order: where memory begins whose bytes come one after another, and its bytes."""
     begin, content = 0, bytearray()
     for it in sorted((it for it in elf.loads if it.memsz), key=lambda it: it.vaddr):
-        if content and it.vaddr != begin + len(content):
-            yield begin, content
-            content = bytearray()
-        if not content:
-            begin = it.vaddr
-        content += elf.data[it.offset:it.offset + it.filesz].ljust(it.memsz, b"\0")
+        in_file = elf.data[it.offset:it.offset + it.filesz]
+        for low, high in elf.regions.loaded(it):
+            if content and low != begin + len(content):
+                yield begin, content
+                content = bytearray()
+            if not content:
+                begin = low
+            content += in_file[low - it.vaddr:].ljust(high - low, b"\0")
     if content:
         yield begin, content
 

@@ -12,7 +12,7 @@ from replaycheck.options import BadValue
 from replaycheck.programs import USUAL, isa_words, unit_of
 from replaycheck.sessions import path_of
 
-from .heads import form_of_words, told_isa
+from .heads import form_of_words, told_isa, told_places, told_regions
 from .lines import shown_name
 from .ranges import Code, Loaded, Range
 from .steps import Steps, models_fault
@@ -112,11 +112,12 @@ class Request:
         self.files = [given(what, name, room) for what, name in
                       (("program", options.file), ("input", options.input), ("supp", options.supp))]
         self.program, self.input, self.supp = self.files
-        self.isa = options.isa or USUAL
+        self.isa, self.regions = options.isa or USUAL, options.regions
         self.code = options.code
         self.unit = unit_of(self.isa)
         self.instructions = {}
-        self.elf = None if refusals(self.program.content) else Elf(self.program.content)
+        is_refused = bool(refusals(self.program.content, self.regions))
+        self.elf = None if is_refused else Elf(self.program.content, self.regions)
         self.ranges, self.notes = [], []
         code = self.code_range(options.code) if options.code is not None else options.code_range
         words = code if options.at is None and options.code is not None else options.words
@@ -135,7 +136,7 @@ class Request:
             self.check_input()
         elif self.step is not None and not is_open:
             return
-        with Unedited(self.program.path, self.input.path or None, self.supp.path or None, self.isa) as run:
+        with Unedited(self.program.path, self.input.path or None, self.supp.path or None, self.isa, self.regions) as run:
             if self.step is None:
                 self.step, self.step_note = default_step(run.end())
             if is_open:
@@ -234,7 +235,7 @@ class Request:
         found = []
         for at in range(address, address + 4):
             place = self.elf.place(at, 1)
-            is_loaded = any(it.vaddr <= at < it.vaddr + it.memsz for it in self.elf.loads)
+            is_loaded = any(begin <= at < end for begin, end in self.elf.loaded)
             if place is None and not is_loaded:
                 return None
             found.append(0 if place is None else self.elf.data[place])
@@ -254,10 +255,12 @@ class Request:
         return count
 
     def check_files(self, source):
-        """Refuses a table that isn't of these files, or that is of another instruction set. Gives its head the instructions of the
-        program."""
+        """Refuses a table that isn't of these files, or that is of another instruction set or other regions. Gives its head the
+        instructions of the program."""
         if source.head.isa != self.isa:
             raise Fault(f"{source}: it is of --isa {source.head.isa}, not of {self.isa}")
+        if source.head.regions != self.regions:
+            raise Fault(f"{source}: it is of {told_places(source.head.regions)}, not of {told_places(self.regions)}")
         for given_file, was, now in zip(self.files, (it.digest for it in self.files), source.head.files):
             if was != now:
                 named = shown_name(given_file.name) or "a file that wasn't given"
@@ -292,7 +295,8 @@ class Request:
 
     def words(self):
         """The command line of a part, without its number."""
-        words = ["sweep", *isa_words(self.isa), f"--step={self.step}", *(word for it in self.ranges for word in it.words())]
+        words = ["sweep", *isa_words(self.isa), *self.regions.words, f"--step={self.step}"]
+        words += [word for it in self.ranges for word in it.words()]
         words += [f"--input={self.input.path}"] if self.input.path else []
         words += [f"--supp={self.supp.path}"] if self.supp.path else []
         return [*words, *(["--with-output"] if self.has_output else []), path_of(self.program.path)]
@@ -300,4 +304,4 @@ class Request:
     def title(self):
         words = [os.path.basename(it.name) or it.name for it in self.files[:2] if it.name]
         code = f", {shown_name(self.code)}" if self.code else ""
-        return shown_name(" with ".join(words)) + told_isa(self.isa) + code
+        return shown_name(" with ".join(words)) + told_isa(self.isa) + told_regions(self.regions) + code

@@ -35,7 +35,7 @@ def slurm(options, request):
     files += [f"--supp={options.supp}"] if options.supp is not None else []
     words = request.words()
     own = [it for it in words[:-1] if not it.startswith(("--input=", "--supp="))]
-    told = ["replaycheck", "explore", options.file, *files, *isa_words(request.isa)]
+    told = ["replaycheck", "explore", options.file, *files, *isa_words(request.isa), *request.regions.words]
     note = f"# {request.step_note}\n" if request.step_note else ""
     return SLURM.format(parts=count, folder=shlex.quote(folder), words=shlex.join([*own, *files, words[-1]]), note=note,
                         told=f"{shlex.join(told)} --from {shlex.quote(folder)}/part-*-of-{count}")

@@ -13,8 +13,8 @@ class Unedited:
 
     `Ended`, if the program rejects a file."""
 
-    def __init__(self, program, given, supp, isa):
-        self.run = Run(program, given, supp, isa)
+    def __init__(self, program, given, supp, isa, regions):
+        self.run = Run(program, given, supp, isa, regions)
 
     def __enter__(self):
         return self

@@ -26,14 +26,14 @@ def options_of(page):
 
 
 def origin(options):
-    trials = Trials(options.file, options.input, options.supp, options.line, options.isa)
+    trials = Trials(options.file, options.input, options.supp, options.line, options.isa, options.regions)
     try:
         errors = errors_of(trials.report(options.last))
         if len(errors) < options.error:
             of = f"{len(errors)} errors depend" if len(errors) != 1 else "1 error depends"
             write(f"no such error: at step {options.last} {of} on undefined bits\n")
             return 1
-        image = Image(options.file, options.line, options.isa)
+        image = Image(options.file, options.line, options.isa, options.regions)
         search = Search(trials, image, errors[options.error - 1], options.last)
         return told(search, Teller(search, options.file, write), options)
     finally:

@@ -7,10 +7,10 @@ from replaycheck.adopting.instructions import (ATOMIC, AUIPC, EBREAK, ECALL, IMM
                                                opcode, rd)
 from replaycheck.endings import Fault
 from replaycheck.programs import USUAL
+from replaycheck.regions import USUAL_REGIONS
 
 LONGEST_FILE = 1 << 26
 MOST_MARKED = 1 << 20  # so many bytes one mark may have
-HEAP, STACK_TOP, STACK = 0x40000000, 0x80000000, 0x7F000000
 HEAP_FUNCTIONS = ("malloc", "free", "calloc", "realloc")
 KINDS = {STORE: "store", LOAD: "load", ATOMIC: "atomic"}
 PATCH = re.compile(r"patch(16)? (\S+) (\S+)")
@@ -18,15 +18,15 @@ MARK = re.compile(r"mark (\S+) (\S+) (\S+) undefined")
 
 
 class Image:
-    """A program's file, with the words that lines of the session patch, for an instruction set."""
+    """A program's file, with the words that lines of the session patch, for an instruction set and regions of heap and stack."""
 
-    def __init__(self, path, lines, isa=USUAL):
+    def __init__(self, path, lines, isa=USUAL, regions=USUAL_REGIONS):
         self.has_halves = isa != USUAL
         with open(path, "rb") as file:
             data = file.read(LONGEST_FILE + 1)
-        if any(not it.readable for it in refusals(data)):
+        if any(not it.readable for it in refusals(data, regions)):
             raise Fault(f"{path}: it has changed since the program read it")
-        self.elf = Elf(data)
+        self.elf = Elf(data, regions)
         self.heap = {it.value: self.elf.name(it) for it in reversed(self.elf.symbols)
                      if it.info & 15 == FUNCTION and self.elf.name(it) in HEAP_FUNCTIONS}
         self.patched = halves_of(filter(None, map(PATCH.fullmatch, lines)))
@@ -73,9 +73,9 @@ class Image:
     def memory(self, reach):
         """The ranges of memory that can be undefined: so much of the heap and the stack, all that is loaded, and what
         lines have marked."""
-        ranges = [(it.vaddr, it.vaddr + it.memsz) for it in self.elf.loads if it.memsz]
-        ranges += [(low, high) for _, low, high, _ in self.marked]
-        ranges += [(HEAP, HEAP + reach), (STACK_TOP - min(reach, STACK_TOP - STACK), STACK_TOP)]
+        heap, (begin, end) = self.elf.regions.heap, self.elf.regions.stack
+        ranges = [*self.elf.loaded, *((low, high) for _, low, high, _ in self.marked)]
+        ranges += [(heap, heap + reach), (end - min(reach, end - begin), end)]
         return [(low, min(low + MOST_MARKED, end)) for begin, end in joined(ranges)
                 for low in range(begin, end, MOST_MARKED)]
 

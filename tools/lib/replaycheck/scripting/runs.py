@@ -5,15 +5,17 @@ import contextlib
 import operator
 import os
 import warnings
-from typing import Iterator, List, Optional, Union
+from typing import Iterator, List, Optional, Tuple, Union
 
 from replaycheck.looking import ALL, MOST_SEEN, TOP
 from replaycheck.options import LAST_STEP
 from replaycheck.programs import ISAS
+from replaycheck.regions import USUAL_REGIONS
 from replaycheck.reports import Address, Lines, NoReport, Report, read_report
 from replaycheck.scripting.errors import Error, Usage
 from replaycheck.scripting.files import Source
 from replaycheck.scripting.inputs import Input
+from replaycheck.scripting.regions import regions_for
 from replaycheck.scripting.scenarios import EDITS, Scenario
 from replaycheck.scripting.steps import Certificate, Memory, Place, Registers, Step
 from replaycheck.scripting.talks import Talk
@@ -42,9 +44,10 @@ def number(name: str, value: int, least: int = 0, greatest: int = TOP - 1) -> in
 
 class Run:
     """A run of a program on an input. `program`, `input` and `suppressions` are paths, or bytes that take the place of a file; each is read
-    once, when the run is opened. `isa` is the instruction set that the program is read for. Edits change the run, and reports and looks
-    show it with all of them. It is a context manager; `close` ends it otherwise. A run belongs to one thread at a time, and to the process
-    that opened it; different runs don't share anything.
+    once, when the run is opened. `isa` is the instruction set that the program is read for. `heap_region` is where the heap's region
+    begins, and `stack_region` where the stack's begins and ends. Edits change the run, and reports and looks show it with all of them. It
+    is a context manager; `close` ends it otherwise. A run belongs to one thread at a time, and to the process that opened it; different
+    runs don't share anything.
 
     # Errors
 
@@ -53,8 +56,9 @@ class Run:
     _talk: Optional[Talk] = None
 
     def __init__(self, program: Source, input: Optional[Source] = None,  # noqa: A002
-                 suppressions: Optional[Source] = None, *, isa: str = ISAS[0]) -> None:
-        self._talk = Talk(program, input, suppressions, isa)
+                 suppressions: Optional[Source] = None, *, isa: str = ISAS[0],
+                 heap_region: int = USUAL_REGIONS.heap, stack_region: Tuple[int, int] = USUAL_REGIONS.stack) -> None:
+        self._talk = Talk(program, input, suppressions, isa, regions_for(isa, heap_region, stack_region))
         self._name = self._talk.names["image"]
 
     def __repr__(self) -> str:

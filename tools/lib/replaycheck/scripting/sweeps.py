@@ -13,8 +13,10 @@ from replaycheck.exploring.tables import Table
 from replaycheck.options import USUAL_STEP
 from replaycheck.programs import ISAS, built_program, isa_words, unit_of
 from replaycheck.refusals import Ended
+from replaycheck.regions import USUAL_REGIONS, Regions
 from replaycheck.scripting.errors import Error, Usage, of_end
 from replaycheck.scripting.files import Room, Source, name_of, read
+from replaycheck.scripting.regions import regions_for
 from replaycheck.scripting.symbols import Symbols
 
 # Places: a text `A..B` or `A`, a number, or a range. Values: one of the words that `replaycheck sweep` knows, or numbers.
@@ -44,30 +46,31 @@ def sweep(program: Source, input: Optional[Source] = None, suppressions: Optiona
           bytes: Optional[Places] = None, values: Optional[Values] = None, words: Optional[Places] = None,  # noqa: A002
           words_values: Optional[Values] = None, function: Optional[str] = None, at: Optional[Places] = None,
           faults: Optional[Names] = None, code: Optional[Places] = None, pairs: bool = False, step: int = USUAL_STEP,
-          with_output: bool = False, isa: str = ISAS[0]) -> Iterator[Tuple[str, Outcome]]:
+          with_output: bool = False, isa: str = ISAS[0], heap_region: int = USUAL_REGIONS.heap,
+          stack_region: Tuple[int, int] = USUAL_REGIONS.stack) -> Iterator[Tuple[str, Outcome]]:
     """Yields each edit of a sweep as a line of a session, with its outcome at a step. `bytes` of the input get `values`, and `words` of the
     program, or those of a `function`, get `words_values`; without all of these each byte of the input gets each other value. `at` are
     steps before which the machine is altered, by each of the models `faults`: only at addresses of `code`, or at those of a `function`;
-    with `pairs`, two instructions are left out as well. An edit of two lines has `; ` between them. `isa` is the instruction set.
+    with `pairs`, two instructions are left out as well. An edit of two lines has `; ` between them. `isa`, `heap_region`
+    and `stack_region` are as of a `Run`.
 
     # Errors
 
     As those of a `Run`, when the first edit is asked for."""
-    if isa not in ISAS:
-        raise Usage(f"isa: {isa!r}: none of {', '.join(ISAS)}")
+    regions = regions_for(isa, heap_region, stack_region)
     sources = {"image": program, "input": input, "suppressions": suppressions}
     there = {what: source for what, source in sources.items() if source is not None}
     data = {what: read(what, source) for what, source in there.items()}
     names = {what: name_of(what, source) for what, source in there.items()}
     if function is not None and at is None:
-        words = words_of(data["image"], function, names["image"], isa)
+        words = words_of(data["image"], function, names["image"], isa, regions)
     elif function is not None:
-        code = words_of(data["image"], function, names["image"], isa)
+        code = words_of(data["image"], function, names["image"], isa, regions)
     given = {"bytes": places_of(bytes), "values": values_of(values), "words": places_of(words), "words-values": values_of(words_values),
              "at": places_of(at), "faults": faults if faults is None or isinstance(faults, str) else ",".join(faults),
              "code-range": places_of(code), "pairs": "skip" if pairs else None}
     options = [f"--{name}={text}" for name, text in given.items() if text is not None]
-    options += [*isa_words(isa), f"--step={step}", *(["--with-output"] if with_output else [])]
+    options += [*isa_words(isa), *regions.words, f"--step={step}", *(["--with-output"] if with_output else [])]
     names |= {"bytes": f"bytes {given['bytes']}", "words": f"words {given['words']}"}
     yield from rows_of(data, options, names)
 
@@ -85,9 +88,9 @@ def values_of(values: Optional[Values]) -> Optional[str]:
     return values if values is None or isinstance(values, str) else ",".join(map(str, values))
 
 
-def words_of(data: bytes, name: str, file: str, isa: str) -> Optional[str]:
+def words_of(data: bytes, name: str, file: str, isa: str, regions: Regions) -> Optional[str]:
     """Returns the words of a function as an option has them; none of a file that the program rejects, which says why."""
-    if refusals(data):
+    if refusals(data, regions):
         return None
     symbols = Symbols(data, file)
     at = symbols.address(name)

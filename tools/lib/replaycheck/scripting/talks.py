@@ -7,7 +7,8 @@ from typing import Callable
 
 from replaycheck import looking, refusals
 from replaycheck.endings import Fault
-from replaycheck.programs import ISAS, built_program
+from replaycheck.programs import built_program
+from replaycheck.regions import Regions
 from replaycheck.scripting import errors
 from replaycheck.scripting.files import Room, Source, name_of, read
 from replaycheck.scripting.scenarios import Scenario
@@ -22,9 +23,7 @@ class Talk(looking.Run):
     """The lines of `replaycheck look` on the files of a run. `scenario` is the edited run; the session follows it when something is asked.
     A session whose state isn't known, as what was asked it was interrupted, isn't asked anything more."""
 
-    def __init__(self, program: Source, given: Source | None, supp: Source | None, isa: str) -> None:
-        if isa not in ISAS:
-            raise errors.Usage(f"isa: {isa!r}: none of {', '.join(ISAS)}")
+    def __init__(self, program: Source, given: Source | None, supp: Source | None, isa: str, regions: Regions) -> None:
         sources = {"image": program, "input": b"" if given is None else given, "suppressions": supp}
         there = {what: source for what, source in sources.items() if source is not None}
         data = {what: read(what, source) for what, source in there.items()}
@@ -36,7 +35,7 @@ class Talk(looking.Run):
         try:
             for what in data:
                 self.rooms[what] = Room(what, data[what])
-            super().__init__(*(self.rooms[what].path if what in self.rooms else None for what in sources), isa)
+            super().__init__(*(self.rooms[what].path if what in self.rooms else None for what in sources), isa, regions)
         except OSError as fault:
             self.close()
             raise self.told(fault) from None
@@ -84,7 +83,8 @@ class Talk(looking.Run):
         self.is_sure = False
         try:
             lent = [it.number for it in self.rooms.values()]
-            self.session = Session(*self.files, keeps_status=True, lends=lent, command="look", path=built_program(), isa=self.isa)
+            self.session = Session(*self.files, keeps_status=True, lends=lent, command="look", path=built_program(), isa=self.isa,
+                                   regions=self.regions)
             self.session.accept_all(lines)
         except (Fault, OSError) as fault:
             self.drop()
