@@ -12,7 +12,8 @@ const ADVICE = {
   21: FOR_THE_PROCESSOR, 22: FOR_THE_PROCESSOR, 25: FOR_THE_PROCESSOR,
   24: 'Link it to fixed addresses: -static -no-pie.',
   27: 'Link it without a dynamic linker: -static.',
-  29: 'Give the linker script other addresses: 0x40000000 to 0x5fffffff and 0x7f000000 to 0x7fffffff must stay free.',
+  29: 'Give the linker script other addresses: 0x40000000 to 0x5fffffff and 0x7f000000 to 0x7fffffff must stay free. The options '
+    + '--heap-region and --stack-region of a command put heap and stack elsewhere.',
   30: 'Reserve a smaller heap and stack in the linker script, which is often what is so large.',
 };
 const DAMAGED = 'The file is damaged, or a tool has rewritten it: link it anew.';

@@ -3,7 +3,7 @@
 #
 # Builds the programs of this folder and of the one above, each beside its source, and some for rv32imc and rv32imac into the folders of
 # these names; or all of them into FOLDER, there perhaps for other instructions than rv32im, such as rv32imac. ring.elf needs atomic ones,
-# and tasks.elf control registers, which come with those of 16 bits.
+# and tasks.elf and meter.elf control registers, which come with those of 16 bits.
 # One version of the tools makes the same bytes each time, wherever the folders lie; the section .comment says which compiler it was.
 #
 # The files that are checked in hold code of this repository alone. average.elf, labels.elf and library.elf have picolibc in them,
@@ -16,7 +16,7 @@ esac
 march=${2:-rv32im}
 into=${1:+$(mkdir -p "$1" && cd "$1" && pwd)}
 cd "$(dirname "$(readlink -f "$0")")"
-declare -A also=([rv32imc]='boot boot-twice differences kinds station' [rv32imac]='ring tasks') # what these folders have
+declare -A also=([rv32imc]='boot boot-twice differences kinds station' [rv32imac]='ring tasks meter') # what these folders have
 gcc=riscv64-unknown-elf-gcc
 command -v $gcc >/dev/null || { echo "build.sh: no $gcc" >&2; exit 2; }
 
@@ -36,7 +36,7 @@ $gcc "${flags[@]}" -DTWICE -c boot.c -o "$objects/boot-twice.o"
 for name in names heap; do
   $gcc "${flags[@]}" -c board/$name.c -o "$objects/board-$name.o"
 done
-for source in board/start.S vendor/start.S vendor/tasks.c; do
+for source in board/start.S vendor/start.S vendor/tasks.c chip/start.S chip/meter.c; do
   name=${source//\//-}
   $gcc "${flags[@]}" "-march=${march}_zicsr_zifencei" -c "$source" -o "$objects/${name%.*}.o"
 done
@@ -68,6 +68,7 @@ firmware boot -nostdlib boot.o
 firmware boot-twice -nostdlib boot-twice.o
 [[ $march != rv32ima* ]] || firmware ring -nostdlib ring.o memory.o heap_by_name.o
 [[ $march != rv32im*c ]] || by_vendor tasks -nostdlib vendor-tasks.o memory.o heap_by_name.o
+[[ $march != rv32im*c ]] || linked "${into:-.}/meter.elf" chip/chip.ld -nostdlib chip-start.o chip-meter.o system.o
 linked "${into:-.}/board.elf" board/board.ld -nostdlib board-{start,names,heap}.o system.o memory.o
 firmware average average.o console.o -DPICOLIBC_INTEGER_PRINTF_SCANF
 firmware library library.o console.o heap_by_name.o -lm
