@@ -16,7 +16,7 @@ def chip(text=START, memory=0x20000, symbols=(), flags=0):
                  [function("_start", FLASH, 4 * len(assemble(text))), *symbols], FLASH, flags)
 
 
-# A label, a file, options, the status, what is told, and what isn't.
+# A label, a file, options, the status, what is printed, and what isn't.
 TOLD = [
     ("a heap's region", chip(), [], 1,
      ["needs an option, or a rebuild:\n", "in the heap's region", BY_HEAP, OWN, "which sets sp, becomes nop",

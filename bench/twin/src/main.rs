@@ -1,8 +1,8 @@
 //! A plain interpreter of RV32IM, by `--isa` also of RV32IMC and RV32IMAC, with accessible and undefined bits: what a step costs where
 //! nothing is proved. It runs the loop that `bench/run` gives the program too, and prints where it leads; or a program of words from a
 //! file, and prints where it is after them, or answers looks at its run, or tells whether noise changes it. Of an ELF file it answers the
-//! lines of a session that looks, or writes the table of a sweep of alterations at steps. `--heap-region` and `--stack-region` say where heap
-//! and stack are.
+//! lines of a session that looks, or writes the table of a sweep of alterations at steps. `--heap-region` and `--stack-region` say where
+//! heap and stack are.
 
 mod atomics;
 mod calls;
@@ -193,7 +193,7 @@ fn make(machine: &mut Machine, steps: u64) -> u64 {
     made
 }
 
-/// Makes so many steps of a program, and prints the state, and each error: its instruction, how often it came, its first address or `-`, and
+/// Runs a program for a number of steps, and prints the state, and each error: its instruction, its count, its first address or `-`, and
 /// its text.
 fn tell(isa: Isa, steps: u64, image: &Image, input: Vec<u8>) {
     let mut machine = Machine::of(isa, image, &BTreeMap::new(), input.into());
@@ -241,7 +241,7 @@ fn compare_with_noise(isa: Isa, steps: u64, image: &Image) {
     }
 }
 
-/// The program whose words are the bytes of a file, in so many bytes of memory.
+/// The program whose words are the bytes of a file, in a number of bytes of memory.
 fn words_of(setup: &Setup, memory: u32, bytes: &[u8]) -> Option<Image> {
     let words: Vec<u32> = bytes.as_chunks().0.iter().map(|word| u32::from_le_bytes(*word)).collect();
     Image::of_words(PROGRAM_START, &words, memory, setup.regions.clone())

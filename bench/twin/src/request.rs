@@ -101,7 +101,7 @@ fn models(text: &str) -> Option<Vec<Model>> {
 }
 
 impl Request {
-    /// Reads the words of a command line after `sweep`, without what says the instruction set and the regions, and the files that they name.
+    /// Reads the words of a command line after `sweep`, without those of instruction set and regions, and the files that they name.
     ///
     /// # Errors
     ///

@@ -1,4 +1,4 @@
-# A chip's own start: its boot ROM has loaded flash and RAM, as the file says. This sets the stack pointer to the end of RAM and clears .bss.
+# A chip's start: its boot ROM has loaded flash and RAM, as the file says. This sets the stack pointer to the end of RAM and clears .bss.
 
         .section .text.start, "ax", @progbits
         .globl  _start

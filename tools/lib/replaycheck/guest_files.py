@@ -9,7 +9,7 @@ ENTRY = 0x10000
 
 
 def elf(words, memory=0, symbols=(), data=b"", entry=None, base=ENTRY):
-    """A static program for RV32: a segment of these words at a base and the data after them, of so many bytes where that
+    """A static program for RV32: a segment of these words at a base and the data after them, of a number of bytes where that
     is more, functions, each a name, an address and a size, and its entry, which is the base if none is given."""
     content = b"".join(struct.pack("<I", word) for word in words) + data
     names = sorted({symbol[0] for symbol in symbols})

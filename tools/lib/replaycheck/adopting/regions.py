@@ -105,7 +105,7 @@ def fitting(elf, own):
 
 
 def line(own):
-    """What is told of the start file's stack."""
+    """The line on the start file's stack."""
     named = f" ({own.name})" if own.name else ""
     return (f"stack: the start file's own, below 0x{own.top:08x}{named}: uninitialised values on it are found with "
             f"--stack-region {stack_text(own.region)}")
