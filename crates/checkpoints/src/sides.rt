@@ -34,6 +34,7 @@ impl Trail {
     /// Returns for each place of a range what the steps of the run below another have done with the instruction there. Places are as far
     /// apart as the shortest instructions are long. The run is executed again from step zero; its steps count on no meter, and the trail
     /// isn't moved.
+    #[tactic(auto, unfolding(crate::specs::Trails::machines_of))]
     pub fn sides(
         &self,
         alloc: Global,
@@ -101,6 +102,7 @@ fn step_entering(
 ) -> Result<Machine, AllocError>
     requires { IsApart apart }
     ensures shows { IfOk result (λ r. (s : State) → Shows machine s → Shows r (exec s setup.now)) }
+    ensures rows { OnOk result (length table.new.items ≡ length table.old.items) }
     ensures entered { OnOk result ((s : State) → Shows machine s → Enters first apart (side_of s setup.now) table.old.items table.new.items) }
 {
     let (stepped, touched) = machine.step_on(setup)?;
