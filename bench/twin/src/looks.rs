@@ -74,6 +74,7 @@ pub fn look(run: &Run, step: u64, words: &[&str]) -> Option<String> {
     match *words {
         ["registers"] => Some(registers(&run.at(step))),
         ["memory", addr, len] => Some(memory(&run.at(step), number(addr)?, number(len)?)),
+        ["sides", addr, len] => Some(sides(run, step, number(addr)?, number(len)?)),
         ["next", kind, addr, len, end] => {
             let range = (number(addr)?, number(len)?);
             Some(told(run.those_that_do(kind, range, step..number(end)?.into()).first()))
@@ -129,6 +130,21 @@ pub fn state(machine: &Machine) -> String {
         Status::Exited(status) => format!("state exited {status}"),
         stop => format!("state stopped {} {pc:#010x}", format!("{stop:?}").to_lowercase()),
     }
+}
+
+/// What the steps before one have done with each instruction of a range.
+fn sides(run: &Run, steps: u64, start: u32, len: u32) -> String {
+    let (mut machine, mut met) = ((run.start)(), BTreeMap::<u32, u32>::new());
+    for step in 0..steps {
+        run.change(&mut machine, step);
+        let (pc, taken) = (machine.pc, machine.taken());
+        go_on(&mut machine);
+        if let Some(taken) = taken {
+            *met.entry(pc).or_default() |= if machine.pc == pc.wrapping_add(taken) { 1 } else { 2 };
+        }
+    }
+    let places = (0..len).step_by(machine.isa.unit() as usize).map(|after| start + after);
+    "sides ".to_string() + &places.map(|place| met.get(&place).unwrap_or(&0).to_string()).collect::<String>()
 }
 
 fn registers(machine: &Machine) -> String {

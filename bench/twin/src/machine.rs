@@ -526,6 +526,20 @@ impl Machine {
         if is_half { HALF } else { WORD }
     }
 
+    /// How many bytes of code the next step takes, if any: none where a function of the heap is called by name, and the first half alone
+    /// of a word that is cut.
+    pub fn taken(&self) -> Option<u32> {
+        let stands = self.status == Status::Running && self.pc % self.isa.unit() == 0;
+        if !stands || self.heap.function_at(self.pc).is_some() {
+            return None;
+        }
+        let (taken, len) = if self.isa.unit() == WORD { self.take::<WORD>() } else { self.take::<HALF>() };
+        match taken.bad {
+            None => Some(len),
+            Some(_) => (self.isa.unit() == HALF && len == WORD).then_some(HALF),
+        }
+    }
+
     /// One step of a machine that runs.
     #[inline(always)]
     pub fn step(&mut self) {

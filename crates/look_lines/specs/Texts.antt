@@ -58,9 +58,12 @@ output_text s range = bytes_line (part range s.output)
 abbrev pub side_digit : Sides → ℕ
 side_digit sides = (if sides.on then 1 else 0) + (if sides.away then 2 else 0)
 
+abbrev pub digit_text : Sides → List ℕ
+digit_text sides = decimal (side_digit sides)
+
 -- the digits of a table
 unfoldable pub sides_text : List Sides → List ℕ
-sides_text table = codes "sides " ++ flat_map (λ sides. decimal (side_digit sides)) table ++ newline
+sides_text table = codes "sides " ++ flat_map digit_text table ++ newline
 
 -- the number of bytes of the input that were read, the number of its bytes, and whether a read has asked for more than
 -- were left

@@ -1,12 +1,12 @@
 //! The replies to looks, as text.
-ghost use Rattle.std.specs.Prelude.{◌≡◌, ◌+◌, ◌++◌, ◌≤◌, ◌^◌, if◌then◌else◌, codes, decimal, OnOk};
+ghost use Rattle.std.specs.Prelude.{◌≡◌, ◌+◌, ◌++◌, ◌≤◌, ◌^◌, if◌then◌else◌, codes, OnOk};
 ghost use Rattle.std.specs.List.{flat_map};
 ghost use Rattle.guest_machine.specs.State.{State};
 ghost use Rattle.guest_machine.specs.Shows.{Shows};
 ghost use Rattle.shadow_memory.specs.Cells.{shadow_in};
 ghost use Rattle.shadow_memory.specs.Memories.{bytes_in, shadows_in};
 ghost use Rattle.report_lines.specs.Text.{byte_text};
-ghost use Rattle.look_lines.specs.Texts.{bytes_line, bytes_text, input_text, memory_text, register_line, registers_text, side_digit, sides_text, step_text, undef_text, undefs_text};
+ghost use Rattle.look_lines.specs.Texts.{bytes_line, bytes_text, digit_text, input_text, memory_text, register_line, registers_text, side_digit, sides_text, step_text, undef_text, undefs_text};
 
 use checkpoints::Sides;
 use definedness::Bits;
@@ -120,7 +120,7 @@ fn side_digit(sides: Sides) -> u64
 
 /// Appends the digits of a table.
 fn push_digits(out: &mut Vec<u8>, table: &[Sides]) -> Result<(), AllocError>
-    ensures { OnOk result (out.new.items ≡ out.old.items ++ flat_map (λ sides. decimal (side_digit sides)) table.now) }
+    ensures { OnOk result (out.new.items ≡ out.old.items ++ flat_map digit_text table.now) }
 {
     for sides in table {
         push_number(out, side_digit(*sides))?;

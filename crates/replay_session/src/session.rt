@@ -285,14 +285,14 @@ impl<'a> Session<'a> {
         )
     }
 
-    /// Returns for each place of a range what the run has done with the instruction there, up to the chosen step. Nothing is moved.
+    /// Returns what the run has done with the instruction at each place of a range, up to the chosen step. Nothing is moved.
     #[tactic(auto, unfolding(crate::specs::Session::turn_of))]
-    pub fn sides(&self, range: Span) -> Result<Vec<Sides>, AllocError>
-        ensures { IfOk result (λ table. IsSidesOf (scenario_of self.now) range table.items) }
+    pub fn sides(&self, places: Span) -> Result<Vec<Sides>, AllocError>
+        ensures { IfOk result (λ table. IsSidesOf (scenario_of self.now) places table.items) }
     {
         self.trail.sides(
             self.alloc,
-            range,
+            places,
             self.scenario.step(),
             self.scenario.setup(),
             self.scenario.marks(),

@@ -213,6 +213,21 @@ class Run:
             parts.append(bytes.fromhex(row.partition(" ")[2]))
         return b"".join(parts)
 
+    def sides(self, address: int, length: int, step: Optional[int] = None) -> dict[int, int]:
+        """Returns what the run has done with each instruction of a range before a step, by its address: 1, it went on behind it each time
+        that it executed it, 2, it went elsewhere, 3, both. Instructions that it didn't execute aren't there.
+
+        # Errors
+
+        `Refused` with the number 6 for no bytes or an end above 2^32; with 2 if the program that is asked doesn't have this look."""
+        talk: Talk = self._at(step)
+        met: dict[int, int] = {}
+        apart = 4 if talk.isa == ISAS[0] else 2
+        for begin in range(address, address + max(length, 1), MOST_WRITTEN):
+            digits = talk.look(f"sides {begin} {min(MOST_WRITTEN, address + length - begin)}")[0].partition(" ")[2]
+            met.update((begin + apart * at, int(digit)) for at, digit in enumerate(digits) if digit != "0")
+        return met
+
     def certify(self, step: Optional[int] = None) -> Certificate:
         """Returns whether anything that uninitialised, freed or unmapped memory holds has an influence on the run up to a step."""
         return Certificate(self._at(step).look("certify")[0])
