@@ -12,6 +12,7 @@ use Rattle.commands.specs.declared.fault.Fault.{Fault}
 use Rattle.commands.specs.declared.fault.Fault.TheVariants.{BadCommand, BadRange, StepLimit}
 use Rattle.look_lines.specs.declared.look.Look.{Look}
 use Rattle.look_lines.specs.declared.look.Search.{Search}
+use Rattle.look_lines.specs.declared.look.Look.TheVariants.{Controls}
 use Rattle.look_lines.specs.declared.look.Look.TheVariants.{Registers, Memory, Output, Input, Next, Last, Certify}
 
 -- the greatest number of bytes that a look at memory or at the output may show, and that a search for a change of what
@@ -41,7 +42,7 @@ sought_with (Some watch) (Some range) = Some (record { watch = watch; range = ra
 sought_with (Some watch) None = None
 sought_with None range = None
 
--- a look that has no fields: `registers`, `input`, `certify`
+-- a look that has no fields: `registers`, `controls`, `input`, `certify`
 unfoldable pub bare : Look → List (List ℕ) → Option Look
 bare look [] = Some look
 bare look (field ∷ more) = None
@@ -66,6 +67,7 @@ search_of _ = None
 unfoldable pub look_of : List ℕ → List (List ℕ) → Option Look
 look_of word more =
     if bytes_eq word (codes "registers") then bare Registers more
+    else if bytes_eq word (codes "controls") then bare Controls more
     else if bytes_eq word (codes "memory") then option_map (λ range. Memory range) (range_of more)
     else if bytes_eq word (codes "output") then option_map (λ range. Output range) (range_of more)
     else if bytes_eq word (codes "input") then bare Input more
@@ -106,6 +108,7 @@ search_refusal search =
 -- why a look is rejected, if it is
 abbrev pub look_refusal : Look → Option Fault
 look_refusal Registers = None
+look_refusal Controls = None
 look_refusal (Memory range) = if is_view range then None else Some BadRange
 look_refusal (Output range) = if is_view range then None else Some BadRange
 look_refusal Input = None

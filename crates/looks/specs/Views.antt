@@ -20,9 +20,11 @@ use Rattle.commands.specs.declared.edit.Edit.TheVariants.{Mark}
 use Rattle.commands.specs.declared.fault.Fault.{Fault}
 use Rattle.commands.specs.declared.fault.Fault.TheVariants.{Memory}
 use Rattle.look_lines.specs.Alterations.{alteration_asked, alters}
+use Rattle.look_lines.specs.Controls.{controls_text}
 use Rattle.look_lines.specs.Looks.{asked}
 use Rattle.look_lines.specs.Texts.{input_text, memory_text, output_text, registers_text, step_text}
 use Rattle.look_lines.specs.declared.look.Look.{Look}
+use Rattle.look_lines.specs.declared.look.Look.TheVariants.{Controls}
 use Rattle.look_lines.specs.declared.look.Look.TheVariants.{Registers, Memory, Output, Input, Next, Last, Certify}
 use Rattle.looks.specs.declared.viewer.Viewer.{Viewer}
 
@@ -34,6 +36,7 @@ looks turn line = starts_with nat_eq line (codes "look ") && not (is_over turn) 
 -- the first, or before it the last, that does what is sought; or the verdict on the run up to it
 abbrev pub Tells : Scenario → Look → List ℕ → Type 0
 Tells sc Registers text = text ≡ registers_text (chosen_state sc)
+Tells sc Controls text = text ≡ controls_text (chosen_state sc)
 Tells sc (Memory range) text = text ≡ memory_text (chosen_state sc) range
 Tells sc (Output range) text = text ≡ output_text (chosen_state sc) range
 Tells sc Input text = text ≡ input_text (chosen_state sc) (length sc.setup.input)
