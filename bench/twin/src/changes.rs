@@ -23,7 +23,7 @@ pub enum Change {
     FlipBytes { start: u32, mask: u32 },
     /// `write`: so many bytes of a number are stored, the lowest first, as by a store, but for errors.
     Write { start: u32, len: u32, value: u32 },
-    /// `skip`: the next instruction is left out.
+    /// `skip`: the next instruction is left out. Counters count it.
     Skip,
 }
 
@@ -54,7 +54,10 @@ impl Machine {
                     self.memory.store::<1>(start.wrapping_add(i), byte.into(), 0);
                 }
             }
-            Change::Skip => self.pc = self.pc.wrapping_add(self.length()),
+            Change::Skip => {
+                self.pc = self.pc.wrapping_add(self.length());
+                self.steps += u64::from(self.isa.has_controls());
+            }
         }
     }
 }

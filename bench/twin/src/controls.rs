@@ -8,6 +8,34 @@ const COUNTERS: [u32; 5] = [0xB00, 0xB02, 0xC00, 0xC01, 0xC02];
 /// What is between the number of a counter and that of its upper half.
 const UPPER: u32 = 0x80;
 
+/// The registers that a look shows, in order of their numbers (Privileged Architecture 20190608, tables 2.2, 2.4 and 2.5).
+pub const NAMED: [(u32, &str); 24] = [
+    (0x300, "mstatus"),
+    (0x301, "misa"),
+    (0x304, "mie"),
+    (0x305, "mtvec"),
+    (0x306, "mcounteren"),
+    (0x340, "mscratch"),
+    (0x341, "mepc"),
+    (0x342, "mcause"),
+    (0x343, "mtval"),
+    (0x344, "mip"),
+    (0xB00, "mcycle"),
+    (0xB02, "minstret"),
+    (0xB80, "mcycleh"),
+    (0xB82, "minstreth"),
+    (0xC00, "cycle"),
+    (0xC01, "time"),
+    (0xC02, "instret"),
+    (0xC80, "cycleh"),
+    (0xC81, "timeh"),
+    (0xC82, "instreth"),
+    (0xF11, "mvendorid"),
+    (0xF12, "marchid"),
+    (0xF13, "mimpid"),
+    (0xF14, "mhartid"),
+];
+
 /// How an instruction changes a control register.
 enum How {
     Write,
@@ -30,7 +58,7 @@ fn complement(x: Bits) -> Bits {
 
 impl Machine {
     /// What a control register has.
-    fn control(&self, number: u32) -> Bits {
+    pub fn control(&self, number: u32) -> Bits {
         match counter(number) {
             true if number & UPPER == 0 => known(self.steps as u32),
             true => known((self.steps >> 32) as u32),

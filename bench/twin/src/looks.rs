@@ -2,6 +2,7 @@
 //! through the run from its start, one step after another, and keeps nothing of the looks before it.
 
 use crate::changes::Change;
+use crate::controls::NAMED;
 use crate::machine::{Machine, Status};
 use std::collections::BTreeMap;
 use std::fmt::Write;
@@ -73,6 +74,7 @@ pub fn answer(run: &Run, line: &str) -> Option<String> {
 pub fn look(run: &Run, step: u64, words: &[&str]) -> Option<String> {
     match *words {
         ["registers"] => Some(registers(&run.at(step))),
+        ["controls"] => Some(controls(&run.at(step))),
         ["memory", addr, len] => Some(memory(&run.at(step), number(addr)?, number(len)?)),
         ["sides", addr, len] => Some(sides(run, step, number(addr)?, number(len)?)),
         ["next", kind, addr, len, end] => {
@@ -153,6 +155,17 @@ fn registers(machine: &Machine) -> String {
         write!(text, "\nx{r} {:#010x} {:#010x}", bits.value, bits.undef).expect("a string takes all");
     }
     text
+}
+
+fn controls(machine: &Machine) -> String {
+    if !machine.isa.has_controls() {
+        return "none".to_string();
+    }
+    let lines = NAMED.iter().map(|(number, name)| {
+        let bits = machine.control(*number);
+        format!("{name} {:#010x} {:#010x}", bits.value, bits.undef)
+    });
+    lines.collect::<Vec<String>>().join("\n")
 }
 
 fn memory(machine: &Machine, addr: u32, len: u32) -> String {

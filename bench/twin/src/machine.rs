@@ -60,7 +60,7 @@ pub struct Machine {
     pub reserved: Option<u32>,
     /// The control registers that were written, by their numbers.
     pub controls: BTreeMap<u32, Bits>,
-    /// How many steps it has made, in a profile with control registers.
+    /// How many steps it has made, with those that were left out, in a profile with control registers.
     pub steps: u64,
 }
 

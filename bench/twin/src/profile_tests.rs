@@ -237,6 +237,18 @@ fn counters_are_the_steps_before_and_keep_nothing() {
 }
 
 #[test]
+fn counters_count_an_instruction_that_is_left_out() {
+    let words = [0x0000_0013, 0x0000_0013, control(0xB02, 2, 0)];
+    for isa in [Isa::Rv32imc, Isa::Rv32imac] {
+        let mut machine = Machine::start(isa, START, &words, 0x1000);
+        machine.step();
+        machine.change(Change::Skip);
+        machine.step();
+        assert_eq!(machine.registers[RD].value, 2);
+    }
+}
+
+#[test]
 fn a_fence_of_instructions_and_a_wait_do_nothing_and_a_return_from_a_trap_is_illegal() {
     for (word, status) in [(0x0000_100F, Status::Running), (0x1050_0073, Status::Running), (0x3020_0073, Status::Illegal)] {
         let mut machine = Machine::start(Isa::Rv32imc, START, &[word], 0x1000);

@@ -123,6 +123,8 @@ pub(crate) const AFTER_LOOK: &str = with_refusals!(
 The lines of a session, which `replaycheck session --help` lists, and these, which change nothing
 and don't count. Each is answered for the chosen step of the run with all edits:
   look registers                the state as in a report, and of x1 to x31 value and undefined bits
+  look controls                 with --isa rv32imc or rv32imac, of mstatus and the other control
+                                registers of machine mode value and undefined bits; else `none`
   look memory ADDR LEN          LEN bytes, up to 4096, and in a second line their undefined bits;
                                 __ below a byte that may not be accessed
   look output FROM LEN          of the program's output up to LEN bytes, up to 4096, from position
@@ -152,7 +154,7 @@ These lines alter the machine just before step STEP, where it runs. They count a
                                    to 255 turns the byte at ADDR only
   write STEP ADDR LEN VALUE        writes LEN bytes, 1, 2 or 4, the lowest first; they are defined
                                    where they are accessible
-  skip STEP                        leaves out an instruction; it takes no step
+  skip STEP                        leaves out an instruction; it takes no step, but counters count it
 Such a line is answered `ok`, or refused: 2 as above, 5 for a STEP above 4194304, 6 for another
 LEN, bytes that end above 2^32 or a VALUE too wide for LEN, 10 for more than 4096 in the list.
 
@@ -178,7 +180,7 @@ At each step that the unedited run executes, one fault is tried at a time, of ea
   skip       the instruction is left out
   registers  one bit of one of x1 to x31 is turned, just before the step
   pc         one bit of pc
-  words      one bit of the word at pc, for this step only
+  words      one bit of the instruction at pc, for this step only
   memory     one bit of a byte that this step or a later one reads before it is overwritten
   zero, ones one of x1 to x31 is set to 0, or to 0xffffffff
 `--pairs skip` also leaves out two instructions, the second at a later step of --at. --at and

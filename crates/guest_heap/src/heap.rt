@@ -1,5 +1,5 @@
 //! The heap: its contents, and the changes to it.
-ghost use Rattle.std.specs.Prelude.{◌<◌, ◌≡◌, ◌+◌, ◌%◌, ◌<◌, ◌≤◌, length};
+ghost use Rattle.std.specs.Prelude.{◌≡◌, ◌+◌, ◌%◌, ◌<◌, ◌≤◌, length};
 ghost use Rattle.memory_map.specs.Regions.{greatest_heap_begin};
 ghost use Rattle.guest_heap.specs.Tables.{entries_of};
 ghost use Rattle.guest_heap.specs.Queues.{queued};

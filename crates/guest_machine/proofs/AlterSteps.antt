@@ -15,8 +15,7 @@ use Rattle.instructions.specs.Widths.{width_len}
 use Rattle.instructions.specs.declared.code.Code.{Code}
 use Rattle.shadow_memory.specs.Ranges.{above, byte_of, changed_in, is_in, little_word, offset, window, written}
 use Rattle.guest_machine.specs.Alterations.{altered, altered_bytes, altered_core, alters, bytes_by, core_by}
-use Rattle.guest_machine.specs.Alterations.{goes_by_bytes}
-use Rattle.guest_machine.specs.Effects.{moved_to, next_of}
+use Rattle.guest_machine.specs.Alterations.{goes_by_bytes, passed}
 use Rattle.guest_machine.specs.Exec.{half_at}
 use Rattle.guest_machine.specs.Laws.{InCode}
 use Rattle.guest_machine.specs.Registers.{set_register}
@@ -161,7 +160,7 @@ core-blind (Write start width value) core f g blind = refl
 core-blind (Turn start mask) core f g blind = refl
 core-blind Skip core f g blind =
     let none = no-halves (has_halves core.isa) blind in
-    ap (λ (b : Bool). moved_to core (next_of core (cond b 2 4)))
+    ap (λ (b : Bool). passed core (cond b 2 4))
     (never-half core.isa (half_at core f) none ∙ sym (never-half core.isa (half_at core g) none))
 
 -- the code may be poked before the alteration or after it

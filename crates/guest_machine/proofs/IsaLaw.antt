@@ -309,7 +309,7 @@ last-true true false r h = cc
 last-true false q r h = cc
 
 by-fours : (core : Core) → core.isa ≡ Rv32im → IsByFours core
-unfolding jumped linked_jump called_here fetched fetches unfetched unit is_half first_inaccessible
+unfolding jumped linked_jump called_here fetched fetches unfetched unit has_controls is_half first_inaccessible
 by-fours core is = record {
   jumps = λ to. (λ i. cond (is_aligned (is i) to) (moved_to core to) (stopped core Misaligned));
   links = λ next hint rd to. (λ i. cond (is_aligned (is i) to)
@@ -329,7 +329,9 @@ by-fours core is = record {
   halts = λ i. cond (is_running core.status)
       (cond (is_aligned (is i) core.pc)
       (jump_fault core (first_inaccessible core.shadow core.pc (unit (is i)))) (stops core Misaligned)) (quiet core);
-  skips = λ bytes. (λ i. moved_to core (next_of core (cond (is_half (is i) (half_at core bytes)) 2 4)));
+  skips = λ bytes. (λ i. record (moved_to core (next_of core (cond (is_half (is i) (half_at core bytes)) 2 4))) {
+    steps = cond (has_controls (is i)) ((core.steps + 1) % 2 ^ 64) core.steps;
+  });
 }
 
 pub goes-by-fours : GoesByFours

@@ -10,7 +10,7 @@ use Rattle.shadow_memory.specs.Shadows.{made_so}
 use Rattle.guest_machine.specs.State.{Core, State}
 use Rattle.guest_machine.specs.Registers.{register, set_register}
 use Rattle.guest_machine.specs.Effects.{moved_to, next_of, stored_core}
-use Rattle.guest_machine.specs.Exec.{half_at, is_running}
+use Rattle.guest_machine.specs.Exec.{half_at, is_running, steps_on}
 use Rattle.run_values.specs.declared.alteration.Act.{Act}
 use Rattle.run_values.specs.declared.alteration.Act.TheVariants.{Make, Set, Flip, Jump, FlipPc, Write, Turn, Skip}
 use Rattle.run_values.specs.declared.alteration.Alteration.{Alteration}
@@ -37,6 +37,11 @@ is_skip _ = false
 abbrev pub goes_by_bytes : Isa → Act → Bool
 goes_by_bytes isa act = has_halves isa && is_skip act
 
+-- an instruction of this length passed over. It counts as a step, where there are counters of steps, as one that does
+-- nothing would
+abbrev pub passed : Core → ℕ → Core
+passed core len = record (moved_to core (next_of core len)) { steps = steps_on core }
+
 -- what it makes of all that decides a step besides the byte values. The stack pointer rule is for instructions only
 abbrev pub core_by : Act → Core → (ℕ → ℕ) → Core
 core_by (Make addr len kind) core bytes = record core { shadow = made_so core.shadow addr len kind }
@@ -46,7 +51,7 @@ core_by (Jump target) core bytes = moved_to core target
 core_by (FlipPc mask) core bytes = moved_to core (xor_of core.pc mask)
 core_by (Write addr width value) core bytes = stored_core core addr (width_len width) 0
 core_by (Turn addr mask) core bytes = core
-core_by Skip core bytes = moved_to core (next_of core (len_here core bytes))
+core_by Skip core bytes = passed core (len_here core bytes)
 
 -- and of the byte values
 abbrev pub bytes_by : Act → (ℕ → ℕ) → ℕ → ℕ

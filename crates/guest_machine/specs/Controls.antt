@@ -2,6 +2,7 @@
 -- with undefined bits, which instructions alone change; some are counters. And the fence of fetches and the wait for an
 -- interrupt, which do nothing: a store is fetched at once, and there are no interrupts.
 use Rattle.std.specs.Prelude.{ℕ, ◌/◌, ◌%◌, ◌^◌, ◌==◌, ◌&&◌, ◌||◌, not, Bool, if◌then◌else◌}
+use Rattle.std.specs.Prelude.{Option, Some, None}
 use Rattle.definedness.specs.declared.Bits.{Bits}
 use Rattle.control_registers.specs.Registers.{with_register}
 use Rattle.guest_elf.specs.Profiles.{has_controls}
@@ -35,6 +36,10 @@ control core number =
     if is_counter number then known (core.steps % 2 ^ 32)
     else if is_upper_counter number then known (core.steps / 2 ^ 32 % 2 ^ 32)
     else core.controls number
+
+-- what is seen of one from outside: its word, in an instruction set that has control registers
+unfoldable pub control_seen : Core → ℕ → Option Bits
+control_seen core number = if has_controls core.isa then Some (control core number) else None
 
 -- the word of the operand
 unfoldable pub operand_of : Core → ControlOperand → Bits

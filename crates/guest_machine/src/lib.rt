@@ -28,6 +28,7 @@
 //! | [`Machine::learn`], [`Machine::take_over`] | copy or move what another machine has decoded, for the codes that are the same in both |
 //! | [`Machine::is_same`] | returns whether another machine shows the same |
 //! | [`Machine::status`], [`Machine::pc`], [`Machine::register`] | return whether it runs, and its registers |
+//! | [`Machine::control`] | returns a control register, if the instruction set has those |
 //! | [`Machine::heap_begin`] | returns the first address of the heap's region |
 //! | [`Machine::isa`], [`Machine::code`] | return the instruction set, which is the image's, and the code at pc |
 //! | [`Machine::position`], [`Machine::end_seen`] | return how much of the input was read so far, and whether its end was seen |

@@ -108,9 +108,9 @@ pub struct Machine {
     guest: Box<Guest>,
 }
 
-/// What a machine holds: memory, registers, pc, status, calls, heap, progress, its errors, its instruction set, the region of its stack, the address that is
-/// reserved, if one is, its control registers and the number of steps. Each step counts, in each instruction set, as that costs less than
-/// to ask; it shows only where there are counters.
+/// What a machine holds: memory, registers, pc, status, calls, heap, progress, its errors, its instruction set, the region of its stack, the
+/// address that is reserved, if one is, its control registers and the number of steps. Each step counts in each instruction set, and shows
+/// only where there are counters.
 #[derive(Drop)]
 pub(crate) struct Guest {
     alloc: Global,

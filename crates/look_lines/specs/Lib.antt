@@ -1,3 +1,4 @@
 pub mod Alterations
+pub mod Controls
 pub mod Looks
 pub mod Texts

@@ -12,8 +12,8 @@ use Rattle.commands.specs.declared.fault.Fault.{Fault}
 use Rattle.commands.specs.declared.fault.Fault.TheVariants.{BadCommand, BadRange, StepLimit}
 use Rattle.look_lines.specs.declared.look.Look.{Look}
 use Rattle.look_lines.specs.declared.look.Search.{Search}
-use Rattle.look_lines.specs.declared.look.Look.TheVariants.{Registers, Memory, Output, Sides, Input, Next, Last}
-use Rattle.look_lines.specs.declared.look.Look.TheVariants.{Certify}
+use Rattle.look_lines.specs.declared.look.Look.TheVariants.{Registers, Controls, Memory, Output, Sides, Input, Next}
+use Rattle.look_lines.specs.declared.look.Look.TheVariants.{Last, Certify}
 
 -- the greatest number of bytes that a look at memory, at the output or at sides may show, and that a search for a change
 -- of what is known of them may watch
@@ -42,7 +42,7 @@ sought_with (Some watch) (Some range) = Some (record { watch = watch; range = ra
 sought_with (Some watch) None = None
 sought_with None range = None
 
--- a look that has no fields: `registers`, `input`, `certify`
+-- a look that has no fields: `registers`, `controls`, `input`, `certify`
 unfoldable pub bare : Look → List (List ℕ) → Option Look
 bare look [] = Some look
 bare look (field ∷ more) = None
@@ -67,6 +67,7 @@ search_of _ = None
 unfoldable pub look_of : List ℕ → List (List ℕ) → Option Look
 look_of word more =
     if bytes_eq word (codes "registers") then bare Registers more
+    else if bytes_eq word (codes "controls") then bare Controls more
     else if bytes_eq word (codes "memory") then option_map (λ range. Memory range) (range_of more)
     else if bytes_eq word (codes "output") then option_map (λ range. Output range) (range_of more)
     else if bytes_eq word (codes "sides") then option_map (λ range. Sides range) (range_of more)
@@ -108,6 +109,7 @@ search_refusal search =
 -- why a look is rejected, if it is
 abbrev pub look_refusal : Look → Option Fault
 look_refusal Registers = None
+look_refusal Controls = None
 look_refusal (Memory range) = if is_view range then None else Some BadRange
 look_refusal (Output range) = if is_view range then None else Some BadRange
 look_refusal (Sides range) = if is_view range then None else Some BadRange

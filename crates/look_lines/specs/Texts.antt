@@ -16,10 +16,13 @@ unfoldable pub joined_below : (ℕ → List ℕ) → ℕ → List ℕ
 joined_below text zero = []
 joined_below text (suc n) = joined_below text n ++ text n
 
--- a register: its value and its undefined bits
+-- the rest of a register's line, after its name: its value and its undefined bits
+unfoldable pub bits_text : Bits → List ℕ
+bits_text bits = codes " " ++ address_text bits.value ++ codes " " ++ address_text bits.undef ++ newline
+
+-- a register
 unfoldable pub register_line : ℕ → Bits → List ℕ
-register_line r bits =
-    codes "x" ++ decimal r ++ codes " " ++ address_text bits.value ++ codes " " ++ address_text bits.undef ++ newline
+register_line r bits = codes "x" ++ decimal r ++ bits_text bits
 
 -- the lines of a number of registers, from x1 on
 abbrev pub register_lines : Core → ℕ → List ℕ

@@ -16,6 +16,8 @@ pub struct Search {
 pub enum Look {
     /// Whether it runs, and the registers with their undefined bits.
     Registers,
+    /// The control registers that have names, with their undefined bits.
+    Controls,
     /// The bytes of a range, with their undefined bits.
     Memory(Span),
     /// The bytes of the output in a range of positions.

@@ -22,6 +22,8 @@ const ERROR: &[u8] = b"error";
 
 const REGISTERS: &[u8] = b"registers";
 
+const CONTROLS: &[u8] = b"controls";
+
 const MEMORY: &[u8] = b"memory";
 
 const OUTPUT: &[u8] = b"output";
@@ -121,6 +123,8 @@ fn look_of(word: &[u8], fields: Parts<'_>) -> Option<Look>
 {
     if word == REGISTERS {
         bare(Look::Registers, fields)
+    } else if word == CONTROLS {
+        bare(Look::Controls, fields)
     } else if word == MEMORY {
         Some(Look::Memory(range_of(fields)?))
     } else if word == OUTPUT {
@@ -191,7 +195,7 @@ fn look_refusal(look: Look) -> Option<Fault>
     ensures { result ≡ look_refusal look }
 {
     match look {
-        Look::Registers | Look::Input | Look::Certify => None,
+        Look::Registers | Look::Controls | Look::Input | Look::Certify => None,
         Look::Memory(range) | Look::Output(range) | Look::Sides(range) => {
             if is_view(range) {
                 None

@@ -6,7 +6,7 @@ ghost use Rattle.guest_machine.specs.Shows.{Shows};
 ghost use Rattle.shadow_memory.specs.Cells.{shadow_in};
 ghost use Rattle.shadow_memory.specs.Memories.{bytes_in, shadows_in};
 ghost use Rattle.report_lines.specs.Text.{byte_text};
-ghost use Rattle.look_lines.specs.Texts.{bytes_line, bytes_text, digit_text, input_text, memory_text, register_line, registers_text, side_digit, sides_text, step_text, undef_text, undefs_text};
+ghost use Rattle.look_lines.specs.Texts.{bits_text, bytes_line, bytes_text, digit_text, input_text, memory_text, register_line, registers_text, side_digit, sides_text, step_text, undef_text, undefs_text};
 
 use checkpoints::Sides;
 use definedness::Bits;
@@ -19,6 +19,18 @@ use std::alloc::AllocError;
 /// The number of registers that are shown: all except x0, which is 0.
 const SHOWN: u8 = 31;
 
+/// Appends the rest of a register's line, after its name: its value and its undefined bits.
+#[tactic(auto, unfolding(crate::specs::Texts::bits_text), using(std::proofs::Common::append_assoc))]
+pub(crate) fn push_bits(out: &mut Vec<u8>, bits: Bits) -> Result<(), AllocError>
+    ensures { OnOk result (out.new.items ≡ out.old.items ++ bits_text bits) }
+{
+    push_text(out, b" ")?;
+    push_address(out, bits.value)?;
+    push_text(out, b" ")?;
+    push_address(out, bits.undef)?;
+    push_text(out, b"\n")
+}
+
 /// Appends a register's line.
 #[tactic(auto, unfolding(crate::specs::Texts::register_line), using(std::proofs::Common::append_assoc))]
 fn push_register(out: &mut Vec<u8>, number: u8, bits: Bits) -> Result<(), AllocError>
@@ -26,11 +38,7 @@ fn push_register(out: &mut Vec<u8>, number: u8, bits: Bits) -> Result<(), AllocE
 {
     push_text(out, b"x")?;
     push_number(out, u64::from(number))?;
-    push_text(out, b" ")?;
-    push_address(out, bits.value)?;
-    push_text(out, b" ")?;
-    push_address(out, bits.undef)?;
-    push_text(out, b"\n")
+    push_bits(out, bits)
 }
 
 /// Appends whether a machine runs, and its registers.

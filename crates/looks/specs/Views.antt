@@ -21,11 +21,12 @@ use Rattle.commands.specs.declared.edit.Edit.TheVariants.{Mark}
 use Rattle.commands.specs.declared.fault.Fault.{Fault}
 use Rattle.commands.specs.declared.fault.Fault.TheVariants.{Memory}
 use Rattle.look_lines.specs.Alterations.{alteration_asked, alters}
+use Rattle.look_lines.specs.Controls.{controls_text}
 use Rattle.look_lines.specs.Looks.{asked}
 use Rattle.look_lines.specs.Texts.{input_text, memory_text, output_text, registers_text, sides_text, step_text}
 use Rattle.look_lines.specs.declared.look.Look.{Look}
-use Rattle.look_lines.specs.declared.look.Look.TheVariants.{Registers, Memory, Output, Sides, Input, Next, Last}
-use Rattle.look_lines.specs.declared.look.Look.TheVariants.{Certify}
+use Rattle.look_lines.specs.declared.look.Look.TheVariants.{Registers, Controls, Memory, Output, Sides, Input, Next}
+use Rattle.look_lines.specs.declared.look.Look.TheVariants.{Last, Certify}
 use Rattle.looks.specs.declared.viewer.Viewer.{Viewer}
 
 -- does a line look? One that is too long doesn't, and none does once the limit of lines is reached
@@ -37,6 +38,7 @@ looks turn line = starts_with nat_eq line (codes "look ") && not (is_over turn) 
 -- the verdict on the run up to it
 abbrev pub Tells : Scenario → Look → List ℕ → Type 0
 Tells sc Registers text = text ≡ registers_text (chosen_state sc)
+Tells sc Controls text = text ≡ controls_text (chosen_state sc)
 Tells sc (Memory range) text = text ≡ memory_text (chosen_state sc) range
 Tells sc (Output range) text = text ≡ output_text (chosen_state sc) range
 Tells sc (Sides range) text = (table : List SidesOf) × IsSidesOf sc range table × (text ≡ sides_text table)

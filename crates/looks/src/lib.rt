@@ -13,6 +13,7 @@
 //! | Line | The reply |
 //! |---|---|
 //! | `look registers` | the line of a report that says whether the program runs; the value and the undefined bits of x1 to x31, one line each |
+//! | `look controls` | the name, the value and the undefined bits of each control register that is shown, one line each; `none` if there is none |
 //! | `look memory ADDR LEN` | `bytes` and 1 to 4,096 bytes; `undef` and below each its undefined bits, `__` where there is no access |
 //! | `look output FROM LEN` | `bytes` and 1 to 4,096 bytes of the output from position FROM on, or those that there are |
 //! | `look sides ADDR LEN` | `sides` and a digit for each place in these 1 to 4,096 bytes, the first at ADDR, as far apart as the shortest instructions are long: what the run up to the chosen step has done with the instruction there. 0 nothing, 1 executed it and gone on behind it, 2 executed it and gone elsewhere or ended there, 3 both |
@@ -20,6 +21,9 @@
 //! | `look next KIND ADDR LEN END` | `step N`, the first from the chosen one on and below END that does it, or `none` |
 //! | `look last KIND ADDR LEN FROM` | `step N`, the last before the chosen one and from FROM on that does it, or `none` |
 //! | `look certify` | `clean to step N: ..`, or `not clean: ..` with the first mark or error that is in the way |
+//!
+//! A control register is shown if it is one of machine mode that any hart has, such as `mstatus`, or a counter: 24 in order of their numbers.
+//! An instruction set without control registers has none.
 //!
 //! KIND: `run`, the program runs and pc is in the range; `read`, a byte of it is read, besides the step's own word; `write`, one is
 //! written; `shadow`, the step changes the undefined bits of one, or whether it may be accessed, from its state after its marks to the one
@@ -39,7 +43,7 @@
 //! | `flip STEP REGISTER MASK`, `flip STEP pc MASK` | turns these bits; undefined ones stay undefined |
 //! | `flip STEP ADDR MASK` | turns these bits of four bytes, the lowest byte first: a MASK up to 255 turns the byte at ADDR only. What is known of them stays |
 //! | `write STEP ADDR LEN VALUE` | writes LEN bytes, 1, 2 or 4, the lowest first; they are defined where they are accessible, and elsewhere stay inaccessible |
-//! | `skip STEP` | leaves out an instruction: pc advances by the instruction's length. It takes no step |
+//! | `skip STEP` | leaves out an instruction: pc advances by the instruction's length. It is no step, but counters count it |
 //!
 //! REGISTER is `x1` to `x31`. Alterations and marks of a step are applied in the order of their lines. A machine that has exited or stopped
 //! is altered by marks only. An alteration is no step: it raises no error, and no search finds it. A line is rejected with the first of these
@@ -53,7 +57,8 @@
 //! work is moved as by a report there, except that a verdict executes further steps, and a look at sides runs beside the held machines and moves none. The reply to any other line is that of a session
 //! (`RepliesAs`) to the command as which it is read (`read_as`): a line that alters is the edit that appends its alteration to the marks.
 //!
-//! In `specs/`: `Views`, the reply to a look and to any other line, over `Looks`, `Texts` and `Alterations` of the crate `look_lines`.
+//! In `specs/`: `Views`, the reply to a look and to any other line, over `Looks`, `Texts`, `Controls` and `Alterations` of the crate
+//! `look_lines`.
 #![tactic(auto)]
 
 mod serving;

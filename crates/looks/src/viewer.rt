@@ -9,8 +9,8 @@ ghost use Rattle.looks.specs.Views.{LookMoves, looks, marking, Tells};
 use commands::{Command, Edit};
 use line_server::{LONGEST_LINE, Listener};
 use look_lines::{
-    Look, alteration_asked, alters, asked, push_input, push_memory, push_output, push_registers,
-    push_sides, push_step,
+    Look, alteration_asked, alters, asked, push_controls, push_input, push_memory, push_output,
+    push_registers, push_sides, push_step,
 };
 use replay_session::{Fault, Session, Texts};
 use run_values::Alteration;
@@ -45,6 +45,10 @@ fn show(session: &mut Session<'_>, look: Look, text: &mut Vec<u8>) -> Result<(),
         Look::Registers => {
             let machine = session.machine()?;
             push_registers(text, &machine)
+        }
+        Look::Controls => {
+            let machine = session.machine()?;
+            push_controls(text, &machine)
         }
         Look::Memory(range) => {
             let machine = session.machine()?;

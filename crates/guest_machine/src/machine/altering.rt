@@ -142,13 +142,14 @@ impl Guest {
         }
     }
 
-    /// Leaves an instruction out.
+    /// Leaves an instruction out. It counts as a step.
     #[tactic(auto, unfolding(crate::specs::Alterations::altered_core, crate::specs::Alterations::altered_bytes))]
     fn skip(&mut self)
         ensures { IsDone Skip self.old self.new }
     {
         if self.runs() {
             let len = self.len_here();
+            self.count_step();
             self.advance_by(len);
         }
     }

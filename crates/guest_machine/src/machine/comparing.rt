@@ -35,7 +35,8 @@ impl Guest {
         !self.isa.has_controls() || self.steps == other.steps
     }
 
-    /// Returns whether another guest has the same registers, pc, status, instruction set, region of the stack and reservation, and is as far.
+    /// Returns whether another guest has the same registers, pc, status, instruction set, region of the stack and reservation, and is as
+    /// far.
     fn has_core_of(&self, other: &Guest) -> bool
         ensures pc { IsTrue result → self.now.pc ≡ other.now.pc }
         ensures status { IsTrue result → self.now.status ≡ other.now.status }

@@ -1,7 +1,7 @@
 //! Instructions of control registers. Each is given the address after it, `next`.
 ghost use Rattle.std.specs.Prelude.{◌≡◌, true, false, OnOk};
 ghost use Rattle.guest_elf.specs.Profiles.{has_controls};
-ghost use Rattle.guest_machine.specs.Controls.{barrier, control, control_effect, controls_after, is_counter, is_read_only, is_upper_counter, operand_of};
+ghost use Rattle.guest_machine.specs.Controls.{barrier, control, control_effect, control_seen, controls_after, is_counter, is_read_only, is_upper_counter, operand_of};
 ghost use Rattle.guest_machine.specs.Doing.{Does, Sets};
 ghost use Rattle.guest_machine.specs.Exec.{no_intake, nothing};
 ghost use Rattle.guest_machine.specs.Shows.{core_of};
@@ -47,6 +47,18 @@ impl Guest {
             known((self.steps >> 32) as u32)
         } else {
             self.controls.read(number)
+        }
+    }
+
+    /// The word in a control register, if there are some.
+    #[tactic(auto, unfolding(crate::specs::Controls::control_seen))]
+    pub(super) fn control_seen(&self, number: u16) -> Option<Bits>
+        ensures { result ≡ control_seen (core_of self.now) number }
+    {
+        if self.isa.has_controls() {
+            Some(self.control(number))
+        } else {
+            None
         }
     }
 

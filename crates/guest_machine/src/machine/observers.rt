@@ -1,6 +1,7 @@
 //! What is seen of a machine.
 ghost use Rattle.std.specs.Prelude.{◌≡◌, length};
 ghost use Rattle.guest_machine.specs.State.{State};
+ghost use Rattle.guest_machine.specs.Controls.{control_seen};
 ghost use Rattle.guest_machine.specs.Registers.{register as register_of};
 ghost use Rattle.shadow_memory.specs.Memories.{bytes_in, shadows_in};
 ghost use Rattle.guest_heap.specs.Heaps.{blocks_of};
@@ -80,6 +81,13 @@ impl Machine {
         ensures { (s : State) → Shows self.now s → result ≡ register_of s.core register }
     {
         self.guest.read_register(register)
+    }
+
+    /// Returns a control register's value and undefined bits, if the instruction set has control registers.
+    pub fn control(&self, number: u16) -> Option<Bits>
+        ensures { (s : State) → Shows self.now s → result ≡ control_seen s.core number }
+    {
+        self.guest.control_seen(number)
     }
 
     /// Returns whether the last step raised an error.

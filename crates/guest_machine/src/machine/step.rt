@@ -411,7 +411,7 @@ impl Guest {
 
     /// Counts a step.
     #[inline(always)]
-    fn count_step(&mut self)
+    pub(super) fn count_step(&mut self)
         ensures { Sets self.old self.new (record (core_of self.old) { steps = steps_on (core_of self.old) }) }
     {
         self.steps = self.steps.wrapping_add(1);
