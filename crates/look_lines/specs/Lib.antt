@@ -1,3 +1,4 @@
 pub mod Alterations
+pub mod Inputs
 pub mod Looks
 pub mod Texts
