@@ -11,7 +11,7 @@ pub enum Effect {
     After(u32),
     /// Once a byte of the input at an offset, or one after it, was read: the input differs from that offset on.
     Input(u32),
-    /// Once a read has asked for more than was left: the input has another byte at its end.
+    /// Once a read has asked for more than was left: the input has more bytes at its end.
     End,
     /// Once a heap call was executed: the options of the heap are others.
     Heap,

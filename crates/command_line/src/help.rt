@@ -158,6 +158,11 @@ These lines alter the machine just before step STEP, where it runs. They count a
 Such a line is answered `ok`, or refused: 2 as above, 5 for a STEP above 4194304, 6 for another
 LEN, bytes that end above 2^32 or a VALUE too wide for LEN, 10 for more than 4096 in the list.
 
+These lines give the input other bytes, two hexadecimal digits each, and count as lines:
+  bytes A HEX                      replaces those from offset A on
+  bytes is [HEX]                   makes these the whole input
+Such a line is answered `ok`, or refused: 2 as above, 3 for bytes beyond the input.
+
 Example, the last write of a word before the first 5000 steps are over:
   printf 'goto 5000\\nlook last write 0x20010 4 0\\n' | replaycheck look program.elf
 "

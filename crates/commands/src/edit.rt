@@ -1,4 +1,5 @@
 //! An edit of a scenario.
+use crate::bytes::Bytes;
 use run_values::Alteration;
 use suppressions::{LeakKinds, Suppression};
 
@@ -11,6 +12,10 @@ pub enum Edit {
     Append(u8),
     /// Removes the last byte of the input.
     Cut,
+    /// Replaces bytes of the input, from an offset on.
+    Overwrite { offset: u32, bytes: Bytes },
+    /// Gives the run another input.
+    Give(Bytes),
     /// Replaces a word of the loaded program.
     Patch { addr: u32, word: u32 },
     /// Replaces a half of the loaded program, if there are instructions of 16 bits.

@@ -11,7 +11,7 @@ use thiserror::Error;
 /// Why a line is rejected. A rejected line changes nothing but the number of lines.
 #[derive(Clone, Copy, Debug, PartialEq, Eq, Error)]
 pub enum Fault {
-    /// Memory ran out, at a report, a patch, a mark, a new suppression or a byte appended to the input, and there is no other reason to
+    /// Memory ran out, at a report, a patch, a mark, a new suppression or bytes that the input is given, and there is no other reason to
     /// reject the line.
     #[error("no memory")]
     Memory,
@@ -19,7 +19,7 @@ pub enum Fault {
     /// bits.
     #[error("unknown command or bad fields")]
     BadCommand,
-    /// An offset at or above the input's length, or the last byte of an empty input.
+    /// An offset at or above the input's length, bytes beyond its end, or the last byte of an empty input.
     #[error("outside of the input")]
     OutsideInput,
     /// An address at which no instruction of this length may be, or whose bytes aren't all loaded.
@@ -52,7 +52,7 @@ pub enum Fault {
     /// Arguments that are no suppression's.
     #[error("no suppression")]
     BadSuppression,
-    /// The input has 1,048,576 bytes already.
+    /// The input has 1,048,576 bytes already, or another one would have more.
     #[error("the input is too large")]
     InputTooLarge,
 }

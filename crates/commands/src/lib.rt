@@ -3,8 +3,8 @@
 //! | Item | What it is |
 //! |---|---|
 //! | [`parse`] | reads a line |
-//! | [`number`] | reads a field that is a number |
-//! | [`Command`], [`Edit`] | what a line asks for; an edit of a scenario |
+//! | [`number`], [`digit_value`] | reads a field that is a number; returns the value of a digit |
+//! | [`Command`], [`Edit`], [`Bytes`] | what a line asks for; an edit of a scenario; bytes that it gives the input |
 //! | [`Refusal`], [`Fault`] | why an edit is rejected; why a line is rejected, with its number |
 //! | [`BeginFault`] | why no session begins |
 //! | [`laws::lines_make_ranges`] | does nothing; its contract says that no line makes another alteration than of a range |
@@ -14,6 +14,7 @@
 //! faults; `Laws`.
 #![tactic(auto)]
 
+mod bytes;
 mod command;
 mod edit;
 mod fault;
@@ -22,9 +23,10 @@ mod numbers;
 mod parsing;
 mod refusal;
 
+pub use bytes::Bytes;
 pub use command::Command;
 pub use edit::Edit;
 pub use fault::{BeginFault, Fault};
-pub use numbers::number;
+pub use numbers::{digit_value, number};
 pub use parsing::parse;
 pub use refusal::Refusal;

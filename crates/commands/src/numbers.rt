@@ -5,8 +5,8 @@ ghost use Rattle.commands.specs.Commands.{number_in, number, small, short, one_n
 
 use text_parts::Parts;
 
-/// The value of a digit or a letter, and 36 for another byte.
-fn digit_value(b: u8) -> u64
+/// Returns the value of a digit or a letter, in either case, and 36 for another byte.
+pub fn digit_value(b: u8) -> u64
     ensures { result ≡ digit_value b }
 {
     match b {

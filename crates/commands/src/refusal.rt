@@ -3,9 +3,9 @@
 /// Why an edit is rejected. A rejected edit changes nothing.
 #[derive(Clone, Copy)]
 pub enum Refusal {
-    /// An offset at or above the input's length, or the last byte of an empty input.
+    /// An offset at or above the input's length, bytes beyond its end, or the last byte of an empty input.
     OutsideInput,
-    /// The input has 1,048,576 bytes already.
+    /// The input has 1,048,576 bytes already, or another one would have more.
     InputTooLarge,
     /// An address at which no instruction of this length may be, or whose bytes aren't all loaded.
     NotPatchable,

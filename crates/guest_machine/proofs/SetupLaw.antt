@@ -204,7 +204,7 @@ unseen-step one other more s x h =
 
 pub keeps-end : KeepsEnd
 keeps-end one other s x h =
-    unseen-step one other (x.input.0 ∷ []) s (record {
+    unseen-step one other x.input.0 s (record {
       redzone = x.redzone;
       volume = x.volume;
       hooks = x.hooks;

@@ -99,14 +99,14 @@ KeepsPokes =
 abbrev pub ReadsOn : Type 0
 ReadsOn = (setup : Setup) (s : State) → s.position ≤ (exec s setup).position
 
--- the other setup has another byte of input, at its end
+-- the other setup has more bytes of input, at its end
 pub record Extends (one other : Setup) : Type 0 where
   pub redzone : one.redzone ≡ other.redzone
   pub volume : one.volume ≡ other.volume
   pub hooks : one.hooks ≡ other.hooks
-  pub input : (byte : ℕ) × (other.input ≡ one.input ++ byte ∷ [])
+  pub input : (more : List ℕ) × (other.input ≡ one.input ++ more)
 
--- a step does the same with another byte at the end of the input, if it hasn't seen the end without that byte
+-- a step does the same with more bytes at the end of the input, if it hasn't seen the end without them
 abbrev pub KeepsEnd : Type 0
 KeepsEnd =
     (one other : Setup) (s : State) → Extends one other → (exec s one).end_seen ≡ false

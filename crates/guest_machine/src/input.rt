@@ -32,7 +32,8 @@ impl Input {
         self.bytes.len()
     }
 
-    pub(crate) fn as_slice(&self) -> &[u8]
+    /// Returns the bytes as a slice.
+    pub fn as_slice(&self) -> &[u8]
         ensures { result.now ≡ self.now }
     {
         &self.bytes

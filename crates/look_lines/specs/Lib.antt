@@ -1,4 +1,5 @@
 pub mod Alterations
 pub mod Controls
+pub mod Inputs
 pub mod Looks
 pub mod Texts

@@ -5,23 +5,27 @@
 //! | [`asked`] | reads a line as a [`Look`], or returns why it is rejected |
 //! | [`Look`], [`Search`] | what is asked: registers, control registers, memory, the output, which instructions the run has executed, the input, the next or the last step that does something, whether the run is clean |
 //! | [`alters`], [`alteration_asked`] | whether a line alters the machine at a step; reads it as an alteration, or returns why it is rejected |
+//! | [`gives`], [`edit_asked`] | whether a line gives the input bytes; reads it as an edit, or returns why it is rejected |
 //! | [`push_registers`], [`push_controls`], [`push_memory`], [`push_input`] | append the reply on a machine |
 //! | [`push_output`], [`push_sides`], [`push_step`] | append the reply on bytes of the output, on instructions that were executed, or on a step that was found |
 //!
 //! This crate is separate from `looks`, which lists the lines and serves them over a session. In `specs/`: `Looks`, the lines; `Texts`, the
-//! replies to them, and `Controls` that of control registers; `Alterations`, the lines that alter.
+//! replies to them, and `Controls` that of control registers; `Alterations`, the lines that alter; `Inputs`, the lines that give the input
+//! bytes.
 //!
 //! Source of `__`: Valgrind's gdbserver, `monitor get_vbits` (Memcheck manual, section 4.6).
 #![tactic(auto)]
 
 mod altering;
 mod controls;
+mod inputs;
 mod look;
 mod parsing;
 mod texts;
 
 pub use altering::{alteration_asked, alters};
 pub use controls::push_controls;
+pub use inputs::{edit_asked, gives};
 pub use look::{Look, Search};
 pub use parsing::asked;
 pub use texts::{push_input, push_memory, push_output, push_registers, push_sides, push_step};

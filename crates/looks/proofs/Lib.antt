@@ -1,1 +1,2 @@
+mod Giving
 pub mod Viewing

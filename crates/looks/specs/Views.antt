@@ -17,11 +17,13 @@ use Rattle.scenario.specs.Scenario.{Scenario, chosen_state}
 use Rattle.commands.specs.Commands.{parsed}
 use Rattle.commands.specs.declared.command.Command.{Command}
 use Rattle.commands.specs.declared.command.Command.TheVariants.{Edit}
+use Rattle.commands.specs.declared.edit.Edit.{Edit as AnEdit}
 use Rattle.commands.specs.declared.edit.Edit.TheVariants.{Mark}
 use Rattle.commands.specs.declared.fault.Fault.{Fault}
 use Rattle.commands.specs.declared.fault.Fault.TheVariants.{Memory}
 use Rattle.look_lines.specs.Alterations.{alteration_asked, alters}
 use Rattle.look_lines.specs.Controls.{controls_text}
+use Rattle.look_lines.specs.Inputs.{edit_asked, gives}
 use Rattle.look_lines.specs.Looks.{asked}
 use Rattle.look_lines.specs.Texts.{input_text, memory_text, output_text, registers_text, sides_text, step_text}
 use Rattle.look_lines.specs.declared.look.Look.{Look}
@@ -77,9 +79,18 @@ abbrev pub marking : Result Alteration Fault → Result Command Fault
 marking (Ok alteration) = Ok (Edit (Mark alteration))
 marking (Err fault) = Err fault
 
--- the command as which any line is read that doesn't look: one that alters, or one of a session
+-- the command of a line that gives the input bytes: its edit
+abbrev pub giving : Result AnEdit Fault → Result Command Fault
+giving (Ok edit) = Ok (Edit edit)
+giving (Err fault) = Err fault
+
+-- the command as which any line is read that doesn't look: one that alters, one that gives the input bytes, or one of a
+-- session
 unfoldable pub read_as : List ℕ → Result Command Fault
-read_as line = if alters line then marking (alteration_asked line) else parsed line
+read_as line =
+    if alters line then marking (alteration_asked line)
+    else if gives line then giving (edit_asked line)
+    else parsed line
 
 -- the reply to a line that looks is this, and to any other the one of a session to what it is read as
 abbrev pub Views : Stage → List ℕ → List ℕ → Stage → Type 0

@@ -50,15 +50,27 @@
 //! numbers that applies: 12 and 11 as a line of a session; 2 for a field that is missing, too many or of another form; 5 for STEP above
 //! 4,194,304; 6 for a LEN other than 1, 2 and 4, bytes that end above 2^32, or a VALUE too wide for LEN; 10 if there are 4,096 marks already.
 //!
+//! Lines that give the input bytes are edits, too, with the reply `ok`. HEX is two hexadecimal digits a byte, in either case, and at least
+//! one byte.
+//!
+//! | Line | What it does |
+//! |---|---|
+//! | `bytes A HEX` | replaces the bytes of the input from offset A on |
+//! | `bytes is HEX`, `bytes is` | makes these bytes the whole input, or makes it empty |
+//!
+//! A line is rejected with the first of these numbers that applies: 12 and 11 as a line of a session; 2 for a field that is missing, too many
+//! or of another form; 3 for bytes beyond the input; 14 for an input of more than 1,048,576 bytes; 1 if memory runs out.
+//!
 //! # What a caller can rely on
 //!
 //! [`serve`]: what was written is the replies to the lines of all bytes read (`ViewsLines`). The reply to a line that looks is what holds
 //! at the chosen step of **one run from step zero of the edited program** (`Tells`), and the line leaves the session's turn as it is. The
-//! work is moved as by a report there, except that a verdict executes further steps, and a look at sides runs beside the held machines and moves none. The reply to any other line is that of a session
-//! (`RepliesAs`) to the command as which it is read (`read_as`): a line that alters is the edit that appends its alteration to the marks.
+//! work is moved as by a report there, except that a verdict executes further steps, and that a look at sides executes its steps beside the
+//! held machines. The reply to any other line is that of a session (`RepliesAs`) to the command as which it is read (`read_as`): a line that
+//! alters is the edit that appends its alteration to the marks, and one that gives the input bytes is the edit that puts them there.
 //!
-//! In `specs/`: `Views`, the reply to a look and to any other line, over `Looks`, `Texts`, `Controls` and `Alterations` of the crate
-//! `look_lines`.
+//! In `specs/`: `Views`, the reply to a look and to any other line, over `Looks`, `Texts`, `Controls`, `Alterations` and `Inputs` of the
+//! crate `look_lines`.
 #![tactic(auto)]
 
 mod serving;

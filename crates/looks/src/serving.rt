@@ -10,7 +10,8 @@ use replay_session::Session;
 use std::io::{Read, Write};
 
 /// Reads lines and writes the replies as [`replay_session::serve`] does, and for lines that look at the run of the session the replies to
-/// what they ask for. These lines change nothing, and aren't counted. Lines that alter the machine at a step are answered as edits.
+/// what they ask for. These lines change nothing, and aren't counted. Lines that alter the machine at a step, or that give
+/// the input bytes, are answered as edits.
 pub fn serve<R: Read, W: Write>(
     session: Session<'_>,
     reader: &mut R,

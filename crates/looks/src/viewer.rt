@@ -4,13 +4,13 @@ ghost use Rattle.checkpoints.specs.Trails.{is_short};
 ghost use Rattle.replay_session.specs.Session.{scenario_of, trail_of, turn_of};
 ghost use Rattle.replay_session.specs.Work.{work_on};
 ghost use Rattle.look_lines.specs.Looks.{look_refusal};
-ghost use Rattle.looks.specs.Views.{LookMoves, looks, marking, Tells};
+ghost use Rattle.looks.specs.Views.{giving, LookMoves, looks, marking, Tells};
 
 use commands::{Command, Edit};
 use line_server::{LONGEST_LINE, Listener};
 use look_lines::{
-    Look, alteration_asked, alters, asked, push_controls, push_input, push_memory, push_output,
-    push_registers, push_sides, push_step,
+    Look, alteration_asked, alters, asked, edit_asked, gives, push_controls, push_input,
+    push_memory, push_output, push_registers, push_sides, push_step,
 };
 use replay_session::{Fault, Session, Texts};
 use run_values::Alteration;
@@ -30,6 +30,14 @@ fn marking(asked: Result<Alteration, Fault>) -> Result<Command, Fault>
 {
     let alteration = asked?;
     Ok(Command::Edit(Edit::Mark(alteration)))
+}
+
+/// Returns the command of a line that gives the input bytes.
+fn giving(asked: Result<Edit, Fault>) -> Result<Command, Fault>
+    ensures { result ≡ giving asked }
+{
+    let edit = asked?;
+    Ok(Command::Edit(edit))
 }
 
 /// Writes the reply to a look into an empty text.
@@ -96,6 +104,7 @@ impl<'a> Viewer<'a> {
     ghost use Rattle.replay_session.specs.Stages.{stage_of};
     ghost use Rattle.replay_session.specs.Turns.{accepted_as};
     ghost use Rattle.look_lines.specs.Alterations.{alteration_asked};
+    ghost use Rattle.look_lines.specs.Inputs.{edit_asked};
     ghost use Rattle.look_lines.specs.Looks.{asked, look_refusal};
     ghost use Rattle.looks.specs.Views.{Looked, reply_of};
 
@@ -154,6 +163,16 @@ impl<'a> Viewer<'a> {
             .answer_as(&mut self.session, line, marking(alteration_asked(line)));
         self.is_shown = false;
     }
+
+    /// Answers a line that gives the input bytes: as a session answers an edit.
+    #[tactic(auto, unfolding(crate::specs::Views::reply_of))]
+    fn give(&mut self, line: &[u8])
+        ensures { RepliesAs (stage_of self.old.session) (accepted_as (turn_of self.old.session) line.now (giving (edit_asked line.now))) (reply_of self.new) (stage_of self.new.session) }
+    {
+        let read = edit_asked(self.session.allocator(), line, self.session.input_len());
+        self.texts.answer_as(&mut self.session, line, giving(read));
+        self.is_shown = false;
+    }
 }
 
 impl Listener for Viewer<'_> {
@@ -179,6 +198,8 @@ impl Listener for Viewer<'_> {
             self.look(line);
         } else if alters(line) {
             self.alter(line);
+        } else if gives(line) {
+            self.give(line);
         } else {
             self.texts.answer(&mut self.session, line);
             self.is_shown = false;

@@ -1,5 +1,5 @@
 -- What each part of a line does to the turn of a session.
-use Rattle.std.proofs.Common.{◌≡◌, ◌-◌, true, false, ap, sym, ◌∙◌, Result, Ok, Err, length, take}
+use Rattle.std.proofs.Common.{◌≡◌, ℕ, ◌-◌, true, false, ap, sym, ◌∙◌, Result, Ok, Err, List, length, take}
 use Rattle.std.proofs.Math.Path.{transport}
 use Rattle.std.proofs.lemmas.Bool.{false≢true}
 use Rattle.std.specs.Prelude.{OnErr, OnOk, is_err, is_some}
@@ -11,13 +11,14 @@ use Rattle.checkpoints.specs.Trails.{LoadsAs, loaded_of}
 use Rattle.checkpoints.specs.Words.{is_among}
 use Rattle.checkpoints.specs.declared.effect.Effect.{Effect}
 use Rattle.checkpoints.specs.declared.trail.Trail.{Trail}
-use Rattle.scenario.specs.Edits.{Follows, IsTaken, row}
+use Rattle.scenario.specs.Edits.{Follows, IsTaken, input_effect, overwritten, row}
 use Rattle.scenario.specs.Scenario.{Scenario, run_of}
 use Rattle.commands.specs.declared.edit.Edit.{Edit as AnEdit}
 use Rattle.commands.specs.declared.edit.Edit.TheVariants.{Input, Append, Cut, Patch, Mark, Unmark, Switch, Add, Callers}
-use Rattle.commands.specs.declared.edit.Edit.TheVariants.{PatchHalf, Redzone, Volume, Show}
+use Rattle.commands.specs.declared.edit.Edit.TheVariants.{PatchHalf, Redzone, Volume, Show, Overwrite, Give}
 use Rattle.instructions.specs.declared.code.Code.TheVariants.{Half, Word}
 use Rattle.scenario.proofs.EditLaws.{cut-appended, image_kept}
+use Rattle.scenario.proofs.InputSteps.{of-input}
 
 -- ---- edits
 
@@ -47,6 +48,10 @@ pub an-error : {T E P : Type 0} (r : Result T E) → is_err r ≡ true → OnErr
 an-error (Ok x) h p = absurd (false≢true h)
 an-error (Err e) h p = p
 
+-- another input writes no code
+writes-nothing : (old new : List ℕ) → IsWrite (input_effect old new) → ⊥
+writes-nothing = of-input (λ effect. IsWrite effect → ⊥) (λ h. h) (λ h. h) (λ n h. h)
+
 -- a word that is written and removed again leaves the turn
 pub word-dropped : (sc : Scenario) (edit : AnEdit) → IsWrite (row sc edit).effect
     → record (row sc edit).after { words = take (length (row sc edit).after.words - 1) (row sc edit).after.words } ≡ sc
@@ -56,6 +61,9 @@ word-dropped sc (PatchHalf addr half) h =
     ap (λ ws. record sc { words = ws }) (cut-appended sc.words (record { addr = addr; code = Half half }))
 word-dropped sc (Input offset byte) h = absurd h
 word-dropped sc (Append byte) h = absurd h
+word-dropped sc (Overwrite offset bytes) h =
+    absurd (writes-nothing sc.setup.input (overwritten sc.setup.input offset bytes) h)
+word-dropped sc (Give bytes) h = absurd (writes-nothing sc.setup.input bytes h)
 word-dropped sc Cut h = absurd h
 word-dropped sc (Mark mark) h = absurd h
 word-dropped sc (Unmark i) h = absurd h

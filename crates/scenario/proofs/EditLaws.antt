@@ -1,10 +1,11 @@
 -- The two laws of the table of edits, with a clause for each edit.
 use Rattle.std.proofs.Common.{◌≡◌, ℕ, zero, suc, ◌+◌, ◌-◌, ◌<◌, ◌≤◌, ◌==◌, nat_le, nat_lt, Bool, true, false, cond}
-use Rattle.std.proofs.Common.{List, [], ◌∷◌, ◌++◌, take, remove, length, Some, None, refl, ap, sym, subst, arith}
-use Rattle.std.proofs.Common.{◌∙◌}
+use Rattle.std.proofs.Common.{List, [], ◌∷◌, ◌++◌, take, drop, remove, length, Some, None, refl, ap, sym, subst}
+use Rattle.std.proofs.Common.{◌∙◌, append-nil, arith}
 use Rattle.std.specs.Prelude.{slice_get, slice_set, slice_index_or}
+use Rattle.std.proofs.lemmas.Bool.{ltb-true, ltb-false}
 use Rattle.std.proofs.lemmas.Bool.Decides.{nat_tests}
-use Rattle.std.proofs.lemmas.List.{length-set, length-append, length-take}
+use Rattle.std.proofs.lemmas.List.{drop_all, length-set, length-append, length-take}
 use Rattle.guest_elf.specs.Images.{profile_of}
 use Rattle.guest_elf.specs.declared.profile.Isa.{Isa}
 use Rattle.guest_machine.specs.Run.{marks_at, poked, start_state}
@@ -15,15 +16,18 @@ use Rattle.instructions.specs.declared.code.Code.TheVariants.{Half, Word}
 use Rattle.run_values.specs.declared.alteration.Alteration.{Alteration}
 use Rattle.suppressions.specs.Rules.{Rule}
 use Rattle.checkpoints.specs.Effects.{DifferAtStep, LeadsTo, effect_by}
+use Rattle.checkpoints.specs.declared.effect.Effect.TheVariants.{End, Input as InputFrom, Nowhere}
 use Rattle.checkpoints.specs.Writes.{touch_code}
 use Rattle.scenario.specs.Scenario.{Scenario, first_state, run_of, with_words}
 use Rattle.scenario.specs.Edits.{Follows, TakesBack, IsTaken, row, refused_if, mark_step, switched, is_on, with_code}
+use Rattle.scenario.specs.Edits.{alike, input_effect, overwritten, with_input}
 use Rattle.commands.specs.declared.edit.Edit.{Edit}
 use Rattle.commands.specs.declared.edit.Edit.TheVariants.{Input, Append, Cut, Patch, Mark, Unmark, Switch, Add, Callers}
-use Rattle.commands.specs.declared.edit.Edit.TheVariants.{PatchHalf, Redzone, Volume, Show}
+use Rattle.commands.specs.declared.edit.Edit.TheVariants.{PatchHalf, Redzone, Volume, Show, Overwrite, Give}
 use Rattle.commands.specs.declared.refusal.Refusal.{Refusal}
 use Rattle.scenario.specs.declared.written.Written.{Written}
 use Rattle.scenario.proofs.FrontSteps.{with-more}
+use Rattle.scenario.proofs.InputSteps.{alike-bytes, alike-first, alike-within, overwritten-back}
 
 -- a test that gives a refusal fails if nothing is rejected
 pub passed : (b : Bool) (r : Refusal) → refused_if b r ≡ None → b ≡ false
@@ -42,6 +46,10 @@ inside n k r h = below-of n k (passed _ r h)
 
 pub not_empty : (n : ℕ) (r : Refusal) → refused_if (nat_lt n 1) r ≡ None → 0 < n
 not_empty n r h = some-of n (passed _ r h)
+
+-- and no byte beyond the input
+pub not-beyond : (len end : ℕ) (r : Refusal) → refused_if (nat_lt len end) r ≡ None → end ≤ len
+not-beyond len end r h = ltb-false len end (passed _ r h)
 
 -- ---- what stays in front of an edit of the input
 
@@ -97,6 +105,61 @@ code-leads sc addr code false h = record {
       (refl, refl, ap (λ (isa : Isa). touch_code isa sc.marks addr (len_of code)) (first-isa sc) ∙ h);
 }
 
+-- another input, by where it shows
+all-alike : (n len : ℕ) → n ≤ len → nat_lt n len ≡ false → n ≡ len
+all-alike n len l e = let high = ltb-false n len e in omega arith
+
+same-whole : (xs ys : List ℕ) → alike xs ys ≡ length xs → length ys ≤ length xs → xs ≡ ys
+same-whole xs ys e l =
+    sym (alike-first xs ys e ∙ ap (λ more. xs ++ more) (drop_all (length xs) ys l) ∙ append-nil xs)
+
+input-leads : (sc : Scenario) (new : List ℕ)
+    → LeadsTo (input_effect sc.setup.input new) (run_of sc) (run_of (with_input sc new))
+unfolding first_state input_effect
+input-leads sc new = go (nat_lt (alike sc.setup.input new) (length sc.setup.input))
+    (nat_lt (length sc.setup.input) (length new)) refl refl
+  where
+    go : (b c : Bool) → nat_lt (alike sc.setup.input new) (length sc.setup.input) ≡ b
+        → nat_lt (length sc.setup.input) (length new) ≡ c
+        → LeadsTo (cond b (InputFrom (alike sc.setup.input new)) (cond c End Nowhere)) (run_of sc)
+        (run_of (with_input sc new))
+    go true c h k =
+        let within = alike-within sc.setup.input new in
+        record {
+          start = refl;
+          differ = (
+            record {
+              redzone = refl;
+              volume = refl;
+              hooks = refl;
+              more = ltb-true (alike sc.setup.input new) (length sc.setup.input) h;
+              enough = within.1;
+              bytes = alike-bytes sc.setup.input new;
+            },
+            refl,
+          );
+        }
+    go false true h k =
+        let within = alike-within sc.setup.input new in
+        let all = all-alike (alike sc.setup.input new) (length sc.setup.input) within.0 h in
+        record {
+          start = refl;
+          differ = (
+            record {
+              redzone = refl;
+              volume = refl;
+              hooks = refl;
+              input = (drop (length sc.setup.input) new, alike-first sc.setup.input new all);
+            },
+            refl,
+          );
+        }
+    go false false h k =
+        let within = alike-within sc.setup.input new in
+        let all = all-alike (alike sc.setup.input new) (length sc.setup.input) within.0 h in
+        let same = same-whole sc.setup.input new all (ltb-false (length sc.setup.input) (length new) k) in
+        record { start = refl; differ = ((λ i. record sc.setup { input = same i }), refl) }
+
 pub follows : Follows
 unfolding first_state
 follows sc (Input offset byte) h =
@@ -118,7 +181,7 @@ follows sc (Input offset byte) h =
     }
 follows sc (Append byte) h = record {
   start = refl;
-  differ = (record { redzone = refl; volume = refl; hooks = refl; input = (byte, refl) }, refl);
+  differ = (record { redzone = refl; volume = refl; hooks = refl; input = (byte ∷ [], refl) }, refl);
 }
 follows sc Cut h =
     let some = not_empty (length sc.setup.input) _ h in
@@ -137,6 +200,8 @@ follows sc Cut h =
         refl,
       );
     }
+follows sc (Overwrite offset bytes) h = input-leads sc (overwritten sc.setup.input offset bytes)
+follows sc (Give bytes) h = input-leads sc bytes
 follows sc (Patch addr word) h =
     code-leads sc addr (Word word) (touch_code (profile_of sc.image).isa sc.marks addr 4) refl
 follows sc (PatchHalf addr half) h =
@@ -207,6 +272,11 @@ goes_back sc edit back h e = go edit back h e
         let some = not_empty (length sc.setup.input) _ h in
         along Cut _ back (taken-back _ back e)
         (same-input sc _ (append-cut sc.setup.input (length sc.setup.input - 1) (omega arith)))
+    go (Overwrite offset bytes) back h e =
+        along (Overwrite offset bytes) _ back (taken-back _ back e)
+        (same-input sc _ (overwritten-back sc.setup.input bytes offset
+        (not-beyond (length sc.setup.input) (offset + length bytes) _ h)))
+    go (Give bytes) back h e = along (Give bytes) _ back (taken-back _ back e) refl
     go (Patch addr word) back h e = absurd (cc)
     go (PatchHalf addr half) back h e = absurd (cc)
     go (Mark mark) back h e =

@@ -1,4 +1,5 @@
 pub mod FrontSteps
+pub mod InputSteps
 pub mod EditLaws
 pub mod EditSteps
 pub mod TrailFacts

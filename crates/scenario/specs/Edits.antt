@@ -1,6 +1,6 @@
 -- The one table of edits, and its two laws.
 use Rattle.std.specs.Prelude.{◌≡◌, ℕ, zero, suc, ◌+◌, ◌-◌, ◌^◌, ◌==◌, ◌||◌, nat_le, nat_lt, Bool, true}
-use Rattle.std.specs.Prelude.{false, not, if◌then◌else◌, List, [], ◌∷◌, ◌++◌, length, take, remove, slice_set}
+use Rattle.std.specs.Prelude.{false, not, if◌then◌else◌, List, [], ◌∷◌, ◌++◌, length, take, drop, remove, slice_set}
 use Rattle.std.specs.Prelude.{slice_index_or, map, Option, Some, None}
 use Rattle.guest_elf.specs.Images.{is_half_word, is_word, profile_of}
 use Rattle.guest_elf.specs.Profiles.{has_halves}
@@ -25,7 +25,7 @@ use Rattle.scenario.specs.Limits.{largest_volume}
 use Rattle.scenario.specs.Scenario.{Scenario, run_of}
 use Rattle.commands.specs.declared.edit.Edit.{Edit}
 use Rattle.commands.specs.declared.edit.Edit.TheVariants.{Input, Append, Cut, Patch, Mark, Unmark, Switch, Add, Callers}
-use Rattle.commands.specs.declared.edit.Edit.TheVariants.{PatchHalf, Redzone, Volume, Show}
+use Rattle.commands.specs.declared.edit.Edit.TheVariants.{PatchHalf, Redzone, Volume, Show, Overwrite, Give}
 use Rattle.commands.specs.declared.refusal.Refusal.{Refusal}
 use Rattle.commands.specs.declared.refusal.Refusal.TheVariants.{OutsideInput, InputTooLarge, NotPatchable, StepLimit}
 use Rattle.commands.specs.declared.refusal.Refusal.TheVariants.{BadRange, TooManyMarks, NoSuchMark, NoSuchSuppression}
@@ -60,6 +60,31 @@ mark_refusal marks mark =
 -- with another input
 abbrev pub with_input : Scenario → List ℕ → Scenario
 with_input sc input = record sc { setup = record sc.setup { input = input } }
+
+-- an input with some of its bytes replaced, from an offset on
+abbrev pub overwritten : List ℕ → ℕ → List ℕ → List ℕ
+overwritten input offset bytes = take offset input ++ bytes ++ drop (offset + length bytes) input
+
+-- why bytes from an offset on are rejected for an input of this length, and why an input is
+abbrev pub overwrite_refusal : ℕ → ℕ → List ℕ → Option Refusal
+overwrite_refusal len offset bytes = refused_if (nat_lt len (offset + length bytes)) OutsideInput
+
+abbrev pub give_refusal : List ℕ → Option Refusal
+give_refusal bytes = refused_if (nat_lt longest_input (length bytes)) InputTooLarge
+
+-- the number of bytes with which two inputs begin alike
+unfoldable pub alike : List ℕ → List ℕ → ℕ
+alike [] ys = 0
+alike (x ∷ xs) [] = 0
+alike (x ∷ xs) (y ∷ ys) = if x == y then suc (alike xs ys) else 0
+
+-- where another input shows: at the first byte of the old one that it doesn't have, at the end of the old one if it goes
+-- on there, and nowhere if it is the same
+unfoldable pub input_effect : List ℕ → List ℕ → Effect
+input_effect old new =
+    if nat_lt (alike old new) (length old) then InputFrom (alike old new)
+    else if nat_lt (length old) (length new) then End
+    else Nowhere
 
 -- with a code written into the program
 abbrev pub with_code : Scenario → ℕ → Code → Scenario
@@ -121,6 +146,20 @@ row sc Cut = record {
   effect = InputFrom (length sc.setup.input - 1);
   may_fail = false;
   back = Some (Append (slice_index_or sc.setup.input (length sc.setup.input - 1) 0));
+}
+row sc (Overwrite offset bytes) = record {
+  refusal = overwrite_refusal (length sc.setup.input) offset bytes;
+  after = with_input sc (overwritten sc.setup.input offset bytes);
+  effect = input_effect sc.setup.input (overwritten sc.setup.input offset bytes);
+  may_fail = true;
+  back = Some (Overwrite offset (take (length bytes) (drop offset sc.setup.input)));
+}
+row sc (Give bytes) = record {
+  refusal = give_refusal bytes;
+  after = with_input sc bytes;
+  effect = input_effect sc.setup.input bytes;
+  may_fail = true;
+  back = Some (Give sc.setup.input);
 }
 row sc (Patch addr word) = record {
   refusal = refused_if (not (is_word sc.image addr)) NotPatchable;

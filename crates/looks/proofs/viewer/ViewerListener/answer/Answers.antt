@@ -9,8 +9,14 @@ returns-then-alters c =
     as_read _ _ _ _ (sym c.looks.ensures ∙ c.if-looks.false)
     (rw (sym c.alters.ensures ∙ c.if-alters.true) c.alter.ensures)
 
-pub returns-else-alters : goal.returns-else-alters
+pub returns-then-gives : goal.returns-then-gives
 unfolding reply_of read_as
-returns-else-alters c =
+returns-then-gives c =
     as_read _ _ _ _ (sym c.looks.ensures ∙ c.if-looks.false)
-    (rw (sym c.alters.ensures ∙ c.if-alters.false) c.answer.ensures)
+    (rw (sym c.alters.ensures ∙ c.if-alters.false, sym c.gives.ensures ∙ c.if-gives.true) c.give.ensures)
+
+pub returns-else-gives : goal.returns-else-gives
+unfolding reply_of read_as
+returns-else-gives c =
+    as_read _ _ _ _ (sym c.looks.ensures ∙ c.if-looks.false)
+    (rw (sym c.alters.ensures ∙ c.if-alters.false, sym c.gives.ensures ∙ c.if-gives.false) c.answer.ensures)
