@@ -8,6 +8,7 @@ from dataclasses import dataclass, field
 from typing import List, Tuple
 
 from random_programs import DATA
+from replaycheck.assembly import assemble
 from replaycheck.guest_files import ENTRY
 
 UNIT = "*(char *) 0x7fffffc7"
@@ -18,6 +19,8 @@ NO_MORE = "No more reverse-execution history."
 TRAP = "Program received signal SIGTRAP"
 NO_ADDRESS = "a run goes on from where it is: set pc first"
 NO_STEP = "monitor goto N goes to a step"
+NO_CONTROL = "no edit sets a control register: only an instruction of the program does"
+WITH_CONTROLS = ["--isa", "rv32imac"]
 ENDED = "the program has ended: nothing changes any more"
 ABOVE = "no bytes lie above 2^32"
 FULL = "refused 10: there are 4096 marks already"
@@ -79,6 +82,14 @@ CASES = [
     Case("undefined bits of registers", [*NO_UNIT, "monitor goto 684", "print/x $a1", "print/x $a1s1", "print/x $sps1"],
          ("= 0x0", "= 0xff", "= 0x0")),
     Case("registers by groups", ["info registers general", "info registers shadow"], ("sp ", "0x7ffffff0", "step ", "zeros1 ", "t6s1 ")),
+    Case("control registers", ["monitor goto 100", "info registers csr", "print $mcycle", "print/x $mscratchs1", "set $mscratch = 5",
+         "set $mscratchs1 = 1", "monitor changes"],
+         ("mstatus ", "mscratch ", "mhartid ", "$1 = 100", "$2 = 0x0", NO_CONTROL, NO_CONTROL, "no edits"), options=WITH_CONTROLS),
+    Case("a function is called where there are control registers", [*TO_SHOW, "print (int) strlen(station->name)", "print $mcycle"],
+         ("= 7\n", "= 721"), options=WITH_CONTROLS),
+    Case("a counter counts what is left out", ["monitor goto 5", "monitor skip", "stepi", "print $step", "print $minstret"],
+         ("= 6\n", "= 7\n"), options=WITH_CONTROLS),
+    Case("no control registers for rv32im", ["print $mstatus", "info registers csr"], ("$1 = void",), ("mstatus ",)),
     Case("memory, and code", ["x/2xb 0x20000", "monitor goto 55", "x/2xb 0x20000", "x/i $pc", "output/x *(char *) 0xffffffff"],
          ("0x00\t0x00", "0x01\t0x07", "=> 0x10158 <read+8>:\tret", "0x0")),
     Case("a trace", ["monitor goto 657", "backtrace"], ("#0  0x00010474 in parse", "#1  0x00010674 in main () at")),
@@ -198,6 +209,9 @@ COUNTS = "lui t0, 10; addi t0, t0, -960; again: addi t0, t0, -1; bne t0, zero, a
 PLACE = "20000"
 FULL_BUT_8 = [f"M{PLACE},1ff0:" + "01" * 0x1FF0] * 2  # 4,088 pieces of four bytes
 TURNS = "again: addi t0, t0, 1; j again"
+# A program that has undefined bits in mscratch from step 3 on; packets that ask for mscratch, for its undefined bits, and for no register.
+UNDEFINED = assemble("addi sp, sp, -16; lw a0, 0(sp); csrrw zero, mscratch, a0; nop")
+MSCRATCH, MSCRATCH_BITS, NO_REGISTER = "p47", "p5f", "p72"
 # A label, packets that are sent one after another, and the answer to the last. The program is COUNTS, at step 0; its words stand at
 # 0x10000.
 PACKETS = [

@@ -90,7 +90,7 @@ impl Session {
 
     fn look(&self, fields: &[&str]) -> Result<String, u32> {
         match fields {
-            ["registers"] => {}
+            ["registers" | "controls"] => {}
             ["memory" | "sides", start, len] => {
                 let (start, len) = (number(start)?, number(len)?);
                 require(is_range(start, len) && len <= LONGEST_VIEW, BAD_RANGE)?;

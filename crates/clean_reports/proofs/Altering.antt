@@ -40,11 +40,12 @@ pub if-running : (s t : State) (f g : ℕ → ℕ) (x y : Core) → StatesAgree 
 if-running s t f g x y d done =
     done-if (is_running s.core.status) (is_running t.core.status) (ap is_running d.status) s t f g x y d done
 
--- pc --
+-- pc, and the number of steps --
 
-pub moved-both : (s t : State) (to there : ℕ) → to ≡ there → StatesAgree s t
-    → StatesAgree (with s s.bytes (moved_to s.core to)) (with t t.bytes (moved_to t.core there))
-moved-both s t to there same d = record {
+pub passed-both : (s t : State) (to there m n : ℕ) → to ≡ there → m ≡ n → StatesAgree s t
+    → StatesAgree (with s s.bytes (record (moved_to s.core to) { steps = m }))
+    (with t t.bytes (record (moved_to t.core there) { steps = n }))
+passed-both s t to there m n same counted d = record {
   memory = d.memory;
   registers = d.registers;
   shadow = d.shadow;
@@ -56,13 +57,17 @@ moved-both s t to there same d = record {
   stack = d.stack;
   reserved = d.reserved;
   controls = d.controls;
-  steps = d.steps;
+  steps = counted;
   position = d.position;
   end_seen = d.end_seen;
   output = d.output;
   heap_calls = d.heap_calls;
   events = d.events;
 }
+
+pub moved-both : (s t : State) (to there : ℕ) → to ≡ there → StatesAgree s t
+    → StatesAgree (with s s.bytes (moved_to s.core to)) (with t t.bytes (moved_to t.core there))
+moved-both s t to there same d = passed-both s t to there s.core.steps t.core.steps same d.steps d
 
 -- registers --
 

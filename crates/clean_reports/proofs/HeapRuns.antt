@@ -84,7 +84,7 @@ left-by (Jump target) c f none = goes c target
 left-by (FlipPc mask) c f none = goes c _
 left-by (Write addr width value) c f none = stores c addr _ 0
 left-by (Turn addr mask) c f none = as-is c
-left-by Skip c f none = goes c _
+left-by Skip c f none = record { blocks = refl; stack = refl; same = λ a low high. refl }
 
 -- a mark that hides nothing keeps the heap open
 open-act : (s : State) (step : ℕ) (act : Act) → HidesNothing s.core.blocks.begin act → HeapIsOpen s.core

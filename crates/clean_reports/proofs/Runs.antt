@@ -11,10 +11,10 @@ use Rattle.shadow_memory.specs.declared.cells.RangeKind.TheVariants.{Defined}
 use Rattle.run_values.specs.declared.alteration.Act.{Act}
 use Rattle.run_values.specs.declared.alteration.Act.TheVariants.{Make, Set, Flip, Jump, FlipPc, Write, Turn, Skip}
 use Rattle.run_values.specs.declared.alteration.Alteration.{Alteration}
-use Rattle.guest_elf.specs.Profiles.{has_halves}
+use Rattle.guest_elf.specs.Profiles.{has_controls, has_halves}
 use Rattle.guest_machine.specs.State.{State}
 use Rattle.guest_machine.specs.Effects.{next_of}
-use Rattle.guest_machine.specs.Exec.{exec, half_at}
+use Rattle.guest_machine.specs.Exec.{exec, half_at, steps_on}
 use Rattle.guest_machine.specs.Alterations.{altered, altered_bytes, altered_core, len_here}
 use Rattle.guest_machine.specs.Run.{marks_at, after_marks, pre, post}
 use Rattle.guest_machine.specs.declared.setup.Setup.{Setup}
@@ -26,7 +26,8 @@ use Rattle.clean_reports.specs.Uses.{NoUse}
 use Rattle.clean_reports.specs.Heap.{BlocksAreOpen}
 use Rattle.clean_reports.specs.Disturbed.{IsDisturbed}
 use Rattle.clean_reports.specs.Marks.{DefineNothing, DefinesNothing, defines}
-use Rattle.clean_reports.proofs.Altering.{flip-both, if-running, moved-both, same-agrees, set-both, turn-both}
+use Rattle.clean_reports.proofs.Altering.{flip-both, if-running, moved-both, passed-both, same-agrees, set-both}
+use Rattle.clean_reports.proofs.Altering.{turn-both}
 use Rattle.clean_reports.proofs.Memory.{made-agrees}
 use Rattle.clean_reports.proofs.Registers.{left-none}
 use Rattle.clean_reports.proofs.Steps.{StepAgrees}
@@ -124,6 +125,10 @@ skipped-both s t none d =
     ∙ sym (never-half t.core.isa (half_at t.core t.bytes) other) in
     λ i. (d.pc i + cond (halves i) 2 4) % 2 ^ 32
 
+-- and counts in both, or in neither
+counted-both : (s t : State) → StatesAgree s t → steps_on s.core ≡ steps_on t.core
+counted-both s t d = λ i. cond (has_controls (d.isa i)) ((d.steps i + 1) % 2 ^ 64) (d.steps i)
+
 act-agrees : (s t : State) (step : ℕ) (act : Act) → DefinesNothing s.core.isa act → StatesAgree s t
     → StatesAgree (altered s (record { step = step; act = act })) (altered t (record { step = step; act = act }))
 unfolding altered altered_core altered_bytes
@@ -155,7 +160,8 @@ act-agrees s t step (FlipPc mask) loose d =
 act-agrees s t step (Write addr width value) loose d = absurd loose
 act-agrees s t step (Turn addr mask) small d = if-running s t _ _ _ _ d (turn-both s t addr mask small d)
 act-agrees s t step Skip none d =
-    if-running s t _ _ _ _ d (moved-both s t _ _ (skipped-both s t none d) d)
+    if-running s t _ _ _ _ d
+    (passed-both s t _ _ (steps_on s.core) (steps_on t.core) (skipped-both s t none d) (counted-both s t d) d)
 
 -- the marks of step k, in order
 marks-agree : (k : ℕ) (marks : List Alteration) (s t : State) → DefineNothing s.core.isa marks → StatesAgree s t

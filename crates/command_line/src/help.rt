@@ -154,7 +154,7 @@ These lines alter the machine just before step STEP, where it runs. They count a
                                    to 255 turns the byte at ADDR only
   write STEP ADDR LEN VALUE        writes LEN bytes, 1, 2 or 4, the lowest first; they are defined
                                    where they are accessible
-  skip STEP                        leaves out an instruction; it takes no step, but counters count it
+  skip STEP                        leaves out an instruction: no step, but counters count it
 Such a line is answered `ok`, or refused: 2 as above, 5 for a STEP above 4194304, 6 for another
 LEN, bytes that end above 2^32 or a VALUE too wide for LEN, 10 for more than 4096 in the list.
 

@@ -32,6 +32,15 @@ class Seen:
 
 
 @dataclass(frozen=True)
+class Control:
+    """What a control register was at a step."""
+
+    name: str
+    value: int
+    undefined: int
+
+
+@dataclass(frozen=True)
 class Bytes:
     """Bytes of memory, and two digits for the undefined bits of each: NO_ACCESS where there is none."""
 
@@ -51,6 +60,7 @@ class Run:
     def forget(self):
         """Forgets what was seen, as an edit may have changed it."""
         self.seen_at, self.seen, self.last_step, self.totals = None, None, None, {}
+        self.controls_at, self.controls_seen = None, []
 
     # ---- lines
 
@@ -126,6 +136,15 @@ class Run:
         self.at(max(0, self.end() - 1))
         state = self.look("registers")[0]
         return int(state.split()[2], 16)
+
+    def controls(self) -> List[Control]:
+        """The control registers that a look shows: none in an instruction set without them."""
+        if self.step != self.controls_at:
+            self.at(self.step)
+            rows = [row.split() for row in self.look("controls")]
+            self.controls_seen = [Control(row[0], int(row[1], 16), int(row[2], 16)) for row in rows if len(row) == 3]
+            self.controls_at = self.step
+        return self.controls_seen
 
     def memory(self, address, length):
         """The bytes of a range, up to 2^32."""

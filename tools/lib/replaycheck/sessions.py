@@ -8,8 +8,9 @@ from replaycheck.regions import USUAL_REGIONS
 AT_ONCE = 1000
 # The first words of lines that append to the list of marks, in which `unmark` counts.
 MARKS = ("mark", "set", "write", "flip", "skip")
-# How many lines the reply to a look has, by the look's first word; to any other one it has one.
-LONG_LOOKS = {"registers": 32, "memory": 2}
+# How many lines the reply to a look has, by the look's first word; to any other one it has one. A line that begins so is a whole reply.
+LONG_LOOKS = {"registers": 32, "controls": 24, "memory": 2}
+WHOLE = ("refused ", "none")
 
 
 class Session:
@@ -43,7 +44,7 @@ class Session:
         reply = [self.read()]
         if line.startswith("look "):
             word = (line.split() + [""])[1]
-            more = 0 if reply[0].startswith("refused ") else LONG_LOOKS.get(word, 1) - 1
+            more = 0 if reply[0].startswith(WHOLE) else LONG_LOOKS.get(word, 1) - 1
             reply += [self.read() for _ in range(more)]
         elif reply[0].startswith("step "):
             while not reply[-1].startswith("ERROR SUMMARY: "):

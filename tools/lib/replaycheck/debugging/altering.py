@@ -6,13 +6,14 @@ from replaycheck.endings import Fault
 from replaycheck.looking import Seen, TOP
 from replaycheck.sessions import MARKS
 
-from .registers import NAMES, PC, SHADOWS, STEP, value_of
+from .registers import CONTROLS, NAMES, PC, SHADOWS, STEP, value_of
 
 SIZES = (4, 2, 1)  # bytes that one line writes
 ENDED = "the program has ended: nothing changes any more"
 NO_ZERO = "zero stays 0"
 ABOVE = "no bytes lie above 2^32"
 NO_STEP = "monitor goto N goes to a step"
+NO_CONTROL = "no edit sets a control register: only an instruction of the program does"
 
 
 class Unaltered(Fault):
@@ -66,12 +67,14 @@ class Alterer:
     def set_register(self, number, value):
         """Sets one of the registers that gdb is told of. A value that stands and is defined already makes no line."""
         seen, step = self.run.registers(), self.run.step
-        if value_of(number, seen, step) == value and not (number < PC and seen.undefined[number]):
+        if value_of(number, self.run) == value and not (number < PC and seen.undefined[number]):
             return
         if number == STEP:
             raise Unaltered(NO_STEP)
         if number in (0, SHADOWS):
             raise Unaltered(NO_ZERO)
+        if number >= CONTROLS:
+            raise Unaltered(NO_CONTROL)
         if self.stop.step != step:
             self.stop = Stop(step)
         self.stop.seen.append(seen)

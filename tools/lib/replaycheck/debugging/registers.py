@@ -6,6 +6,7 @@ POINTERS = {"sp", "gp", "tp", "fp"}
 PC = len(NAMES)
 STEP = PC + 1
 SHADOWS = STEP + 1  # the undefined bits of each, under Valgrind's names: a0s1 of a0
+CONTROLS = SHADOWS + len(NAMES)  # the control registers that a look shows, and then the undefined bits of each
 
 HEAD = """<?xml version="1.0"?>
 <!DOCTYPE target SYSTEM "gdb-target.dtd">
@@ -24,13 +25,18 @@ def feature(name, registers):
     return f'<feature name="{name}">\n{"".join(registers)}</feature>\n'
 
 
-def description():
-    """What gdb is told of the registers."""
+def description(controls=()):
+    """What gdb is told of the registers, where there are control registers of these names."""
     plain = [register(it, number, "data_ptr" if it in POINTERS else "int") for number, it in enumerate(NAMES)]
     plain.append(register("pc", PC, "code_ptr"))
     own = [register("step", STEP, "uint32", "general")]
     own += [register(it + "s1", SHADOWS + number, "uint32", "shadow") for number, it in enumerate(NAMES)]
-    return HEAD + feature("org.gnu.gdb.riscv.cpu", plain) + feature("org.replaycheck.run", own) + "</target>\n"
+    own += [register(it + "s1", CONTROLS + len(controls) + number, "uint32", "shadow") for number, it in enumerate(controls)]
+    parts = feature("org.gnu.gdb.riscv.cpu", plain) + feature("org.replaycheck.run", own)
+    if controls:
+        kept = [register(it, CONTROLS + number, "int", "csr") for number, it in enumerate(controls)]
+        parts += feature("org.gnu.gdb.riscv.csr", kept)
+    return HEAD + parts + "</target>\n"
 
 
 def in_hexadecimal(value):
@@ -38,12 +44,16 @@ def in_hexadecimal(value):
     return value.to_bytes(4, "little").hex()
 
 
-def value_of(number, seen, step):
-    """The value of a register by its number, where there is one, in what was seen at a step."""
+def value_of(number, run):
+    """The value of a register by its number, where there is one, at the step of a run."""
     if number < PC:
-        return seen.values[number]
+        return run.registers().values[number]
     if number == PC:
-        return seen.pc
+        return run.registers().pc
     if number == STEP:
-        return step
-    return seen.undefined[number - SHADOWS] if number < SHADOWS + len(NAMES) else None
+        return run.step
+    if number < CONTROLS:
+        return run.registers().undefined[number - SHADOWS]
+    controls = run.controls()
+    values = [it.value for it in controls] + [it.undefined for it in controls]
+    return values[number - CONTROLS] if number - CONTROLS < len(values) else None

@@ -32,7 +32,7 @@ class Stub:
             "M": self.write, "P": self.set_register, "G": self.set_registers, "c": self.refuse, "s": self.refuse,
             "C": lambda text: self.go("c", text), "S": lambda text: self.go("s", text),
             "H": lambda _: "OK", "T": lambda _: "OK", "D": lambda _: "OK", "?": lambda _: self.stopped()}
-        self.by_words = {"qSupported": lambda _: SUPPORTED, TARGET: lambda text: part(description(), text),
+        self.by_words = {"qSupported": lambda _: SUPPORTED, TARGET: self.described,
                          "vCont;": self.continued, "qRcmd,": self.command}
 
     def serve(self):
@@ -103,12 +103,14 @@ class Stub:
 
     # ---- what there is
 
+    def described(self, text):
+        return part(description([it.name for it in self.run.controls()]), text)
+
     def all_registers(self, _):
-        seen = self.run.registers()
-        return "".join(in_hexadecimal(value_of(it, seen, self.run.step)) for it in range(PC + 1))
+        return "".join(in_hexadecimal(value_of(it, self.run)) for it in range(PC + 1))
 
     def one_register(self, text):
-        value = value_of(numbers(text, 1)[0], self.run.registers(), self.run.step)
+        value = value_of(numbers(text, 1)[0], self.run)
         return "E01" if value is None else in_hexadecimal(value)
 
     def memory(self, text):
@@ -123,7 +125,7 @@ class Stub:
     def set_register(self, text):
         number, _, value = text.partition("=")
         number = numbers(number, 1)[0]
-        if value_of(number, self.run.registers(), self.run.step) is None:
+        if value_of(number, self.run) is None:
             return "E01"
         self.alterer.set_register(number, *words_of(value, 1))
         return "OK"
