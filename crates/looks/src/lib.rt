@@ -53,18 +53,19 @@
 //! | `bytes A HEX` | replaces the bytes of the input from offset A on |
 //! | `bytes is HEX`, `bytes is` | makes these bytes the whole input, or makes it empty |
 //!
-//! A line is rejected with the first of these numbers that applies: 12 and 11 as a line of a session; 2 for a field that is missing, too many
-//! or of another form; 3 for bytes beyond the input; 14 for an input of more than 1,048,576 bytes; 1 if memory runs out.
+//! A line is rejected with the first of these numbers that applies: 12 and 11 as a line of a session; 2 for a field that is missing, too
+//! many or of another form; 3 for bytes beyond the input; 14 for an input of more than 1,048,576 bytes; 1 if memory runs out.
 //!
 //! # What a caller can rely on
 //!
 //! [`serve`]: what was written is the replies to the lines of all bytes read (`ViewsLines`). The reply to a line that looks is what holds
 //! at the chosen step of **one run from step zero of the edited program** (`Tells`), and the line leaves the session's turn as it is. The
 //! work is moved as by a report there, except that a verdict executes further steps. The reply to any other line is that of a session
-//! (`RepliesAs`) to the command as which it is read (`read_as`): a line that alters is the edit that appends its alteration to the marks, and one
-//! that gives the input bytes is the edit that puts them there.
+//! (`RepliesAs`) to the command as which it is read (`read_as`): a line that alters is the edit that appends its alteration to the marks,
+//! and one that gives the input bytes is the edit that puts them there.
 //!
-//! In `specs/`: `Views`, the reply to a look and to any other line, over `Looks`, `Texts`, `Alterations` and `Inputs` of the crate `look_lines`.
+//! In `specs/`: `Views`, the reply to a look and to any other line, over `Looks`, `Texts`, `Alterations` and `Inputs` of the crate
+//! `look_lines`.
 #![tactic(auto)]
 
 mod serving;
