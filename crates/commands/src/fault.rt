@@ -11,8 +11,8 @@ use thiserror::Error;
 /// Why a line is rejected. A rejected line changes nothing but the number of lines.
 #[derive(Clone, Copy, Debug, PartialEq, Eq, Error)]
 pub enum Fault {
-    /// Memory ran out, at a report, a patch, a mark, a new suppression or bytes that the input is given, and there is no other reason to
-    /// reject the line.
+    /// Memory ran out, at a report, a patch, a mark, a new suppression or bytes that the input is given, and there is no other reason
+    /// to reject the line.
     #[error("no memory")]
     Memory,
     /// An unknown word, another number of fields, an empty field, or one of another form; or `patch16` where there are no instructions of 16

@@ -1,7 +1,7 @@
 -- The bytes that digits write, and how a line that gives them is read.
-use Rattle.std.proofs.Common.{◌≡◌, ℕ, zero, suc, ◌+◌, ◌*◌, ◌/◌, ◌<◌, ◌≤◌, nat_lt, Bool, true, false, cond, List, [], ◌∷◌, ◌++◌, length}
-use Rattle.std.proofs.Common.{drop, get_or, Option, Some, Result, Ok, Err, refl, ap, sym, ◌∙◌, subst, arith}
-use Rattle.std.proofs.Common.{append_assoc, append-nil}
+use Rattle.std.proofs.Common.{◌≡◌, ℕ, zero, suc, ◌+◌, ◌*◌, ◌/◌, ◌<◌, ◌≤◌, nat_lt, Bool, true, false, cond, List, []}
+use Rattle.std.proofs.Common.{◌∷◌, ◌++◌, length, drop, get_or, Option, Some, Result, Ok, Err, refl, ap, sym}
+use Rattle.std.proofs.Common.{◌∙◌, subst, arith, append_assoc, append-nil}
 use Rattle.std.specs.Prelude.{◌⊎◌}
 use Rattle.std.specs.Char.{digit_value}
 use Rattle.std.specs.List.{list_all}
@@ -84,13 +84,15 @@ made : (b : Bool) (refusal : Refusal) (edit : Edit) (result : Result Edit Fault)
 made b refusal edit result e h = subst (λ (t : Bool). Makes (refused_if t refusal) edit result) (sym e) h
 
 module _ (len : ℕ) (hex : List ℕ) where
-  pub give-bad : is_hex hex ≡ false → ReadsFor len (give_of hex) (Err BadCommand)
-  give-bad e = subst (λ (b : Bool). ReadsFor len (cond b (Ok (Give (bytes_of hex))) (Err BadCommand)) (Err BadCommand)) (sym e) refl
+  by : (b : Bool) (result : Result Edit Fault) → is_hex hex ≡ b
+      → ReadsFor len (cond b (Ok (Give (bytes_of hex))) (Err BadCommand)) result → ReadsFor len (give_of hex) result
+  by b result e h =
+      subst (λ (t : Bool). ReadsFor len (cond t (Ok (Give (bytes_of hex))) (Err BadCommand)) result) (sym e) h
 
   pub give-refused : is_hex hex ≡ true → longest_input < length hex / 2 → ReadsFor len (give_of hex) (Err InputTooLarge)
   give-refused e l =
       let size = bytes-len hex in
-      subst (λ (b : Bool). ReadsFor len (cond b (Ok (Give (bytes_of hex))) (Err BadCommand)) (Err InputTooLarge)) (sym e)
+      by true (Err InputTooLarge) e
       (refused (nat_lt longest_input (length (bytes_of hex))) Refused.InputTooLarge (Give (bytes_of hex))
       (lt-ltb longest_input (length (bytes_of hex)) (omega arith)))
 
@@ -99,7 +101,7 @@ module _ (len : ℕ) (hex : List ℕ) where
       → ReadsFor len (give_of hex) result
   give-made result e l h =
       let size = bytes-len hex in
-      subst (λ (b : Bool). ReadsFor len (cond b (Ok (Give (bytes_of hex))) (Err BadCommand)) result) (sym e)
+      by true result e
       (made (nat_lt longest_input (length (bytes_of hex))) Refused.InputTooLarge (Give (bytes_of hex)) result
       (le-ltb longest_input (length (bytes_of hex)) (omega arith)) h)
 
@@ -111,9 +113,6 @@ module _ (len : ℕ) (hex : List ℕ) where
         subst (λ (p : Option ℕ). ReadsFor len (overwrite_with p hex) result) (sym is)
         (subst (λ (t : Bool). ReadsFor len (cond t (Ok (Overwrite offset (bytes_of hex))) (Err BadCommand)) result)
         (sym e) h)
-
-    pub overwrite-bad : is_hex hex ≡ false → ReadsFor len (overwrite_with place hex) (Err BadCommand)
-    overwrite-bad e = at false (Err BadCommand) e refl
 
     pub overwrite-refused : is_hex hex ≡ true → len < offset + length hex / 2
         → ReadsFor len (overwrite_with place hex) (Err OutsideInput)
@@ -129,5 +128,5 @@ module _ (len : ℕ) (hex : List ℕ) where
     overwrite-made result e l h =
         let size = bytes-len hex in
         at true result e
-        (made (nat_lt len (offset + length (bytes_of hex))) Refused.OutsideInput (Overwrite offset (bytes_of hex)) result
-        (le-ltb len (offset + length (bytes_of hex)) (omega arith)) h)
+        (made (nat_lt len (offset + length (bytes_of hex))) Refused.OutsideInput (Overwrite offset (bytes_of hex))
+        result (le-ltb len (offset + length (bytes_of hex)) (omega arith)) h)

@@ -1,6 +1,6 @@
 -- A line that gives the input bytes is answered as it asks, once it is answered as it was read.
-use Rattle.std.proofs.Common.{◌≡◌, ◌∙◌, ℕ, Bool, true, List, length, Option, Some, None, Result, Ok, Err, inl, inr, refl, ap}
-use Rattle.std.proofs.Common.{sym, subst}
+use Rattle.std.proofs.Common.{◌≡◌, ◌∙◌, ℕ, Bool, true, List, length, Option, Some, None, Result, Ok, Err, inl, inr}
+use Rattle.std.proofs.Common.{refl, ap, sym, subst}
 use Rattle.std.specs.Prelude.{option_map}
 use Rattle.checkpoints.specs.Edits.{MayShorten as ShortenedBy}
 use Rattle.checkpoints.specs.declared.effect.Effect.{Effect}
@@ -66,7 +66,8 @@ module _ (old new : Stage) (line text : List ℕ) where
 
   stays : (one other : List ℕ) (before after : Bool) → after ≡ before
       → ShortenedBy (input_effect one other) before after
-  stays one other before after same = of-input (λ effect. ShortenedBy effect before after) same same (λ n. same) one other
+  stays one other before after same =
+      of-input (λ effect. ShortenedBy effect before after) same same (λ n. same) one other
 
   pub as_asked : (says read : Result AnEdit Fault) → ReadsFor (length old.turn.scenario.setup.input) says read
       → Answered (accepted_as old.turn line (giving read)) → Answered (accepted_as old.turn line (giving says))
@@ -80,6 +81,6 @@ module _ (old new : Stage) (line text : List ℕ) where
       })
       (overwrite_refusal (length old.turn.scenario.setup.input) offset bytes) refl is replied
   as_asked (Ok (Give bytes)) read is replied =
-      made (Give bytes) read (record { may = refl; whole = stays old.turn.scenario.setup.input bytes }) (give_refusal bytes)
-      refl is replied
+      made (Give bytes) read (record { may = refl; whole = stays old.turn.scenario.setup.input bytes })
+      (give_refusal bytes) refl is replied
   as_asked (Ok _) read is replied = absurd is

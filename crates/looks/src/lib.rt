@@ -58,8 +58,8 @@
 //! | `bytes A HEX` | replaces the bytes of the input from offset A on |
 //! | `bytes is HEX`, `bytes is` | makes these bytes the whole input, or makes it empty |
 //!
-//! A line is rejected with the first of these numbers that applies: 12 and 11 as a line of a session; 2 for a field that is missing, too many
-//! or of another form; 3 for bytes beyond the input; 14 for an input of more than 1,048,576 bytes; 1 if memory runs out.
+//! A line is rejected with the first of these numbers that applies: 12 and 11 as a line of a session; 2 for a field that is missing, too
+//! many or of another form; 3 for bytes beyond the input; 14 for an input of more than 1,048,576 bytes; 1 if memory runs out.
 //!
 //! # What a caller can rely on
 //!

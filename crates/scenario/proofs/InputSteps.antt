@@ -1,11 +1,11 @@
 -- Two inputs: how many bytes they begin with alike, and where one shows in place of the other.
 use Rattle.std.proofs.Common.{◌≡◌, ℕ, zero, suc, ◌+◌, ◌<◌, ◌≤◌, ◌==◌, nat_lt, Bool, true, false, cond, List, [], ◌∷◌}
-use Rattle.std.proofs.Common.{◌++◌, length, take, drop, get_or, Some, inl, inr, refl, ap, sym, ◌∙◌, subst, arith, append_assoc}
-use Rattle.std.proofs.Common.{◌-◌, min}
+use Rattle.std.proofs.Common.{◌++◌, length, take, drop, get_or, Some, inl, inr, refl, ap, sym, ◌∙◌, subst, arith}
+use Rattle.std.proofs.Common.{append_assoc, ◌-◌, min}
 use Rattle.std.specs.Prelude.{slice_get}
 use Rattle.std.proofs.lemmas.Bool.{cases_lt, eqb-true, eq-eqb, lt-ltb, le-ltb}
-use Rattle.std.proofs.lemmas.List.{length-append, length-drop, length-take-le, take-append-drop, take_all, take_at, drop-drop, drop_all}
-use Rattle.std.proofs.lemmas.List.{drop_at, drop_more, take_rest}
+use Rattle.std.proofs.lemmas.List.{length-append, length-drop, length-take-le, take-append-drop, take_all, take_at}
+use Rattle.std.proofs.lemmas.List.{drop-drop, drop_all, drop_at, drop_more, take_rest}
 use Rattle.checkpoints.specs.declared.effect.Effect.{Effect}
 use Rattle.checkpoints.specs.declared.effect.Effect.TheVariants.{Nowhere, Input, End}
 use Rattle.scenario.specs.Edits.{alike, input_effect, overwritten}
@@ -58,7 +58,8 @@ alike-second xs [] e = refl
 alike-second [] (y ∷ ys) e = absurd (omega arith)
 alike-second (x ∷ xs) (y ∷ ys) e =
     let same = all-same (x == y) (alike xs ys) (length ys) e in
-    ap (λ z. z ∷ (ys ++ drop (length ys) xs)) (sym (eqb-true x y same.0)) ∙ ap (λ zs. x ∷ zs) (alike-second xs ys same.1)
+    ap (λ z. z ∷ (ys ++ drop (length ys) xs)) (sym (eqb-true x y same.0))
+    ∙ ap (λ zs. x ∷ zs) (alike-second xs ys same.1)
 
 pub alike-self : (xs : List ℕ) → alike xs xs ≡ length xs
 unfolding alike
@@ -84,18 +85,6 @@ alike-longer [] ys more l = refl
 alike-longer (x ∷ xs) [] more l = absurd (omega arith)
 alike-longer (x ∷ xs) (y ∷ ys) more l =
     still (x == y) (alike xs ys) (alike xs (ys ++ more)) (length ys) (alike-longer xs ys more) l
-
--- ---- byte after byte
-
-begun : (x y : ℕ) (xs ys : List ℕ) → x ≡ y → alike (x ∷ xs) (y ∷ ys) ≡ suc (alike xs ys)
-unfolding alike
-begun x y xs ys e = ap (λ b. cond b (suc (alike xs ys)) 0) (eq-eqb x y e)
-
-pub alike-next : (xs ys : List ℕ) (n : ℕ) → n < length xs → n < length ys → get_or xs n 0 ≡ get_or ys n 0
-    → alike (drop n xs) (drop n ys) ≡ suc (alike (drop (n + 1) xs) (drop (n + 1) ys))
-alike-next xs ys n l m e =
-    (λ i. alike (drop_more xs n 0 l i) (drop_more ys n 0 m i))
-    ∙ begun (get_or xs n 0) (get_or ys n 0) (drop (n + 1) xs) (drop (n + 1) ys) e
 
 none-left : (xs : List ℕ) → alike xs [] ≡ 0
 unfolding alike

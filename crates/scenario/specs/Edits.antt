@@ -78,8 +78,8 @@ alike [] ys = 0
 alike (x ∷ xs) [] = 0
 alike (x ∷ xs) (y ∷ ys) = if x == y then suc (alike xs ys) else 0
 
--- where another input shows: at the first byte of the old one that it doesn't have, at the end of the old one if it goes
--- on there, and nowhere if it is the same
+-- where another input shows: at the first byte of the old one that it doesn't have, at the old one's end if it goes on
+-- there, and nowhere if it is the same
 unfoldable pub input_effect : List ℕ → List ℕ → Effect
 input_effect old new =
     if nat_lt (alike old new) (length old) then InputFrom (alike old new)

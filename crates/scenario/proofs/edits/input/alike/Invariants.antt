@@ -5,7 +5,8 @@ use Rattle.scenario.proofs.edits.input.alike.Given as goal
 
 abbrev pub invariant-loop-n : goal.invariant-loop-n
 invariant-loop-n l =
-    (l.n ≤ length l.one) × (l.n ≤ length l.other) × (alike l.one l.other ≡ l.n + alike (drop l.n l.one) (drop l.n l.other))
+    (l.n ≤ length l.one) × (l.n ≤ length l.other)
+    × (alike l.one l.other ≡ l.n + alike (drop l.n l.one) (drop l.n l.other))
 
 abbrev pub decreases-loop-n : goal.decreases-loop-n
 decreases-loop-n l = length l.one - l.n
