@@ -12,10 +12,11 @@ use Rattle.commands.specs.declared.fault.Fault.{Fault}
 use Rattle.commands.specs.declared.fault.Fault.TheVariants.{BadCommand, BadRange, StepLimit}
 use Rattle.look_lines.specs.declared.look.Look.{Look}
 use Rattle.look_lines.specs.declared.look.Search.{Search}
-use Rattle.look_lines.specs.declared.look.Look.TheVariants.{Registers, Memory, Output, Input, Next, Last, Certify}
+use Rattle.look_lines.specs.declared.look.Look.TheVariants.{Registers, Memory, Output, Sides, Input, Next, Last}
+use Rattle.look_lines.specs.declared.look.Look.TheVariants.{Certify}
 
--- the greatest number of bytes that a look at memory or at the output may show, and that a search for a change of what
--- is known of them may watch
+-- the greatest number of bytes that a look at memory, at the output or at sides may show, and that a search for a change
+-- of what is known of them may watch
 abbrev pub longest_view : ℕ
 longest_view = 4096
 
@@ -46,7 +47,7 @@ unfoldable pub bare : Look → List (List ℕ) → Option Look
 bare look [] = Some look
 bare look (field ∷ more) = None
 
--- the range of `memory ADDR LEN`, and of `output FROM LEN`
+-- the range of `memory ADDR LEN`, of `output FROM LEN` and of `sides ADDR LEN`
 unfoldable pub range_of : List (List ℕ) → Option Span
 range_of (start ∷ len ∷ []) = span_with (number start) (number len)
 range_of _ = None
@@ -68,6 +69,7 @@ look_of word more =
     if bytes_eq word (codes "registers") then bare Registers more
     else if bytes_eq word (codes "memory") then option_map (λ range. Memory range) (range_of more)
     else if bytes_eq word (codes "output") then option_map (λ range. Output range) (range_of more)
+    else if bytes_eq word (codes "sides") then option_map (λ range. Sides range) (range_of more)
     else if bytes_eq word (codes "input") then bare Input more
     else if bytes_eq word (codes "next") then option_map (λ search. Next search) (search_of more)
     else if bytes_eq word (codes "last") then option_map (λ search. Last search) (search_of more)
@@ -108,6 +110,7 @@ abbrev pub look_refusal : Look → Option Fault
 look_refusal Registers = None
 look_refusal (Memory range) = if is_view range then None else Some BadRange
 look_refusal (Output range) = if is_view range then None else Some BadRange
+look_refusal (Sides range) = if is_view range then None else Some BadRange
 look_refusal Input = None
 look_refusal (Next search) = search_refusal search
 look_refusal (Last search) = search_refusal search

@@ -2,6 +2,7 @@
 use Rattle.std.specs.Prelude.{ℕ, zero, suc, ◌+◌, if◌then◌else◌, List, [], ◌++◌, Option, Some, None, codes, decimal}
 use Rattle.std.specs.List.{flat_map}
 use Rattle.checkpoints.specs.Outputs.{part}
+use Rattle.checkpoints.specs.declared.sides.Sides.{Sides}
 use Rattle.definedness.specs.declared.Bits.{Bits}
 use Rattle.guest_machine.specs.Registers.{register}
 use Rattle.guest_machine.specs.State.{Core, State}
@@ -52,6 +53,14 @@ bytes_line bytes = codes "bytes " ++ flat_map byte_text bytes ++ newline
 -- the bytes of the output in a range of positions: those that there are
 abbrev pub output_text : State → Span → List ℕ
 output_text s range = bytes_line (part range s.output)
+
+-- a digit that says what a run has done with an instruction: 1 if it went on behind it, 2 if elsewhere, 3 both, 0 none
+abbrev pub side_digit : Sides → ℕ
+side_digit sides = (if sides.on then 1 else 0) + (if sides.away then 2 else 0)
+
+-- the digits of a table
+unfoldable pub sides_text : List Sides → List ℕ
+sides_text table = codes "sides " ++ flat_map (λ sides. decimal (side_digit sides)) table ++ newline
 
 -- the number of bytes of the input that were read, the number of its bytes, and whether a read has asked for more than
 -- were left

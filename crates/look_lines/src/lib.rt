@@ -3,10 +3,10 @@
 //! | Item | What it is |
 //! |---|---|
 //! | [`asked`] | reads a line as a [`Look`], or returns why it is rejected |
-//! | [`Look`], [`Search`] | what is asked: registers, memory, the output, the input, the next or the last step that does something, whether the run is clean |
+//! | [`Look`], [`Search`] | what is asked: registers, memory, the output, which instructions the run has executed, the input, the next or the last step that does something, whether the run is clean |
 //! | [`alters`], [`alteration_asked`] | whether a line alters the machine at a step; reads it as an alteration, or returns why it is rejected |
 //! | [`push_registers`], [`push_memory`], [`push_input`] | append the reply on a machine |
-//! | [`push_output`], [`push_step`] | append the reply on bytes of the output, or on a step that was found |
+//! | [`push_output`], [`push_sides`], [`push_step`] | append the reply on bytes of the output, on instructions that were executed, or on a step that was found |
 //!
 //! This crate is separate from `looks`, which lists the lines and serves them over a session. In `specs/`: `Looks`, the lines; `Texts`, the
 //! replies to them; `Alterations`, the lines that alter.
@@ -22,4 +22,4 @@ mod texts;
 pub use altering::{alteration_asked, alters};
 pub use look::{Look, Search};
 pub use parsing::asked;
-pub use texts::{push_input, push_memory, push_output, push_registers, push_step};
+pub use texts::{push_input, push_memory, push_output, push_registers, push_sides, push_step};

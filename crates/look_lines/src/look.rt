@@ -20,6 +20,8 @@ pub enum Look {
     Memory(Span),
     /// The bytes of the output in a range of positions.
     Output(Span),
+    /// What the run has done with each instruction of a range.
+    Sides(Span),
     /// How far the input was read, of how many bytes, and whether its end was seen.
     Input,
     /// The first step, from the chosen one on, that does what is sought.

@@ -26,6 +26,8 @@ const MEMORY: &[u8] = b"memory";
 
 const OUTPUT: &[u8] = b"output";
 
+const SIDES: &[u8] = b"sides";
+
 const INPUT: &[u8] = b"input";
 
 const NEXT: &[u8] = b"next";
@@ -34,7 +36,7 @@ const LAST: &[u8] = b"last";
 
 const CERTIFY: &[u8] = b"certify";
 
-/// The greatest number of bytes that a look at memory or at the output may show, and that a search for a change of what is known of them
+/// The greatest number of bytes that a look at memory, at the output or at sides may show, and that a search for a change of what is known of them
 /// may watch.
 const LONGEST_VIEW: u32 = 4096;
 
@@ -78,7 +80,7 @@ fn bare(look: Look, mut fields: Parts<'_>) -> Option<Look>
     }
 }
 
-/// The range of `memory ADDR LEN`, and of `output FROM LEN`.
+/// The range of `memory ADDR LEN`, of `output FROM LEN` and of `sides ADDR LEN`.
 #[tactic(auto, unfolding(crate::specs::Looks::range_of))]
 fn range_of(mut fields: Parts<'_>) -> Option<Span>
     ensures { result ≡ range_of fields.entry }
@@ -123,6 +125,8 @@ fn look_of(word: &[u8], fields: Parts<'_>) -> Option<Look>
         Some(Look::Memory(range_of(fields)?))
     } else if word == OUTPUT {
         Some(Look::Output(range_of(fields)?))
+    } else if word == SIDES {
+        Some(Look::Sides(range_of(fields)?))
     } else if word == INPUT {
         bare(Look::Input, fields)
     } else if word == NEXT {
@@ -188,7 +192,7 @@ fn look_refusal(look: Look) -> Option<Fault>
 {
     match look {
         Look::Registers | Look::Input | Look::Certify => None,
-        Look::Memory(range) | Look::Output(range) => {
+        Look::Memory(range) | Look::Output(range) | Look::Sides(range) => {
             if is_view(range) {
                 None
             } else {

@@ -1,13 +1,14 @@
 //! The replies to looks, as text.
-ghost use Rattle.std.specs.Prelude.{◌≡◌, ◌+◌, ◌++◌, ◌≤◌, ◌^◌, if◌then◌else◌, codes, OnOk};
+ghost use Rattle.std.specs.Prelude.{◌≡◌, ◌+◌, ◌++◌, ◌≤◌, ◌^◌, if◌then◌else◌, codes, decimal, OnOk};
 ghost use Rattle.std.specs.List.{flat_map};
 ghost use Rattle.guest_machine.specs.State.{State};
 ghost use Rattle.guest_machine.specs.Shows.{Shows};
 ghost use Rattle.shadow_memory.specs.Cells.{shadow_in};
 ghost use Rattle.shadow_memory.specs.Memories.{bytes_in, shadows_in};
 ghost use Rattle.report_lines.specs.Text.{byte_text};
-ghost use Rattle.look_lines.specs.Texts.{bytes_line, bytes_text, input_text, memory_text, register_line, registers_text, step_text, undef_text, undefs_text};
+ghost use Rattle.look_lines.specs.Texts.{bytes_line, bytes_text, input_text, memory_text, register_line, registers_text, side_digit, sides_text, step_text, undef_text, undefs_text};
 
+use checkpoints::Sides;
 use definedness::Bits;
 use guest_machine::{Machine, Register};
 use report_lines::{push_address, push_byte, push_number, push_state, push_text};
@@ -107,6 +108,33 @@ pub fn push_output(out: &mut Vec<u8>, bytes: &[u8]) -> Result<(), AllocError>
 {
     push_text(out, b"bytes ")?;
     push_hex(out, bytes)?;
+    push_text(out, b"\n")
+}
+
+/// The digit that says what a run has done with an instruction.
+fn side_digit(sides: Sides) -> u64
+    ensures { result ≡ side_digit sides }
+{
+    u64::from(sides.on) + 2 * u64::from(sides.away)
+}
+
+/// Appends the digits of a table.
+fn push_digits(out: &mut Vec<u8>, table: &[Sides]) -> Result<(), AllocError>
+    ensures { OnOk result (out.new.items ≡ out.old.items ++ flat_map (λ sides. decimal (side_digit sides)) table.now) }
+{
+    for sides in table {
+        push_number(out, side_digit(*sides))?;
+    }
+    Ok(())
+}
+
+/// Appends the line of what a run has done with some instructions.
+#[tactic(auto, unfolding(crate::specs::Texts::sides_text), using(std::proofs::Common::append_assoc))]
+pub fn push_sides(out: &mut Vec<u8>, table: &[Sides]) -> Result<(), AllocError>
+    ensures { OnOk result (out.new.items ≡ out.old.items ++ sides_text table.now) }
+{
+    push_text(out, b"sides ")?;
+    push_digits(out, table)?;
     push_text(out, b"\n")
 }
 

@@ -4,11 +4,12 @@ use Rattle.std.specs.Prelude.{Result, Ok, Err, codes, length}
 use Rattle.std.specs.List.{starts_with}
 use Rattle.checkpoints.specs.Searches.{IsNext, IsLast}
 use Rattle.checkpoints.specs.Work.{ReportMoves, Work, reached}
+use Rattle.checkpoints.specs.declared.sides.Sides.{Sides as SidesOf}
 use Rattle.line_server.specs.Answers.{AnswersBy}
 use Rattle.line_server.specs.Lines.{longest_line}
 use Rattle.replay_session.specs.Replies.{RepliesAs, is_over, refused_line}
 use Rattle.replay_session.specs.Stages.{Stage}
-use Rattle.replay_session.specs.Session.{Finds, IsVerdictOf}
+use Rattle.replay_session.specs.Session.{Finds, IsSidesOf, IsVerdictOf}
 use Rattle.replay_session.specs.Texts.{last_text}
 use Rattle.replay_session.specs.Turns.{Turn, accepted_as}
 use Rattle.run_values.specs.declared.alteration.Alteration.{Alteration}
@@ -21,21 +22,24 @@ use Rattle.commands.specs.declared.fault.Fault.{Fault}
 use Rattle.commands.specs.declared.fault.Fault.TheVariants.{Memory}
 use Rattle.look_lines.specs.Alterations.{alteration_asked, alters}
 use Rattle.look_lines.specs.Looks.{asked}
-use Rattle.look_lines.specs.Texts.{input_text, memory_text, output_text, registers_text, step_text}
+use Rattle.look_lines.specs.Texts.{input_text, memory_text, output_text, registers_text, sides_text, step_text}
 use Rattle.look_lines.specs.declared.look.Look.{Look}
-use Rattle.look_lines.specs.declared.look.Look.TheVariants.{Registers, Memory, Output, Input, Next, Last, Certify}
+use Rattle.look_lines.specs.declared.look.Look.TheVariants.{Registers, Memory, Output, Sides, Input, Next, Last}
+use Rattle.look_lines.specs.declared.look.Look.TheVariants.{Certify}
 use Rattle.looks.specs.declared.viewer.Viewer.{Viewer}
 
 -- does a line look? One that is too long doesn't, and none does once the limit of lines is reached
 unfoldable pub looks : Turn → List ℕ → Bool
 looks turn line = starts_with nat_eq line (codes "look ") && not (is_over turn) && nat_le (length line) longest_line
 
--- a text is the reply to a look at the chosen step of one run from step zero: on its state; on which step from it on is
--- the first, or before it the last, that does what is sought; or the verdict on the run up to it
+-- a text is the reply to a look at the chosen step of one run from step zero: on its state; on what the run has done with
+-- each instruction of a range; on which step from it on is the first, or before it the last, that does what is sought; or
+-- the verdict on the run up to it
 abbrev pub Tells : Scenario → Look → List ℕ → Type 0
 Tells sc Registers text = text ≡ registers_text (chosen_state sc)
 Tells sc (Memory range) text = text ≡ memory_text (chosen_state sc) range
 Tells sc (Output range) text = text ≡ output_text (chosen_state sc) range
+Tells sc (Sides range) text = (table : List SidesOf) × IsSidesOf sc range table × (text ≡ sides_text table)
 Tells sc Input text = text ≡ input_text (chosen_state sc) (length sc.setup.input)
 Tells sc (Next search) text =
     (found : Option ℕ) × IsNext (Finds sc search.sought) sc.step search.bound found × (text ≡ step_text found)
@@ -43,9 +47,11 @@ Tells sc (Last search) text =
     (found : Option ℕ) × IsLast (Finds sc search.sought) search.bound sc.step found × (text ≡ step_text found)
 Tells sc Certify text = IsVerdictOf sc text
 
--- how a look at a step moves the work: as a report there does. A verdict executes further steps to find the first use
+-- how a look at a step moves the work: as a report there does. A verdict executes further steps to find the first use. A
+-- look at sides moves none
 abbrev pub LookMoves : Look → ℕ → Work → Work → Type 0
 LookMoves Certify n old new = new.last ≡ reached old.last n
+LookMoves (Sides range) n old new = new ≡ old
 LookMoves look n old new = ReportMoves n old new
 
 -- a look changes neither the turn nor whether the trail is short

@@ -15,6 +15,7 @@
 //! | `look registers` | the line of a report that says whether the program runs; the value and the undefined bits of x1 to x31, one line each |
 //! | `look memory ADDR LEN` | `bytes` and 1 to 4,096 bytes; `undef` and below each its undefined bits, `__` where there is no access |
 //! | `look output FROM LEN` | `bytes` and 1 to 4,096 bytes of the output from position FROM on, or those that there are |
+//! | `look sides ADDR LEN` | `sides` and a digit for each place in these 1 to 4,096 bytes, the first at ADDR, as far apart as the shortest instructions are long: what the run up to the chosen step has done with the instruction there. 0 nothing, 1 executed it and gone on behind it, 2 executed it and gone elsewhere or ended there, 3 both |
 //! | `look input` | `input P L`, where P of the L bytes of the input were read, and `yes` if a read has asked for more than were left, else `no` |
 //! | `look next KIND ADDR LEN END` | `step N`, the first from the chosen one on and below END that does it, or `none` |
 //! | `look last KIND ADDR LEN FROM` | `step N`, the last before the chosen one and from FROM on that does it, or `none` |
@@ -24,7 +25,7 @@
 //! written; `shadow`, the step changes the undefined bits of one, or whether it may be accessed, from its state after its marks to the one
 //! before the marks of the next step; `error`, the program raises an error with pc in the range.
 //! A line is rejected with the first of these numbers that applies: 2 for no look, 5 for END or FROM above 4,194,304, 6 for a range of no
-//! bytes, one that ends above 2^32, or, of memory, of the output or for `shadow`, one of more than 4,096 bytes. 1 means out of memory. A line of more than
+//! bytes, one that ends above 2^32, or, of memory, of the output, of sides or for `shadow`, one of more than 4,096 bytes. 1 means out of memory. A line of more than
 //! 4,096 bytes is none of these, nor is one after 100,000 lines of a session: the reply to it is that of a session.
 //!
 //! Lines that alter the machine just before step STEP are edits: each counts as a line, and `unmark I` takes it back, as its alteration is
@@ -49,7 +50,7 @@
 //!
 //! [`serve`]: what was written is the replies to the lines of all bytes read (`ViewsLines`). The reply to a line that looks is what holds
 //! at the chosen step of **one run from step zero of the edited program** (`Tells`), and the line leaves the session's turn as it is. The
-//! work is moved as by a report there, except that a verdict executes further steps. The reply to any other line is that of a session
+//! work is moved as by a report there, except that a verdict executes further steps, and a look at sides runs beside the held machines and moves none. The reply to any other line is that of a session
 //! (`RepliesAs`) to the command as which it is read (`read_as`): a line that alters is the edit that appends its alteration to the marks.
 //!
 //! In `specs/`: `Views`, the reply to a look and to any other line, over `Looks`, `Texts` and `Alterations` of the crate `look_lines`.

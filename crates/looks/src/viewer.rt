@@ -10,7 +10,7 @@ use commands::{Command, Edit};
 use line_server::{LONGEST_LINE, Listener};
 use look_lines::{
     Look, alteration_asked, alters, asked, push_input, push_memory, push_output, push_registers,
-    push_step,
+    push_sides, push_step,
 };
 use replay_session::{Fault, Session, Texts};
 use run_values::Alteration;
@@ -53,6 +53,10 @@ fn show(session: &mut Session<'_>, look: Look, text: &mut Vec<u8>) -> Result<(),
         Look::Output(range) => {
             let bytes = session.output(range)?;
             push_output(text, &bytes)
+        }
+        Look::Sides(range) => {
+            let table = session.sides(range)?;
+            push_sides(text, &table)
         }
         Look::Input => {
             let len = session.input_len();

@@ -1,9 +1,12 @@
 -- The turn and the trail of a session, and what one line does to it.
 use Rattle.std.specs.Prelude.{◌≡◌, ◌⊎◌, ℕ, List, true, Result, Ok, Err, IsOkAnd}
 use Rattle.checkpoints.specs.Searches.{Hits}
+use Rattle.checkpoints.specs.Sides.{IsSides}
 use Rattle.checkpoints.specs.Trails.{meter_of}
 use Rattle.checkpoints.specs.declared.searches.Sought.{Sought}
+use Rattle.checkpoints.specs.declared.sides.Sides.{Sides}
 use Rattle.checkpoints.specs.declared.trail.Trail.{Trail}
+use Rattle.run_values.specs.declared.span.Span.{Span}
 use Rattle.replay_report.specs.Report.{AppendsReport}
 use Rattle.scenario.specs.Edits.{row}
 use Rattle.scenario.specs.Scenario.{Scenario, IsReportOf, first_state}
@@ -36,6 +39,10 @@ work_of session = meter_of session.trail
 -- the steps of a scenario's run that do what is sought
 abbrev pub Finds : Scenario → Sought → ℕ → Type 0
 Finds sc sought = Hits sought (first_state sc) sc.setup sc.marks
+
+-- a table says of each place of a range which sides of it the run has below the chosen step
+abbrev pub IsSidesOf : Scenario → Span → List Sides → Type 0
+IsSidesOf sc range table = IsSides (first_state sc) sc.setup sc.marks sc.step range table
 
 -- a text is the line of the verdict on a scenario's run up to the chosen step
 abbrev pub IsVerdictOf : Scenario → List ℕ → Type 0

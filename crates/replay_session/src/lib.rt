@@ -16,6 +16,7 @@
 //! | [`Session::machine`] | returns the machine at the chosen step |
 //! | [`Session::next`], [`Session::last`] | return the first step from the chosen one on, and the last before it, that does what is sought |
 //! | [`Session::output`] | returns the bytes of the output at the chosen step that are in a range of positions |
+//! | [`Session::sides`] | returns what the run has done with each instruction of a range |
 //! | [`Session::input_len`] | returns the number of bytes of the input |
 //! | [`Session::certify`] | appends the line of the verdict on the run up to the chosen step |
 //! | [`Session::trail`] | returns the held machines, on whose meter each step counts that a report executes |

@@ -7,7 +7,7 @@ ghost use Rattle.scenario.specs.Scenario.{run_of};
 
 use crate::reply::Reply;
 use checkpoints::laws::keeps_lower;
-use checkpoints::{Sought, Trail};
+use checkpoints::{Sides, Sought, Trail};
 use clean_reports::{certify, push_verdict};
 use commands::{BeginFault, Command, Edit, Fault, parse};
 use guest_elf::Image;
@@ -45,7 +45,7 @@ impl<'a> Session<'a> {
     ghost use Rattle.scenario.specs.Scenario.{IsReportOf, chosen_state};
     ghost use Rattle.commands.specs.Commands.{Reads};
     ghost use Rattle.replay_session.specs.Replies.{is_over};
-    ghost use Rattle.replay_session.specs.Session.{Carried, Finds, IsVerdictOf, Meets, MeetsAs, scenario_of, turn_of, trail_of, work_of};
+    ghost use Rattle.replay_session.specs.Session.{Carried, Finds, IsSidesOf, IsVerdictOf, Meets, MeetsAs, scenario_of, turn_of, trail_of, work_of};
     ghost use Rattle.replay_session.specs.Turns.{accepted, accepted_as, changed, command_refusal, counted, if_command, line_refusal, opening, passed};
     ghost use Rattle.replay_session.specs.Work.{MayShorten, MovesWork, Works, WorksAs, WorksLine, work_on, no_work};
 
@@ -277,6 +277,20 @@ impl<'a> Session<'a> {
         ensures short { is_short (trail_of self.new) ≡ is_short (trail_of self.old) }
     {
         self.trail.output(
+            self.alloc,
+            range,
+            self.scenario.step(),
+            self.scenario.setup(),
+            self.scenario.marks(),
+        )
+    }
+
+    /// Returns for each place of a range what the run has done with the instruction there, up to the chosen step. Nothing is moved.
+    #[tactic(auto, unfolding(crate::specs::Session::turn_of))]
+    pub fn sides(&self, range: Span) -> Result<Vec<Sides>, AllocError>
+        ensures { IfOk result (λ table. IsSidesOf (scenario_of self.now) range table.items) }
+    {
+        self.trail.sides(
             self.alloc,
             range,
             self.scenario.step(),
