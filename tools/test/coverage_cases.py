@@ -1,5 +1,6 @@
 """What test-coverage compares: programs in C, what other programs say of an example's run, and the forms of the outputs."""
 import bisect
+import functools
 import os
 import re
 import subprocess
@@ -73,18 +74,23 @@ def heap_of(file):
     return {int(line.split()[0], 16) for line in told.splitlines() if line.split()[-1] in HEAP and line.split()[1] in "Tt"}
 
 
+def looked(program, words, lines):
+    """The replies to lines of `replaycheck look`."""
+    script = "".join(f"{it}\n" for it in lines)
+    return subprocess.run([program, "look", *words], input=script, stdout=subprocess.PIPE, check=True, text=True).stdout.splitlines()
+
+
+@functools.lru_cache(maxsize=None)
 def traced(program, words):
     """The addresses that a run executes step after step, by a look at each step."""
-    script = "".join(f"goto {step}\nlook registers\n" for step in range(LAST))
-    told = subprocess.run([program, "look", *words], input=script, stdout=subprocess.PIPE, check=True, text=True).stdout
-    states = [line.split() for line in told.splitlines() if line.startswith("state ")]
-    return [int(it[2], 16) for it in states if it[1] == "running"]
+    last = int(looked(program, words, [f"goto {LAST}", "look last run 0 0xffffffff 0"])[-1].split()[1])
+    told = looked(program, words, [line for step in range(last + 1) for line in (f"goto {step}", "look registers")])
+    return [int(line.split()[2], 16) for line in told if line.startswith("state ")]
 
 
 def found_by_search(program, words, found):
     """Which instructions run, by a search of each."""
-    script = "".join(f"look next run 0x{address:x} {length} {LAST}\n" for address, length, _ in found)
-    told = subprocess.run([program, "look", *words], input=script, stdout=subprocess.PIPE, check=True, text=True).stdout.splitlines()
+    told = looked(program, words, [f"look next run 0x{address:x} {length} {LAST}" for address, length, _ in found])
     return {address for (address, _, _), line in zip(found, told) if line.startswith("step ")}
 
 
