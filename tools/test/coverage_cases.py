@@ -17,7 +17,7 @@ INFO = re.compile(r"TN:|SF:[^\x00-\x1f\x7f]+|FN:\d+,[^\x00-\x1f\x7f,]+|FNDA:[01]
                   r"BRDA:\d+,\d+,[01],[-01]|DA:\d+,[01]|end_of_record")
 
 # A program by itself, which reads up to four bytes: `START` begins it, exits with what `main` returns, and reads.
-START = """
+START = """#line 1 "start.c"
 static long call(long number, long a, long b, long c)
 {
     register long a0 __asm__("a0") = a, a1 __asm__("a1") = b, a2 __asm__("a2") = c, a7 __asm__("a7") = number;
@@ -34,7 +34,7 @@ void _start(void)
 """
 CHOOSES = START + """
 #line 1 "chooses.c"
-static int twice(int a)
+static inline __attribute__((always_inline)) int twice(int a)
 {
     return 2 * a;
 }
@@ -80,6 +80,12 @@ def looked(program, words, lines):
     return subprocess.run([program, "look", *words], input=script, stdout=subprocess.PIPE, check=True, text=True).stdout.splitlines()
 
 
+def symbols(file):
+    """The names of code by address."""
+    told = subprocess.run([f"{BINUTILS}nm", "-n", file], stdout=subprocess.PIPE, check=True, text=True).stdout
+    return [(int(line.split()[0], 16), line.split()[2]) for line in told.splitlines() if line.split()[1] in "Tt"]
+
+
 @functools.lru_cache(maxsize=None)
 def traced(program, words):
     """The addresses that a run executes step after step, by a look at each step."""
@@ -110,7 +116,8 @@ def rows_of_lines(file, addresses):
     """The base name of the file and the line of addresses, by the rows of the line table."""
     command = [f"{BINUTILS}readelf", "-W", "--debug-dump=decodedline", file]
     told = subprocess.run(command, stdout=subprocess.PIPE, check=True, text=True).stdout
-    rows = sorted(((int(it[3], 16), it[2] != "-", at, it[1], it[2]) for at, it in enumerate(map(DECODED.fullmatch, told.splitlines())) if it))
+    found = filter(None, map(DECODED.fullmatch, told.splitlines()))
+    rows = sorted((int(it[3], 16), it[2] != "-", at, it[1], it[2]) for at, it in enumerate(found))
     starts = [it[0] for it in rows]
     found = ((it, rows[bisect.bisect_right(starts, it) - 1]) for it in addresses if it >= starts[0])
     return {address: (row[3], int(row[4])) for address, row in found if row[4] != "-"}

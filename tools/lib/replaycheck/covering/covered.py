@@ -22,8 +22,8 @@ class Branch:
     """A conditional branch: whether the run ever went on after it, and whether it was ever taken; the numbers of its block and of those
     that it leads to, None where there is no code."""
 
-    def __init__(self, address, sides, source, on, to):
-        self.address, self.sides, self.source = address, sides, source
+    def __init__(self, sides, source, on, to):
+        self.sides, self.source = sides, source
         self.ways: List[Tuple[bool, Optional[int]]] = [(bool(sides & WENT_ON), on), (bool(sides & WENT_ELSEWHERE), to)]
 
 
@@ -33,12 +33,8 @@ class Line:
 
     def __init__(self, function):
         self.function, self.is_executed, self.has_unexecuted = function, False, False
-        self.found: List[Branch] = []
+        self.branches: List[Branch] = []
         self.blocks: Set[int] = set()
-
-    @property
-    def branches(self) -> List[Branch]:
-        return sorted(self.found, key=lambda it: it.address)
 
 
 class Function:
@@ -51,6 +47,9 @@ class Function:
     @property
     def is_executed(self):
         return any(self.blocks.values())
+
+    def take(self, line):
+        self.first, self.last = min(self.first, line), max(self.last, line)
 
 
 class SourceFile:
@@ -80,21 +79,28 @@ class Covered:
 
     def __init__(self, path, code: Code, sides: Sides, places: Places):
         self.by_name: Dict[str, SourceFile] = {}
-        self.code, self.executed = code, sides.all()
-        self.outer, self.begins = None, {it.value for it in code.elf.functions}
-        self.blocks, unknown = blocks_of(code, self.executed), []
+        self.code, self.executed, self.paths = code, sides.all(), places.paths
+        self.outer, self.begins, self.unnamed = None, {it.value for it in code.elf.functions}, []
+        self.blocks, self.table, self.placeless = blocks_of(code, self.executed), LineTable(path), 0
         for some in in_parts(code.instructions(list(self.executed)), AT_ONCE):
             places.learn(hexadecimal(it.address) for it in some)
             for it in some:
-                told = places.at(hexadecimal(it.address))
-                if told:
-                    self.add(it, told)
-                else:
-                    unknown.append(it.address)
+                self.add(it, self.places_of(it.address, places.at(hexadecimal(it.address))))
             places.known.clear()
         if not self.by_name:
             raise Fault(f"{path}: it has no source lines: compile and link it with -g")
-        self.placeless = len(unknown) - self.add_unknown(path, unknown)
+        self.name_unnamed()
+
+    def places_of(self, address, told: List[Place]) -> List[Place]:
+        """What addr2line says of an address, but for the file and the line of the innermost place, which are the line table's."""
+        found = self.table.at(address)
+        if found is None:
+            return told
+        path, line = found
+        place = Place(told[0].function if told else UNNAMED, path, self.paths.name(path), line)
+        if told and told[0].line == line and not os.path.isabs(path) and os.path.basename(told[0].path) == os.path.basename(path):
+            place = told[0]  # the path of the table may begin where the unit was compiled, which only addr2line knows
+        return [place, *told[1:]]
 
     @property
     def files(self) -> List[SourceFile]:
@@ -105,9 +111,30 @@ class Covered:
         sides = self.executed.get(it.address, 0)
         for depth, place in enumerate(told):
             function = self.function_of(it, place, depth == len(told) - 1)
+            if place.function == UNNAMED:
+                self.unnamed.append((it.address, place))
             self.add_to(self.line_of(place.file, place.line, function), function, it, sides)
-        if it.is_branch:
-            self.by_name[told[0].file].lines[told[0].line].found.append(self.branch(it, sides))
+        if it.is_branch and told:
+            self.by_name[told[0].file].lines[told[0].line].branches.append(self.branch(it, sides))
+        self.placeless += not told
+
+    def name_unnamed(self):
+        """Adds instructions whose function addr2line doesn't know to that of the symbol table: in the file that has it, or else in the file
+        of its last instruction."""
+        for address, place in reversed(self.unnamed):
+            name = self.code.elf.function_at(address)
+            if not name:
+                continue
+            files = [it for it in self.by_name.values() if name in it.functions] or [self.by_name[place.file]]
+            if len(files) > 1:
+                continue
+            function = files[0].functions.setdefault(name, Function(name))
+            if files[0].name == place.file:
+                function.take(place.line)
+            block = self.blocks.at(address)
+            function.blocks[block] = function.blocks.get(block, False) or address in self.executed
+            line = self.by_name[place.file].lines[place.line]
+            line.function = line.function or name
 
     def add_to(self, line: Line, function: Optional[Function], it: Instruction, sides: int):
         block = self.blocks.at(it.address)
@@ -117,32 +144,7 @@ class Covered:
         line.blocks.add(block)
 
     def branch(self, it: Instruction, sides: int) -> Branch:
-        return Branch(it.address, sides, self.blocks.at(it.address), self.blocks.leading(it.next), self.blocks.leading(it.target))
-
-    def add_unknown(self, path, addresses: List[int]) -> int:
-        """Adds instructions of which addr2line says nothing, if the line table has them and their file is known. Returns how many."""
-        if not addresses:
-            return 0
-        table, added, named = LineTable(path), 0, {}
-        for name in self.by_name:
-            named.setdefault(os.path.basename(name), []).append(name)
-        for address in addresses:
-            found, it = table.at(address), self.code.instruction(address)
-            files = named.get(found[0], []) if found else []
-            if len(files) != 1 or it is None:
-                continue
-            function = self.known_function(self.code.elf.function_at(address))
-            line = self.line_of(files[0], found[1], function)
-            self.add_to(line, function, it, self.executed.get(address, 0))
-            if it.is_branch:
-                line.found.append(self.branch(it, self.executed.get(address, 0)))
-            added += 1
-        return added
-
-    def known_function(self, name: Optional[str]) -> Optional[Function]:
-        """The function of a name that only one file has."""
-        found = [it.functions[name] for it in self.by_name.values() if name in it.functions]
-        return found[0] if len(found) == 1 else None
+        return Branch(sides, self.blocks.at(it.address), self.blocks.leading(it.next), self.blocks.leading(it.target))
 
     def line_of(self, file: str, number: int, function: Optional[Function]) -> Line:
         lines = self.file_of(file).lines
@@ -169,7 +171,7 @@ class Covered:
             functions[place.function] = Function(place.function)
         function = functions[place.function]
         if place.file == file:
-            function.first, function.last = min(function.first, place.line), max(function.last, place.line)
+            function.take(place.line)
         return function
 
 

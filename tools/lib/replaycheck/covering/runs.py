@@ -7,6 +7,7 @@ from replaycheck.records import Record
 from replaycheck.sessions import Session
 
 MOST_ASKED = 4096  # bytes of one look
+FEW = 16  # parts of which each is asked for
 WENT_ON, WENT_ELSEWHERE = 1, 2  # the bits of a digit that a look returns
 
 
@@ -43,11 +44,29 @@ class Made(Record):
     state: str
 
 
+def parts_reached(session, sides: Sides, step) -> List[int]:
+    """The parts in which a run executes something. Each look costs a run, and of many parts few are reached."""
+    begins, found = sorted(sides.parts), []
+    waiting = [(0, len(begins))]
+    while waiting:
+        low, high = waiting.pop()
+        begin, last = begins[low], begins[high - 1]
+        if session.accepted(f"look next run 0x{begin:x} {last + sides.length(last) - begin} {step}") == ["none"]:
+            continue
+        if high - low == 1:
+            found.append(begin)
+        else:
+            middle = (low + high) // 2
+            waiting += [(low, middle), (middle, high)]
+    return found
+
+
 def run(file, given, options, sides: Sides) -> Made:
     """Makes a run up to the chosen step, and adds what it did."""
     session = Session(file, given, command="look", isa=options.isa, regions=options.regions)
+    reached = list(sides.parts) if len(sides.parts) <= FEW else parts_reached(session, sides, options.step)
     session.accepted(f"goto {options.step}")
-    found = {begin: session.accepted(f"look sides 0x{begin:x} {sides.length(begin)}")[0] for begin in sides.parts}
+    found = {begin: session.accepted(f"look sides 0x{begin:x} {sides.length(begin)}")[0] for begin in reached}
     state = session.accepted("look registers")[0].removeprefix("state ").partition(" 0x")[0]
     session.end()
     for begin, reply in found.items():
