@@ -69,6 +69,8 @@ SLOW = [
     ("origin", ["origin", "three-words.elf"], ["REPLAYCHECK"]),
     ("gdb", ["gdb", "three-words.elf"], ["REPLAYCHECK"]),
     ("word", ["word", "nop"], ["AS", "LD", "OBJDUMP"]),
+    ("coverage", ["coverage", "packet.elf"], ["REPLAYCHECK"]),
+    ("coverage asks for lines", ["coverage", "packet.elf"], ["ADDR2LINE"]),
 ]
 
 

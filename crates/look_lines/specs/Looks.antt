@@ -15,8 +15,8 @@ use Rattle.look_lines.specs.declared.look.Search.{Search}
 use Rattle.look_lines.specs.declared.look.Look.TheVariants.{Registers, Controls, Memory, Output, Sides, Input, Next}
 use Rattle.look_lines.specs.declared.look.Look.TheVariants.{Last, Certify}
 
--- the greatest number of bytes that a look at memory, at the output or at sides may show, and that a search for a change
--- of what is known of them may watch
+-- the greatest number of bytes that a look at memory, at the output or at sides may show, and that a search for a
+-- change of what is known of them may watch
 abbrev pub longest_view : ℕ
 longest_view = 4096
 

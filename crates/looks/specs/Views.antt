@@ -35,9 +35,9 @@ use Rattle.looks.specs.declared.viewer.Viewer.{Viewer}
 unfoldable pub looks : Turn → List ℕ → Bool
 looks turn line = starts_with nat_eq line (codes "look ") && not (is_over turn) && nat_le (length line) longest_line
 
--- a text is the reply to a look at the chosen step of one run from step zero: on its state; on what the run has done with
--- each instruction of a range; on which step from it on is the first, or before it the last, that does what is sought; or
--- the verdict on the run up to it
+-- a text is the reply to a look at the chosen step of one run from step zero: on its state; on what the run has done
+-- with each instruction of a range; on which step from it on is the first, or before it the last, that does what is
+-- sought; or the verdict on the run up to it
 abbrev pub Tells : Scenario → Look → List ℕ → Type 0
 Tells sc Registers text = text ≡ registers_text (chosen_state sc)
 Tells sc Controls text = text ≡ controls_text (chosen_state sc)
@@ -51,8 +51,8 @@ Tells sc (Last search) text =
     (found : Option ℕ) × IsLast (Finds sc search.sought) search.bound sc.step found × (text ≡ step_text found)
 Tells sc Certify text = IsVerdictOf sc text
 
--- how a look at a step moves the work: as a report there does. A verdict executes further steps to find the first use. A
--- look at sides moves none
+-- how a look at a step moves the work: as a report there does. A verdict executes further steps to find the first use.
+-- A look at sides moves none
 abbrev pub LookMoves : Look → ℕ → Work → Work → Type 0
 LookMoves Certify n old new = new.last ≡ reached old.last n
 LookMoves (Sides range) n old new = new ≡ old

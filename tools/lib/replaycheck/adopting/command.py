@@ -1,12 +1,11 @@
 """The command line of `replaycheck adopt`: what it takes, and what it reads and writes."""
 import os
-import stat
-import tempfile
 
-from replaycheck.endings import Fault, naming
+from replaycheck.endings import Fault
 from replaycheck.endings import write as say
 from replaycheck.options import BadValue, Once, Reader
 from replaycheck.programs import USUAL
+from replaycheck.whole_files import rights_of, same_file, write_whole
 
 from . import report
 from .curing import cured
@@ -49,36 +48,11 @@ def read(path):
         return file.read(LONGEST_FILE + 1)
 
 
-def same_file(one, other):
-    return os.path.exists(other) and os.path.samefile(one, other)
-
-
-def write(path, content, mode):
-    """Writes a file whole or not at all. What is there and is no plain file, such as /dev/null, is written to."""
-    if os.path.exists(path) and not os.path.isfile(path):
-        with open(path, "wb") as file:
-            file.write(content)
-        return
-    target = os.path.realpath(path)
-    try:
-        number, beside = tempfile.mkstemp(dir=os.path.dirname(target), prefix=".adopt-")
-    except OSError as fault:
-        raise OSError(fault.errno, fault.strerror, path) from None
-    try:
-        with naming(path), open(number, "wb") as file:
-            file.write(content)
-        os.chmod(beside, mode)
-        os.replace(beside, target)
-    except BaseException:
-        os.unlink(beside)
-        raise
-
-
 def mode_of(path):
     """The rights of a file, as far as this user gives them to new ones."""
     mask = os.umask(0)
     os.umask(mask)
-    return stat.S_IMODE(os.stat(path).st_mode) & ~mask & 0o777
+    return rights_of(path) & ~mask & 0o777
 
 
 def healed(findings, heaps, kept, asked=USUAL):
@@ -136,7 +110,7 @@ def adopt(options):
         if same_file(options.file, out):
             raise Fault(f"{out}: it is FILE itself: write to another file")
         content, changes = healed(findings, options.heap, options.keep, options.isa)
-        write(out, content, mode_of(options.file))
+        write_whole(out, content, mode_of(options.file))
     written = out if out is not None and not findings.hopeless() else None
     for line in [*report.lines(findings, written, changes), report.verdict(findings, options.file, out)]:
         say(line + "\n")

@@ -101,6 +101,15 @@ changed in check.elf:
 ...
 +ERROR SUMMARY: 1 errors from 1 contexts (suppressed: 0 from 0)
 """, 1),),
+    "coverage": (
+        Example("How much of a source file an input reaches:",
+                "replaycheck coverage station.elf --input station.input |\ngrep '^File\\|^station' | cut -c1-57", """\
+File                    Lines      Branches     Functions
+station.c        75/85  88.2%   43/62 69.4%    8/8 100.0%
+""", needs=ADDR2LINE),
+        Example("The source with its lines coloured, by lcov's genhtml:",
+                "replaycheck coverage station.elf --input station.input \\\n--format lcov --output station.info\n"
+                "genhtml -q --branch-coverage -o html station.info", needs=(*ADDR2LINE, "genhtml"))),
     "explore": (
         Example("Which instruction of a check starts a wrong image if it is skipped:",
                 "replaycheck explore boot.elf --input boot.input --code verify \\\n--goal 'exited 0'",
@@ -170,6 +179,7 @@ SEE_ALSO = {
     "run": ("session", "certify", "lines", "suppress"), "exec": ("run", "certify", "suppress"),
     "session": ("talk", "look", "compare"), "look": ("session", "when", "gdb"),
     "sweep": ("explore",), "certify": ("run", "origin"), "adopt": ("run", "word"), "compare": ("session", "lines"),
+    "coverage": ("run", "look", "explore"),
     "explore": ("sweep", "certify"), "gdb": ("look", "session"), "lines": ("run", "talk"), "origin": ("certify", "when", "look"),
     "page": ("session", "explore"), "suppress": ("run",), "talk": ("session", "lines"), "when": ("session", "look"),
     "word": ("session", "lines"),

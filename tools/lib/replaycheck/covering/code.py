@@ -1,0 +1,117 @@
+"""The code of a program's file: where it is, its instructions in order, and the stretches of them that only run as a whole."""
+from __future__ import annotations
+
+import bisect
+from typing import Iterator, List, Optional, Tuple
+
+from replaycheck.adopting.code import joined, without
+from replaycheck.adopting.elf import HAS_CODE, Elf, refusals
+from replaycheck.adopting.halves import expanded, is_half
+from replaycheck.adopting.instructions import BRANCH, JAL, distance, opcode
+from replaycheck.endings import Fault
+from replaycheck.programs import unit_of
+from replaycheck.records import Record
+from replaycheck.stand_ins import ranges_of
+
+LONGEST_FILE = 1 << 26
+EXECUTABLE = 1  # the flag of a segment
+CODE, DATA = "$x", "$d"  # how the names of mapping symbols begin
+
+
+class Instruction(Record):
+    """Where an instruction is, how many bytes it has, and its word: of one of 16 bits, that of what it stands for."""
+
+    address: int
+    length: int
+    word: int
+
+    @property
+    def next(self):
+        return self.address + self.length
+
+    @property
+    def is_branch(self):
+        """Whether it jumps on a condition."""
+        return opcode(self.word) == BRANCH
+
+    @property
+    def target(self) -> Optional[int]:
+        """Where a branch or a jump goes that has its distance in it."""
+        return self.address + distance(self.word) & 0xFFFFFFFF if opcode(self.word) in (BRANCH, JAL) else None
+
+
+class Code:
+    """The code of a file for an instruction set. `ranges` has the addresses at which the file has bytes of executable sections, or of
+    executable segments if it has no sections, but for the stubs that `adopt` has added."""
+
+    def __init__(self, path, isa, regions):
+        with open(path, "rb") as file:
+            data = file.read(LONGEST_FILE + 1)
+        refused = next((it for it in refusals(data, regions) if not it.readable), None)
+        if refused:
+            raise Fault(f"{path}: {refused.what}: {refused.cure}")
+        self.elf, self.unit = Elf(data, regions), unit_of(isa)
+        self.ranges = ranges_of_code(self.elf, self.unit, [[start, start + len(it)] for _, start, it in ranges_of(data)])
+        self.starts = self.resyncs()
+
+    def resyncs(self) -> List[int]:
+        """Where an instruction begins as a symbol says: a function, a label or a mapping symbol."""
+        return sorted({it.value for it in [*self.elf.functions, *self.elf.labels] if not it.value % self.unit}
+                      | {it.value for it in self.elf.symbols if self.elf.name(it).startswith(CODE)})
+
+    def data(self) -> List[List[int]]:
+        """The ranges that mapping symbols call data."""
+        marks = sorted({(it.value, self.elf.name(it)[:2]) for it in self.elf.symbols if self.elf.name(it)[:2] in (CODE, DATA)})
+        ends = [value for value, _ in marks[1:]] + [1 << 32]
+        return joined([value, end] for (value, name), end in zip(marks, ends) if name == DATA)
+
+    def gaps(self) -> List[List[int]]:
+        """What follows a function of known size, up to the next symbol in code: the bytes that align it."""
+        known = sorted({it.value + it.size for it in self.elf.functions if it.size})
+        inside = joined([it.value, it.value + it.size] for it in self.elf.functions if it.size)
+        found = ([end, self.starts[at] if (at := bisect.bisect_left(self.starts, end)) < len(self.starts) else 1 << 32] for end in known)
+        return without(joined(found), inside)
+
+    def parts(self, executed) -> List[List[int]]:
+        """The ranges that have instructions: code that is neither data nor a gap, and what was executed all the same."""
+        left = without(self.ranges, joined([*self.data(), *self.gaps()]))
+        starts = [start for start, _ in left]
+        more = [it for it in executed if not (at := bisect.bisect_right(starts, it)) or left[at - 1][1] <= it]
+        return joined([*left, *([it, it + self.unit] for it in more)])
+
+    def instructions(self, executed: List[int]) -> Iterator[Instruction]:
+        """All instructions, in order. One begins at each address that was executed, whatever the one before it is taken for."""
+        begins = sorted({*self.starts, *executed})
+        for start, end in self.parts(executed):
+            address, at = start, bisect.bisect_right(begins, start)
+            while address + self.unit <= end:
+                it = self.instruction(address)
+                if it is None:
+                    break
+                yield it
+                address = it.next
+                while at < len(begins) and begins[at] <= it.address:
+                    at += 1
+                if at < len(begins) and begins[at] < address:
+                    address = begins[at]
+
+    def instruction(self, address) -> Optional[Instruction]:
+        """The instruction at an address, if the file has all its bytes. A half that stands for nothing has the word 0."""
+        place = self.elf.place(address, 2)
+        if place is None:
+            return None
+        half = int.from_bytes(self.elf.data[place:place + 2], "little")
+        if self.unit == 2 and is_half(half):
+            return Instruction(address, 2, expanded(half) or 0)
+        place = self.elf.place(address, 4)
+        return None if place is None else Instruction(address, 4, int.from_bytes(self.elf.data[place:place + 4], "little"))
+
+
+def ranges_of_code(elf, unit, stubs) -> List[List[int]]:
+    """The ranges of a file's code, each from and to a multiple of a unit."""
+    found = joined([it.addr, it.addr + it.size] for it in elf.sections if it.flags & HAS_CODE)
+    if not elf.sections:
+        found = joined([it.vaddr, it.vaddr + it.filesz] for it in elf.contents if it.flags & EXECUTABLE)
+    outside = without(found, joined([it.vaddr, it.vaddr + it.filesz] for it in elf.contents))
+    whole = ([start + -start % unit, end - end % unit] for start, end in without(found, outside))
+    return without(joined(whole), joined(stubs))

@@ -1,0 +1,47 @@
+"""What runs have executed in the form of `gcov --json-format`, version 2, as GCC 14 writes it. Each count is 1 or 0, and no column is
+known."""
+from __future__ import annotations
+
+import json
+import os
+
+from replaycheck.demangling import Demangler
+
+from .covered import Branch, Covered, Function, Line, SourceFile
+
+FORMAT = "2"
+NOWHERE = -1  # the block of a branch that leads to no code
+
+
+def text(name: str) -> str:
+    """A name as UTF-8 can have it: other bytes as `\\xff`."""
+    return name.encode("utf-8", "surrogateescape").decode("utf-8", "backslashreplace")
+
+
+def branches(it: Branch) -> list:
+    return [{"count": int(is_taken), "destination_block_id": NOWHERE if block is None else block, "fallthrough": way == 0,
+             "source_block_id": it.source, "throw": False} for way, (is_taken, block) in enumerate(it.ways)]
+
+
+def line(number: int, it: Line) -> dict:
+    named = {"function_name": text(it.function)} if it.function else {}
+    return {"block_ids": sorted(it.blocks), "branches": [way for branch in it.branches for way in branches(branch)], "calls": [],
+            "conditions": [], "count": int(it.is_executed), "line_number": number, "unexecuted_block": it.has_unexecuted, **named}
+
+
+def function(it: Function, names: Demangler) -> dict:
+    return {"blocks": len(it.blocks), "blocks_executed": sum(it.blocks.values()), "demangled_name": text(names.name(it.name)),
+            "end_column": 0, "end_line": it.last, "execution_count": int(it.is_executed), "name": text(it.name), "start_column": 0,
+            "start_line": it.first}
+
+
+def source(file: SourceFile, names: Demangler) -> dict:
+    names.learn(it.name for it in file.in_order())
+    return {"file": text(file.name), "functions": [function(it, names) for it in file.in_order()],
+            "lines": [line(number, it) for number, it in sorted(file.lines.items())]}
+
+
+def text_of(covered: Covered, names: Demangler, program: str, *_) -> str:
+    whole = {"current_working_directory": text(os.getcwd()), "data_file": text(program), "format_version": FORMAT,
+             "gcc_version": "replaycheck", "files": [source(it, names) for it in covered.files]}
+    return json.dumps(whole, separators=(",", ":")) + "\n"

@@ -1,0 +1,41 @@
+"""What runs have executed as an info file, which `genhtml` and other programs for lcov read. Each count is 1 or 0."""
+from __future__ import annotations
+
+from typing import Iterator
+
+from .covered import Covered, SourceFile
+
+
+def plain(text: str) -> str:
+    """A name that is one line, whatever is in it: control characters as `\\x0a`, and bytes that are no UTF-8."""
+    if text.isprintable():
+        return text
+    return "".join(it if it.isprintable() else "".join(f"\\x{byte:02x}" for byte in it.encode("utf-8", "surrogateescape")) for it in text)
+
+
+def records(file: SourceFile) -> Iterator[str]:
+    """The lines of a source file."""
+    yield "TN:"
+    yield f"SF:{plain(file.name)}"
+    functions = [(plain(it.name).replace(",", "\\x2c"), it) for it in file.in_order()]
+    for name, it in functions:
+        yield f"FN:{it.first},{name}"
+    for name, it in functions:
+        yield f"FNDA:{int(it.is_executed)},{name}"
+    yield f"FNF:{len(functions)}"
+    yield f"FNH:{sum(it.is_executed for _, it in functions)}"
+    ways = [(line, block, way, "-" if not it.sides else str(int(is_taken)))
+            for line, block, it in file.branches for way, (is_taken, _) in enumerate(it.ways)]
+    for line, block, way, taken in ways:
+        yield f"BRDA:{line},{block},{way},{taken}"
+    yield f"BRF:{len(ways)}"
+    yield f"BRH:{sum(it[3] == '1' for it in ways)}"
+    for number, line in sorted(file.lines.items()):
+        yield f"DA:{number},{int(line.is_executed)}"
+    yield f"LF:{len(file.lines)}"
+    yield f"LH:{len(file.lines) - len(file.unexecuted)}"
+    yield "end_of_record"
+
+
+def text_of(covered: Covered, *_) -> str:
+    return "".join(f"{it}\n" for file in covered.files for it in records(file))
