@@ -86,7 +86,8 @@ module _ (start : State) (setup : Setup) (marks : List Alteration) where
 
   no-side : (s : State) → is_running s.core.status ≡ false → side_of s setup ≡ None
   unfolding touched_at
-  no-side s h = ap (λ deed. side_by (fetch_span s.core deed) (exec s setup).core.pc) (halts s.core s.bytes setup.hooks h)
+  no-side s h =
+      ap (λ deed. side_by (fetch_span s.core deed) (exec s setup).core.pc) (halts s.core s.bytes setup.hooks h)
 
   pub covers-halted : StaysHalted → (k n : ℕ) (addr : ℕ) (on told : Bool) → k ≤ n
       → is_running (pre start setup marks k).core.status ≡ false

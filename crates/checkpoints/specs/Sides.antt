@@ -23,8 +23,8 @@ abbrev pub side_by : Option Span → ℕ → Option Side
 side_by None pc = None
 side_by (Some code) pc = Some (sided code.start (pc == (code.start + code.len) % 2 ^ 32))
 
--- the side of the step of a state. A function of the heap that is called by name fetches no code, nor does a machine that
--- is halted
+-- the side of the step of a state. A function of the heap that is called by name fetches no code, nor does a machine
+-- that is halted
 abbrev pub side_of : State → Setup → Option Side
 side_of s setup = side_by (touched_of s setup).fetch (exec s setup).core.pc
 
@@ -43,10 +43,11 @@ has_side sides false = sides.away
 abbrev pub places : ℕ → ℕ → ℕ
 places apart len = (len + (apart - 1)) / apart
 
--- a table has a row for each place of a range, and says of both sides of each whether the first n steps of a run have it
+-- a table has a row for each place of a range, and says of both sides of each whether the first n steps of a run have
+-- it
 pub record IsSides (start : State) (setup : Setup) (marks : List Alteration) (n : ℕ) (range : Span) (table : List Sides)
     : Type 0 where
   pub rows : length table ≡ places (unit start.core.isa) range.len
   pub tells : (i : ℕ) (on : Bool) (d : Sides) → i < length table
       → Decides (has_side (slice_index_or table i d) on)
-          (Covers start setup marks n (sided (range.start + unit start.core.isa * i) on))
+      (Covers start setup marks n (sided (range.start + unit start.core.isa * i) on))

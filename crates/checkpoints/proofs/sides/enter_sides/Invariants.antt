@@ -17,5 +17,5 @@ invariant-loop-k l = record {
   tells : (start : State) (i : ℕ) (on : Bool) (d : Sides) → Shows l.fn.machine (pre start l.setup l.marks 0)
       → i < length l.fn.table.items
       → Decides (has_side (get_or l.table.items i d) on)
-          (Covers start l.setup l.marks l.k (sided (l.first + l.apart * i) on));
+      (Covers start l.setup l.marks l.k (sided (l.first + l.apart * i) on));
 }

@@ -13,8 +13,8 @@ pub loop-at-preserved : goal.loop-at-preserved
 loop-at-preserved c = (
   omega arith,
   bytes-more c.args.digits.now c.loop-at.bytes.items c.push.new.self.items c.loop-at.at _ (omega arith)
-  (λ i. 16 * c.digit_value.ensures i + c.digit_value-in-loop-at.ensures i) c.in_ok-push.ensures.items
-  c.loop-at.invariant.1,
+      (λ i. 16 * c.digit_value.ensures i + c.digit_value-in-loop-at.ensures i) c.in_ok-push.ensures.items
+      c.loop-at.invariant.1,
 )
 
 pub returns : goal.returns

@@ -24,7 +24,7 @@ returns c start right =
     let some : 0 < length (machines_of c.args.self.now) = search rules in
     let count : length c.in_ok-table.table.items ≡ vec_len c.in_ok-table.table = search rules in
     let shows : Shows copy (pre start setup marks 0) =
-        c.in_ok-machine.ensures copy _ (right.held 0 copy some) in
+    c.in_ok-machine.ensures copy _ (right.held 0 copy some) in
     let far : c.unit-apart.result ≡ unit start.core.isa = c.unit-apart.ensures ∙ ap unit (c.isa.ensures _ shows) in
     record {
       rows =
