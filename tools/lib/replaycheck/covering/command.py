@@ -13,7 +13,7 @@ from replaycheck.whole_files import rights_of, rights_of_new, same_file, write_w
 from . import gcov_json, lcov, table
 from .code import Code
 from .covered import Covered
-from .runs import Sides, run
+from .runs import Sides, run, why
 
 FORMATS = {"summary": table.text_of, "lcov": lcov.text_of, "gcov-json": gcov_json.text_of}
 
@@ -32,12 +32,6 @@ def options_of(page):
         if options.output is not None and same_file(options.output, path):
             reader.error(f"--output: it would overwrite {path}")
     return options
-
-
-def why(fault):
-    """Why a run couldn't be made, in a line."""
-    said = fault.said.strip().splitlines() or [str(fault)]
-    return "; ".join(it.removeprefix("replaycheck: ") for it in said)
 
 
 def all_runs(options, sides):

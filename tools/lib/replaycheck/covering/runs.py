@@ -3,6 +3,7 @@ from __future__ import annotations
 
 from typing import Dict, List
 
+from replaycheck.endings import Fault
 from replaycheck.records import Record
 from replaycheck.sessions import Session
 
@@ -42,6 +43,12 @@ class Made(Record):
 
     given: str
     state: str
+
+
+def why(fault: Fault) -> str:
+    """Why a run couldn't be made, in a line."""
+    said = fault.said.strip().splitlines() or [str(fault)]
+    return "; ".join(it.removeprefix("replaycheck: ") for it in said)
 
 
 def parts_reached(session, sides: Sides, step) -> List[int]:

@@ -1,8 +1,10 @@
 """The command line of `replaycheck explore`, and its work."""
+import contextlib
 import os
 import random
 import sys
 
+from replaycheck.covering import lcov
 from replaycheck.endings import Fault, flush, write
 from replaycheck.file_heaps import heap_of_run
 from replaycheck.options import LAST_STEP, Reader, number
@@ -11,11 +13,12 @@ from replaycheck.sessions import program
 
 from . import goals, remote, scripts
 from .altered import Instructions
+from .executed import Executed, told as executed_told
 from .heads import MOST_PARTS, told_isa, told_regions
 from .keeping import Kept, Room
 from .lines import shown_name
 from .merging import Merged, in_order, sources_in, spooled
-from .outputs import Outputs, check_outputs
+from .outputs import OUTPUTS, Outputs, check_outputs
 from .picture import Picture
 from .request import Request, models_of, range_of, values_reader, words_of
 from .running import Progress, Runner
@@ -29,7 +32,7 @@ BYTES, WORDS = ("all", "flips", "edges"), ("skip", "flips")
 def options_of(page):
     reader = Reader(page)
     reader.add_argument("file", nargs="?")
-    for name in ("--input", "--supp", "--code", "--keep", "--goal", "--table", "--svg", "--sshlogin"):
+    for name in ("--input", "--supp", "--code", "--keep", "--goal", "--table", "--svg", "--lcov", "--sshlogin"):
         reader.option(name)
     reader.option("--isa", choices=ISAS)
     reader.region_options()
@@ -57,6 +60,7 @@ def options_of(page):
 
 def check(reader, options):
     """Rejects what doesn't go together."""
+    printed = [f"--{it}" for it in OUTPUTS if getattr(options, it) == "-"]
     words = options.words is not None or options.code is not None and options.at is None
     making = [it for it in ("--bytes", "--words", "--code", "--values", "--words-values", "--at", "--faults", "--code-range", "--pairs",
                             "--with-output", "--jobs", "--parts", "--keep", "--sshlogin", "--script")
@@ -77,8 +81,9 @@ def check(reader, options):
               (options.words_values is not None and not words, "--words-values goes with --words or --code"),
               (options.seed is not None and options.sample is None, "--seed goes with --sample"),
               (options.tables and options.sample is not None, "--sample makes parts: not of --from"),
-              (options.table == "-" and options.svg == "-", "--table - and --svg - at once"),
-              ("" in (options.table, options.svg, options.keep, options.code, options.goal), "an option without a "
+              (options.file is None and options.lcov is not None, "--lcov goes with a FILE"),
+              (len(printed) > 1, f"{' and '.join(f'{it} -' for it in printed)} at once"),
+              ("" in (options.table, options.svg, options.lcov, options.keep, options.code, options.goal), "an option without a "
                "value")]
     for is_so, text in faults:
         if is_so:
@@ -111,10 +116,14 @@ def chosen(options, count):
     return sorted(random.Random(options.seed or 0).sample(range(1, count + 1), min(options.sample, count)))
 
 
+def jobs_of(options):
+    return options.jobs or len(os.sched_getaffinity(0))
+
+
 def tables_made(options, request, room):
     """The tables of the parts, made as far as they aren't kept, in order, and what the summary says of a sample."""
     kept = Kept(options.keep) if options.keep is not None else None
-    jobs = options.jobs or len(os.sched_getaffinity(0))
+    jobs = jobs_of(options)
     places = max(1, request.places)
     count = kept.count(options.parts) if kept else options.parts
     count = count or min(places, MOST_PARTS, jobs * PARTS_A_JOB if options.sample is None else MOST_PARTS)
@@ -139,29 +148,35 @@ def tables_made(options, request, room):
 # ---- what is told
 
 
-def told(options, request, sources, notes, room, outputs):
+def told(options, request, sources, notes, room, outputs, executed):
     """Reads the tables as one, and tells what is asked for. Gives the status."""
     merged, goal = Merged(sources), None
+    if executed:
+        executed.step = merged.head.step
     if options.goal is not None:
         goal = goals.Goal(options.goal, merged, room)
     picture = Picture(merged, sources, goal) if "svg" in outputs else None
     lines = SourceLines(request and os.path.abspath(request.program.path))
     instructions = Instructions(request, lines)
-    takers = [it.add for it in (goal, picture) if it]
+    takers = [it.add for it in (goal, picture, executed) if it]
     is_table = "table" in outputs and options.sample is None
     for place in merged.places(outputs["table"].write if is_table else None):
         for take in takers:
             take(place)
+    covered = executed and executed.end()
     summary = Summary(merged, request.title() if request else anonymous(merged.head),
-                      request.before if request else lambda *_: None, lines, notes, request.step_note if request else "", instructions)
+                      request.before if request else lambda *_: None, lines, notes, request.step_note if request else "", instructions,
+                      executed_told(covered) if covered else "")
     if picture:
         outputs["svg"].write(picture.text(summary).encode("utf-8"))
+    if covered:
+        outputs["lcov"].write(lcov.text_of(covered).encode("utf-8", "surrogateescape"))
     if "table" in outputs and not is_table:
         for it in sources:
             outputs["table"].copy(it.path)
     for it in outputs.values():
         it.end()
-    if "-" not in (options.table, options.svg):
+    if "-" not in (options.table, options.svg, options.lcov):
         write(goal.told(instructions) if goal else "".join(f"{line}\n" for line in summary.lines()))
     flush()
     return int(bool(goal.count if goal else summary.is_new))
@@ -184,6 +199,11 @@ def check_heap(options, request):
         sys.stderr.write(f"replaycheck explore: {notice}\n")
 
 
+def executed_of(options, request):
+    """What the runs execute, where an info file is asked for."""
+    return contextlib.nullcontext() if options.lcov is None else Executed(request, jobs_of(options))
+
+
 def explore(options):
     check_outputs(options)
     with Room() as room:
@@ -196,9 +216,9 @@ def explore(options):
         if options.sshlogin is not None and not remote.is_there():
             raise Fault("--sshlogin: GNU parallel isn't there, Debian's package parallel; without --sshlogin "
                         "all parts run here")
-        with Outputs(options, room) as outputs:
+        with Outputs(options, room) as outputs, executed_of(options, request) as executed:
             if options.tables:
                 sources, notes = tables_given(options, request, room), []
             else:
                 sources, notes = tables_made(options, request, room)
-            return told(options, request, sources, [*(request.notes if request else []), *notes], room, outputs)
+            return told(options, request, sources, [*(request.notes if request else []), *notes], room, outputs, executed)

@@ -1,6 +1,7 @@
 """The files that `replaycheck explore` writes: each is written whole or not at all, and none over a file that is
 read."""
 import contextlib
+import itertools
 import os
 import shutil
 import stat
@@ -10,6 +11,8 @@ from replaycheck.endings import Fault, write
 from .keeping import TABLE
 from .leftovers import new_file
 from .lines import shown_name
+
+OUTPUTS = ("table", "svg", "lcov")
 
 
 class Output:
@@ -76,7 +79,7 @@ class Outputs:
     """The files that are asked for, opened before the work is done."""
 
     def __init__(self, options, room):
-        self.asked = [(name, getattr(options, name)) for name in ("table", "svg") if getattr(options, name) is not None]
+        self.asked = [(name, getattr(options, name)) for name in OUTPUTS if getattr(options, name) is not None]
         self.room, self.files = room, {}
 
     def __enter__(self):
@@ -118,8 +121,7 @@ def check_outputs(options):
     read = [("the program", options.file), ("the input", options.input), ("the suppressions", options.supp)]
     read = [(what, path) for what, path in read if path is not None]
     read += [("a table that is read", it) for it in options.tables]
-    asked = [(f"--{name}", path) for name, path in (("table", options.table), ("svg", options.svg))
-             if path not in (None, "-")]
+    asked = [(f"--{name}", path) for name in OUTPUTS if (path := getattr(options, name)) not in (None, "-")]
     for option, path in asked:
         for what, other in read:
             if is_one(path, other):
@@ -127,5 +129,6 @@ def check_outputs(options):
         folder, name = os.path.split(os.path.realpath(path))
         if options.keep is not None and folder == os.path.realpath(options.keep) and TABLE.fullmatch(name):
             raise Fault(f"{option} {shown_name(path)}: it would overwrite a part that --keep keeps")
-    if len(asked) == 2 and is_one(asked[0][1], asked[1][1]):
-        raise Fault(f"--table and --svg: both would write {shown_name(options.svg)}")
+    for (one, path), (other, again) in itertools.combinations(asked, 2):
+        if is_one(path, again):
+            raise Fault(f"{one} and {other}: both would write {shown_name(again)}")

@@ -23,18 +23,22 @@ EDITS = tuple(b"\n" + it for it in tables.EDITS)  # how rows begin
 class Progress:
     """Says on standard error how far it is, where that is a terminal."""
 
-    def __init__(self, edits):
+    def __init__(self, edits, what=""):
+        self.what = what
         self.edits, self.done, self.begun, self.last, self.is_shown = edits, 0, time.monotonic(), 0, False
 
     def add(self, content):
-        self.done += sum(map(content.count, EDITS))
+        self.count(sum(map(content.count, EDITS)))
+
+    def count(self, number):
+        self.done += number
         now = time.monotonic()
         if now - self.last > 0.2 and now - self.begun > 0.5 and sys.stderr.isatty():
             self.last, self.is_shown = now, True
             rate = self.done / (now - self.begun)
             left = f", {max(0, self.edits - self.done) / rate:.0f} s left" if rate and self.edits else ""
             edits = f"{self.done} of {self.edits} edits" if self.edits else f"{self.done} edits"
-            sys.stderr.write(f"\r\x1b[Kexplore: {edits}, {rate:.0f} a second{left}")
+            sys.stderr.write(f"\r\x1b[Kexplore: {self.what}{edits}, {rate:.0f} a second{left}")
             sys.stderr.flush()
 
     def end(self):

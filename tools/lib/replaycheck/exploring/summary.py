@@ -51,11 +51,12 @@ class SourceLines:
 
 class Summary:
     """What a merged table says, in words. `before` gives the value that stood at a place, or None. `step_note` says why
-    the sweep has its step, if that is known. `instructions` has those at the steps of alterations."""
+    the sweep has its step, if that is known. `instructions` has those at the steps of alterations. `executed` is a line on what the runs
+    execute, if that is known."""
 
-    def __init__(self, merged, title, before, sources, notes=(), step_note="", instructions=None):
+    def __init__(self, merged, title, before, sources, notes=(), step_note="", instructions=None, executed=""):
         self.merged, self.title, self.before, self.sources = merged, title, before, sources
-        self.instructions = instructions
+        self.instructions, self.executed = instructions, executed
         self.notes, self.step_note = notes, step_note
         self.outcomes = [Outcome(number, text) for number, text in enumerate(merged.outcomes)]
         self.unedited = self.outcomes[0]
@@ -102,6 +103,7 @@ class Summary:
         others = counted(len(self.outcomes) - 1, "outcome")
         yield f"{new}, by {counted(bad, 'edit')}; {others} other than the unedited"
         yield from self.clean_lines()
+        yield from filter(None, [self.executed])
         if finds:
             yield ""
             yield f"   {'edits':>8}  {'first edit':<{self.width}} new error, leak or stop"
