@@ -90,7 +90,7 @@ class Looker:
         self.selector.register(self.session.child.stdout, selectors.EVENT_READ, self)
 
     def give(self, sent: Sent, looks: List[Tuple[str, Optional[int]]]):
-        """Takes an edit and the looks at its run, each with the part of the code that it looks at."""
+        """Takes an edit and the lines that look at its run, each with the part of the code that it looks at."""
         if self.session is None:
             self.open()
         edit, stands = sent.edit, self.stands
@@ -98,7 +98,8 @@ class Looker:
         told = [*((it, None) for it in lines), *looks]
         self.waiting.extend((sent, *it) for it in told)
         self.unsent += "".join(f"{line}\n" for line, _ in told).encode("ascii")
-        self.lines, self.stands = self.lines + len(lines), edit
+        self.lines += sum(not it.startswith("look ") for it, _ in told)
+        self.stands = edit
 
     def send(self):
         """Writes what the pipe takes. The rest follows when a reply has come, as then there is room."""
@@ -167,7 +168,7 @@ class Executed:
     # ---- the looks
 
     def looks(self) -> List[Tuple[str, Optional[int]]]:
-        """The looks at a run, each with the part that it is at, None for several."""
+        """The lines that look at a run, each with the part that it is at, None where there isn't one."""
         found, others = [], []
         for begin in sorted(self.sides.parts):
             length = self.sides.length(begin)
@@ -177,7 +178,10 @@ class Executed:
                 others[-1][1] += length
             else:
                 others.append([begin, length])
-        return [*found, *((f"look last run 0x{begin:x} {length} 0", None) for begin, length in others)]
+        if not others:
+            return found
+        searches = [f"look next run 0x{begin:x} {length} {self.step}" for begin, length in others]
+        return [*((it, None) for it in ("goto 0", *searches, f"goto {self.step}")), *found]
 
     def search(self, edit: Edit):
         """Adds the parts that a run reaches, by a session of its own."""
@@ -199,13 +203,19 @@ class Executed:
 
     def work(self):
         """Gives the edits that wait to the sessions as far as they have room, and takes replies that have come."""
-        looks = self.looks()
+        if not self.reached:
+            self.search(UNEDITED)
         for it in self.lookers:
             if it.lines >= MOST_LINES and not it.waiting:
                 it.close()
-            while self.queue and it.has_room:
-                it.give(Sent(self.queue.popleft(), len(self.reached)), looks)
-                self.progress.count(1)
+        looks, ready = self.looks(), [it for it in self.lookers if it.has_room]
+        while self.queue and ready:
+            it = min(ready, key=lambda it: len(it.waiting))
+            it.give(Sent(self.queue.popleft(), len(self.reached)), looks)
+            self.progress.count(1)
+            if not it.has_room:
+                ready.remove(it)
+        for it in self.lookers:
             it.send()
         for key, _ in self.selector.select() if any(it.waiting for it in self.lookers) else ():
             for sent, line, part, reply in key.data.replies():
@@ -218,7 +228,7 @@ class Executed:
             raise fault_of(sent.edit, Refused(line, reply))
         if part is not None:
             (self.sides if sent.edit.is_of_input else self.altered).add(part, reply.removeprefix("sides "))
-        elif line.startswith("look last run ") and reply != "none" and not sent.is_missed:
+        elif line.startswith("look next run ") and reply != "none" and not sent.is_missed:
             sent.is_missed = True
             if len(self.reached) == sent.known:
                 self.search(sent.edit)
@@ -265,7 +275,7 @@ def told(covered: Covered) -> str:
     """A line that says how many lines are executed, and which aren't, of the files that have the most."""
     counts = [(len(it.lines) - len(it.unexecuted), it) for it in covered.files]
     named = sorted((it for it in counts if it[0]), key=lambda it: (-it[0], it[1].name))[:MOST_FILES]
-    texts = [f"{count} of {len(it.lines)}{'' if at else ' lines'} of {lcov.plain(it.name)}"
+    texts = [f"{count} of {len(it.lines)}{'' if at else ' lines'} of {lcov.plain(os.path.basename(it.name))}"
              + (f" (never {spans(it)})" if it.unexecuted else "") for at, (count, it) in enumerate(named)]
     more = len(counts) - len(named)
     return "executed: " + ", ".join([*(texts or ["no line"]), *([f"{more} more file{'s' * (more > 1)}"] if more else [])])
