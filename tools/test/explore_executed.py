@@ -15,7 +15,8 @@ from explore_signals import ended_by
 
 COVERAGE = str(TOOLS / "bin" / "replaycheck-coverage")
 STATION = ["station.elf", "--input=station.input"]
-BOOT = ["boot.elf", "--input=boot.input", "--step=1600"]
+STEP = 1600
+BOOT = ["boot.elf", "--input=boot.input", f"--step={STEP}"]
 BEGIN, ALL_CODE = 0x100A0, "look sides 0x100a0 556"  # of boot.elf
 FEW = ["--bytes=15..16", "--values=1,2"]
 VALUES = 5  # of each byte of the station's input, by chance
@@ -124,7 +125,7 @@ def lines_of_runs(tests, edits):
     """The lines of boot.elf that runs execute: the unedited one, and one for each edit, in a session of its own."""
     executed, file = set(), tests.room / "boot.elf"
     for lines in [[], *edits]:
-        told = looked(tests.program, ["--input", tests.room / "boot.input", file], [*lines, BOOT[2].replace("--step=", "goto "), ALL_CODE])
+        told = looked(tests.program, ["--input", tests.room / "boot.input", file], [*lines, f"goto {STEP}", ALL_CODE])
         executed |= {BEGIN + 4 * at for at, side in enumerate(told[-1].split()[1]) if side != "0"}
     found, table = frames(file, sorted(executed)), rows_of_lines(file, sorted(executed))
     places = (told or [("", *table[address])] for address, told in found.items())
@@ -176,7 +177,8 @@ def test_lcov_rejected(tests):
         ("without a value", [*words, "--lcov="], "an option without a value"),
         ("without a file", ["--from", "known.supp", "--lcov=o"], "--lcov goes with a FILE"),
         ("no folder", [*words, "--lcov=missing/o"], "missing/o: No such file"),
-        ("no source lines", ["half.elf", "--isa=rv32imc", "--input=packet.input", "--bytes=0", "--lcov=o"], "it has no source lines: compile and link it with -g"))])
+        ("no source lines", ["half.elf", "--isa=rv32imc", "--input=packet.input", "--bytes=0", "--lcov=o"],
+         "it has no source lines: compile and link it with -g"))])
     tests.refuses("--lcov rejected: no addr2line", [*words, "--lcov=o"], "cannot run no-addr2line", ADDR2LINE="no-addr2line")
     tests.refuses("--lcov rejected: a full disk", [*words, "--lcov=/dev/full"], "cannot write /dev/full: No space left")
     (tests.room / "out").mkdir(exist_ok=True)

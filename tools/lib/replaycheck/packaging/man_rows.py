@@ -116,7 +116,11 @@ station.c        75/85  88.2%   43/62 69.4%    8/8 100.0%
                 "patch 0x0001023c 0x00000013\nstill running at step 10000: 1 other edit; --step N looks further\n"
                 "reached by 1 of 13 edits: a line that begins with `exited 0`\n", 1),
         Example("Every value of each byte that is read, with a picture of all outcomes:",
-                "replaycheck explore station.elf --input station.input \\\n--svg picture.svg >summary.txt", status=1)),
+                "replaycheck explore station.elf --input station.input \\\n--svg picture.svg >summary.txt", status=1),
+        Example("Which lines no edit reaches, and the same for `genhtml`:",
+                "replaycheck explore station.elf --input station.input \\\n--bytes 15..18 --values edges --lcov edits.info |\n"
+                "grep -o '^executed: [^)]*)'", "executed: 79 of 85 lines of station.c (never 32,45,56,68,70,109)\n",
+                needs=ADDR2LINE)),
     "gdb": (
         Example("What gdb has to know before it connects:", "replaycheck gdb --commands >replaycheck.gdb"),
         Example("The step at which gdb begins:",
