@@ -152,7 +152,7 @@ def told(options, request, sources, notes, room, outputs, executed):
     """Reads the tables as one, and tells what is asked for. Gives the status."""
     merged, goal = Merged(sources), None
     if executed:
-        executed.step = merged.head.step
+        executed.begin(merged.head.step, request.edits() if options.sample is None else 0)
     if options.goal is not None:
         goal = goals.Goal(options.goal, merged, room)
     picture = Picture(merged, sources, goal) if "svg" in outputs else None

@@ -115,7 +115,7 @@ class Looker:
         """Reads what has come: of each reply the line that it is to, and its edit and part."""
         content = os.read(self.session.child.stdout.fileno(), 1 << 16)
         if not content:
-            raise fault_of(self.waiting[0][0].edit, self.session.ended())
+            raise fault_of(self.waiting[0][0].edit if self.waiting else self.stands, self.session.ended())
         *lines, self.unread = (self.unread + content).split(b"\n")
         for reply in lines:
             yield (*self.waiting.popleft(), reply.decode("utf-8", "surrogateescape"))
@@ -138,16 +138,22 @@ class Executed:
         # What the runs of edits of the input and what other ones did.
         self.sides, self.altered = (Sides(self.code.ranges, self.code.unit) for _ in range(2))
         self.reached: Set[int] = set()
+        self.looks: Tuple[int, list] = (0, [])  # the lines that look at a run, for a number of parts that are reached
         self.queue: Deque[Edit] = deque([UNEDITED])
         self.selector = selectors.DefaultSelector()
         self.lookers = [Looker(self.selector, self.opened) for _ in range(jobs)]
-        self.progress, self.covered = Progress(request.edits(), "lines executed by "), None
+        self.progress: Optional[Progress] = None
 
     def __enter__(self):
         return self
 
+    def begin(self, step, edits):
+        """Chooses the step. `edits` is the number of edits, or 0 if that isn't known."""
+        self.step, self.progress = step, Progress(edits, "lines executed by ")
+
     def __exit__(self, *_):
-        self.progress.end()
+        if self.progress:
+            self.progress.end()
         for it in self.lookers:
             it.close()
         self.selector.close()
@@ -167,7 +173,7 @@ class Executed:
 
     # ---- the looks
 
-    def looks(self) -> List[Tuple[str, Optional[int]]]:
+    def lines_of_looks(self) -> List[Tuple[str, Optional[int]]]:
         """The lines that look at a run, each with the part that it is at, None where there isn't one."""
         found, others = [], []
         for begin in sorted(self.sides.parts):
@@ -208,11 +214,13 @@ class Executed:
         for it in self.lookers:
             if it.lines >= MOST_LINES and not it.waiting:
                 it.close()
-        looks, ready = self.looks(), [it for it in self.lookers if it.has_room]
+        if self.looks[0] != len(self.reached):
+            self.looks = len(self.reached), self.lines_of_looks()
+        looks, ready = self.looks[1], [it for it in self.lookers if it.has_room]
         while self.queue and ready:
             it = min(ready, key=lambda it: len(it.waiting))
             it.give(Sent(self.queue.popleft(), len(self.reached)), looks)
-            self.progress.count(1)
+            self.progress.add(1)
             if not it.has_room:
                 ready.remove(it)
         for it in self.lookers:
@@ -250,10 +258,10 @@ class Executed:
         """Waits for the last replies."""
         while self.queue or any(it.waiting for it in self.lookers):
             self.work()
+        self.progress.end()
         for it in self.request.files:
             check_unchanged(it)
-        self.covered = Covered(self.path, self.code, self, self.places)
-        return self.covered
+        return Covered(self.path, self.code, self, self.places)
 
 
 def check_lines(path, code: Code, places: Places):

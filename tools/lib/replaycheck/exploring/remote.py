@@ -11,7 +11,7 @@ from replaycheck.endings import Fault, start
 
 from .keeping import Room
 from .lines import shown, shown_name
-from .running import Runner
+from .running import Runner, edits_in
 
 PLAIN = re.compile(r"[A-Za-z0-9_./-]+")
 SCRIPT = """program={program}
@@ -84,7 +84,7 @@ class Remote(Runner):
                 file = open(path, "wb")
             if file:
                 file.write(line)
-                progress.add(b"\n" + line)
+                progress.add(edits_in(b"\n" + line))
             if file and line.startswith(b"end "):
                 file.close()
                 file, source = None, self.source(path)

@@ -20,17 +20,18 @@ MOST_SAID = 1 << 16
 EDITS = tuple(b"\n" + it for it in tables.EDITS)  # how rows begin
 
 
+def edits_in(content):
+    """How many rows of edits begin in a text."""
+    return sum(map(content.count, EDITS))
+
+
 class Progress:
     """Says on standard error how far it is, where that is a terminal."""
 
     def __init__(self, edits, what=""):
-        self.what = what
-        self.edits, self.done, self.begun, self.last, self.is_shown = edits, 0, time.monotonic(), 0, False
+        self.what, self.edits, self.done, self.begun, self.last, self.is_shown = what, edits, 0, time.monotonic(), 0, False
 
-    def add(self, content):
-        self.count(sum(map(content.count, EDITS)))
-
-    def count(self, number):
+    def add(self, number):
         self.done += number
         now = time.monotonic()
         if now - self.last > 0.2 and now - self.begun > 0.5 and sys.stderr.isatty():
@@ -125,7 +126,7 @@ class Runner:
             elif pipe is job.child.stdout:
                 self.write(job, content)
                 job.tail = (job.tail + content)[-100:]
-                progress.add(b"\n" + content)
+                progress.add(edits_in(b"\n" + content))
             else:
                 job.said = (job.said + content)[:MOST_SAID]
         return ended
