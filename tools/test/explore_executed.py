@@ -132,21 +132,29 @@ def lines_of_runs(tests, edits):
     return {(os.path.basename(name), line) for told in places for _, name, line in told}
 
 
+def edits_in(tests, words):
+    """The lines of each edit of an exploration, as its table has them."""
+    tests.run([*words, "--table=rows"])
+    rows = (line.rpartition(" ")[0] for line in (tests.room / "rows").read_text().splitlines())
+    return [row.split("; ") for row in rows if row.startswith(("skip ", "patch "))]
+
+
 def test_alterations(tests):
     """Skipped instructions, at steps and in the code, and a bit of pc: its run may begin within an instruction of 32 bits."""
-    for label, words, edits in (
-            ("steps", ["--at=1288..1292", "--faults=skip"], [[f"skip {step}"] for step in range(1288, 1293)]),
-            ("pairs", ["--at=1290..1291", "--faults=skip", "--pairs=skip"], [["skip 1290"], ["skip 1291"], ["skip 1290", "skip 1291"]]),
-            ("code", ["--words=0x1023c..0x10240"], [["patch 0x1023c 0x13"], ["patch 0x10240 0x13"]])):
-        wanted = lines_of_runs(tests, edits)
-        found = records(written(tests, [*BOOT, *words]).decode())
+    for label, more in (("steps", ["--at=0..", "--code=main", "--faults=skip"]),
+                        ("code", ["--words=0x10234..0x1023c", "--words-values=0x13,0x100073"]),
+                        ("pairs", ["--at=1290..1291", "--faults=skip", "--pairs=skip"])):
+        words = [*BOOT, *more, "--jobs=1"]
+        wanted = lines_of_runs(tests, edits_in(tests, words))
+        found = records(written(tests, words).decode())
         came = {(os.path.basename(name), line) for name, it in found.items() for line, is_executed in it.lines.items() if is_executed}
         tests.check(f"--lcov: alterations, {label}", "" if came == wanted else sorted(came ^ wanted))
-    words = ["rv32imc.elf", "--isa=rv32imc", "--input=boot.input", "--step=1600"]
+    words = ["rv32imc.elf", "--isa=rv32imc", "--input=boot.input", f"--step={STEP}"]
     plain = records(of_inputs(tests, "rv32imc.elf", [(tests.room / "boot.input").read_bytes()], "--isa=rv32imc").decode())
-    found = records(written(tests, [*words, "--at=1200..1201", "--faults=pc"]).decode())
-    tests.check("--lcov: no other lines by pc within an instruction", [name for name, it in plain.items()
-                                                                       if found[name].lines.keys() != it.lines.keys()])
+    found = records(written(tests, [*words, "--at=1280..1283", "--faults=pc"]).decode())
+    differ = [name for name, it in plain.items() if any(getattr(found[name], kind).keys() != getattr(it, kind).keys()
+                                                        for kind in ("lines", "branches"))]
+    tests.check("--lcov: no other lines and branches by pc within an instruction", differ)
 
 
 def test_told(tests):
