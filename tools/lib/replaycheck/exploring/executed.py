@@ -111,6 +111,10 @@ class Looker:
             except BrokenPipeError:
                 self.unsent = b""  # the end of its output says why
 
+    def is_done(self, sent: Sent) -> bool:
+        """Whether the last reply was the last one of an edit."""
+        return not self.waiting or self.waiting[0][0] is not sent
+
     def replies(self) -> Iterator[Tuple[Sent, str, Optional[int], str]]:
         """Reads what has come: of each reply the line that it is to, and its edit and part."""
         content = os.read(self.session.child.stdout.fileno(), 1 << 16)
@@ -220,7 +224,6 @@ class Executed:
         while self.queue and ready:
             it = min(ready, key=lambda it: len(it.waiting))
             it.give(Sent(self.queue.popleft(), len(self.reached)), looks)
-            self.progress.add(1)
             if not it.has_room:
                 ready.remove(it)
         for it in self.lookers:
@@ -228,6 +231,8 @@ class Executed:
         for key, _ in self.selector.select() if any(it.waiting for it in self.lookers) else ():
             for sent, line, part, reply in key.data.replies():
                 self.take(sent, line, part, reply)
+                if key.data.is_done(sent):
+                    self.progress.add(int(not sent.is_missed))
             key.data.send()
 
     def take(self, sent: Sent, line: str, part: Optional[int], reply: str):
