@@ -1,9 +1,8 @@
 -- A line that gives the input bytes is answered as it asks, once it is answered as it was read.
-use Rattle.std.proofs.Common.{◌≡◌, ◌∙◌, ℕ, Bool, true, List, length, Option, Some, None, Result, Ok, Err, inl, inr}
+use Rattle.std.proofs.Common.{◌≡◌, ℕ, Bool, true, List, length, Option, Some, None, Result, Ok, Err, inl, inr}
 use Rattle.std.proofs.Common.{refl, ap, sym, subst}
 use Rattle.std.specs.Prelude.{option_map}
 use Rattle.checkpoints.specs.Edits.{MayShorten as ShortenedBy}
-use Rattle.checkpoints.specs.declared.effect.Effect.{Effect}
 use Rattle.commands.specs.Faults.{fault_of}
 use Rattle.commands.specs.declared.command.Command.{Command}
 use Rattle.commands.specs.declared.command.Command.TheVariants.{Edit}
@@ -17,7 +16,7 @@ use Rattle.scenario.specs.Scenario.{Scenario}
 use Rattle.scenario.proofs.InputSteps.{of-input}
 use Rattle.replay_session.specs.Replies.{RepliesAs}
 use Rattle.replay_session.specs.Stages.{Stage}
-use Rattle.replay_session.specs.Turns.{accepted_as, accepted_by, if_command, line_refusal, unless_refused}
+use Rattle.replay_session.specs.Turns.{accepted_as, accepted_by, line_refusal, unless_refused}
 use Rattle.look_lines.specs.Inputs.{Makes, ReadsFor}
 use Rattle.looks.specs.Views.{giving}
 

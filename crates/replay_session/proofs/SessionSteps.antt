@@ -1,5 +1,5 @@
 -- What each part of a line does to the turn of a session.
-use Rattle.std.proofs.Common.{◌≡◌, ℕ, ◌-◌, true, false, ap, sym, ◌∙◌, Result, Ok, Err, List, length, take}
+use Rattle.std.proofs.Common.{◌≡◌, ℕ, ◌-◌, true, false, refl, ap, sym, ◌∙◌, Result, Ok, Err, List, length, take}
 use Rattle.std.proofs.Math.Path.{transport}
 use Rattle.std.proofs.lemmas.Bool.{false≢true}
 use Rattle.std.specs.Prelude.{OnErr, OnOk, is_err, is_some}
@@ -73,3 +73,21 @@ word-dropped sc (Callers n) h = absurd h
 word-dropped sc (Redzone n) h = absurd h
 word-dropped sc (Volume n) h = absurd h
 word-dropped sc (Show kinds) h = absurd h
+
+-- an edit that writes a code needs memory
+pub writes-need : (sc : Scenario) (edit : AnEdit) → IsWrite (row sc edit).effect → (row sc edit).may_fail ≡ true
+writes-need sc (Patch addr word) h = refl
+writes-need sc (PatchHalf addr half) h = refl
+writes-need sc (Input offset byte) h = absurd h
+writes-need sc (Append byte) h = refl
+writes-need sc (Overwrite offset bytes) h = refl
+writes-need sc (Give bytes) h = refl
+writes-need sc Cut h = absurd h
+writes-need sc (Mark mark) h = refl
+writes-need sc (Unmark i) h = absurd h
+writes-need sc (Switch i on) h = absurd h
+writes-need sc (Add rule) h = refl
+writes-need sc (Callers n) h = absurd h
+writes-need sc (Redzone n) h = absurd h
+writes-need sc (Volume n) h = absurd h
+writes-need sc (Show kinds) h = absurd h

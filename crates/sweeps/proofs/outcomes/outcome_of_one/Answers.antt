@@ -19,14 +19,14 @@ edit-requires-2 c = fits c.args.scenario.now c.args.standing c.args.change c.req
 
 pub edit-requires-3 : goal.edit-requires-3
 edit-requires-3 c =
-    subst (IsTaken c.args.scenario.now) (sym c.edit-3.ensures)
+    subst (IsTaken c.args.scenario.now) (sym c.edit-2.ensures)
     (taken c.args.scenario.now c.args.standing c.args.change c.requires.stands c.requires.at)
 
 pub take_back-requires : goal.take_back-requires
 take_back-requires c =
     let sc = c.args.scenario.now in
     subst (λ s. GoesBack s c.args.standing)
-    (sym (c.in_ok-edit.ensures.ok ∙ ap (λ e. (row sc e).after) c.edit-3.ensures))
+    (sym (c.in_ok-edit.ensures.ok ∙ ap (λ e. (row sc e).after) c.edit-2.ensures))
     (goes-back sc c.args.standing c.args.change c.requires.stands c.requires.at)
 
 pub returns-clause-outcome : goal.returns-clause-outcome
@@ -36,8 +36,8 @@ returns-clause-outcome c =
     let edit = edit_of c.args.change in
     let effect : c.effect-effect.result ≡ (row sc edit).effect = c.effect-effect.ensures.effect
     ∙ ap (λ e. (row sc e).effect) c.edit.ensures in
-    let after : c.edit-4.new.self ≡ (row sc edit).after = c.in_ok-edit.ensures.ok
-    ∙ ap (λ e. (row sc e).after) c.edit-3.ensures in
+    let after : c.edit-3.new.self ≡ (row sc edit).after = c.in_ok-edit.ensures.ok
+    ∙ ap (λ e. (row sc e).after) c.edit-2.ensures in
     let whole = after ∙ sym (ap (with_second (row sc edit).after) c.requires.one) in
     let leads = c.edits_follow.ensures sc edit (taken sc c.args.standing c.args.change c.requires.stands
     c.requires.at) in

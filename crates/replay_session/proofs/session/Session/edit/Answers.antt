@@ -1,4 +1,4 @@
-use Rattle.std.proofs.Common.{◌≡◌, ◌-◌, ap, length, sym, subst, take, ◌∙◌}
+use Rattle.std.proofs.Common.{◌≡◌, ◌-◌, ap, length, refl, sym, subst, take, ◌∙◌}
 use Rattle.checkpoints.specs.Effects.{EffectShows, IsWrite}
 use Rattle.checkpoints.specs.Work.{EditMoves}
 use Rattle.checkpoints.specs.declared.effect.Effect.{Effect}
@@ -6,7 +6,7 @@ use Rattle.scenario.specs.Scenario.{Scenario, first_state}
 use Rattle.replay_session.specs.Session.{turn_of, trail_of}
 use Rattle.replay_session.specs.Work.{work_on}
 use Rattle.scenario.proofs.TrailFacts.{within}
-use Rattle.replay_session.proofs.SessionSteps.{an-error, followed, loads-followed, no-error, word-dropped}
+use Rattle.replay_session.proofs.SessionSteps.{an-error, followed, loads-followed, no-error, word-dropped, writes-need}
 use Rattle.replay_session.proofs.WorkSteps.{moves-followed}
 use Rattle.replay_session.proofs.session.Session.edit.Goals as goal
 
@@ -44,6 +44,18 @@ invariant_of-self-then-is_err c =
       loads = rw (same, back) c.args.self.now.loads;
       right = rw (same, back) c.args.self.now.right;
     }
+
+pub returns-then-is_err-clause-err : goal.returns-then-is_err-clause-err
+unfolding turn_of
+returns-then-is_err-clause-err c =
+    let (write, same) = an-error c.follow.result (sym c.is_err.ensures.value ∙ c.if-is_err.true)
+    c.follow.ensures.same in
+    let sc = c.args.self.now.scenario in
+    let wrote = subst IsWrite c.effect-effect.ensures.effect write in
+    let drop : Scenario → Scenario = λ after. record after { words = take (length after.words - 1) after.words } in
+    let back : c.drop_word.new.self ≡ sc =
+    c.drop_word.ensures ∙ ap drop c.in_ok-edit.ensures.ok ∙ word-dropped sc c.args.edit wrote in
+    (refl, writes-need sc c.args.edit wrote, λ i. record { scenario = back i; lines = c.args.self.now.lines })
 
 pub returns-clause-moves : goal.returns-clause-moves
 unfolding turn_of trail_of
