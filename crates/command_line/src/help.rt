@@ -129,6 +129,9 @@ and don't count. Each is answered for the chosen step of the run with all edits:
                                 __ below a byte that may not be accessed
   look output FROM LEN          of the program's output up to LEN bytes, up to 4096, from position
                                 FROM on: those that there are
+  look sides ADDR LEN           of each instruction in LEN bytes, up to 4096, a digit: 0, it wasn't
+                                executed; 1, it was, and the run always continued behind it; 2,
+                                always elsewhere; 3, both
   look input                    the number of bytes of the input that were read, its length, and
                                 `yes` if a read has asked for more than were left, else `no`
   look certify                  the line of `replaycheck certify`; here the marks count, too
@@ -142,8 +145,8 @@ whether they may be accessed. A mark is no step.
 The answer is `step N`, or `none`. Refusals, besides out of memory (1):
   2   no look, or a field that is missing, too many, empty or of the wrong form
   5   END or FROM above 4194304
-  6   a range of 0 bytes, one that ends above 2^32, or above 4096 bytes for memory, output or
-      `shadow`
+  6   a range of 0 bytes, one that ends above 2^32, or above 4096 bytes for memory, output, sides
+      or `shadow`
 
 These lines alter the machine just before step STEP, where it runs. They count as lines, and
 `unmark I` takes one back: alterations and marks are one list, applied in order.
