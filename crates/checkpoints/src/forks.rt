@@ -88,7 +88,7 @@ impl Fork {
 }
 
 /// A copy of a machine, with the code written if an effect writes one.
-fn written_copy(machine: &Machine, effect: Effect) -> Result<Machine, AllocError>
+pub(crate) fn written_copy(machine: &Machine, effect: Effect) -> Result<Machine, AllocError>
     ensures { IfOk result (λ copy. (s : State) → Shows machine.now s → Shows copy (written_by effect s)) }
 {
     match effect {
