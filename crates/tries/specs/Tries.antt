@@ -9,7 +9,6 @@ use Rattle.checkpoints.specs.declared.sides.Sides.{Sides}
 use Rattle.commands.specs.declared.edit.Edit.{Edit}
 use Rattle.commands.specs.declared.fault.Fault.{Fault}
 use Rattle.commands.specs.declared.fault.Fault.TheVariants.{Memory}
-use Rattle.guest_elf.specs.declared.image.Image.{Image}
 use Rattle.line_server.specs.Answers.{AnswersBy}
 use Rattle.line_server.specs.Lines.{longest_line}
 use Rattle.look_lines.specs.Inputs.{ReadsFor, begins_with, edit_tried}
@@ -34,9 +33,10 @@ pub record TriesStage : Type 0 where
   pub seen : List Sides
   pub told : List (List ℕ × ℕ)
 
--- that of a session of a program without a try
-abbrev pub untried : Image → Stage → TriesStage
-untried image session = record { session = session; range = range_of image; seen = []; told = [] }
+-- that of a session without a try
+abbrev pub untried : Stage → TriesStage
+untried session =
+    record { session = session; range = range_of session.turn.scenario.image; seen = []; told = [] }
 
 -- is a line begun by a word answered? One that is too long isn't, and none is once the limit of lines is reached
 unfoldable pub asks : List ℕ → Turn → List ℕ → Bool

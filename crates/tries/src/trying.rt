@@ -97,7 +97,7 @@ impl<'a> Tries<'a> {
     ghost use Rattle.tries.specs.Tries.{Differ, LeavesBase, Refused, TellsLine, Tried as HasTried, untried};
 
     pub(crate) fn new(session: Session<'a>) -> Result<Self, AllocError>
-        ensures { IfOk result (λ tries. stage_of_tries tries ≡ untried (scenario_of session.entry).image (stage_of session.entry)) }
+        ensures { IfOk result (λ tries. stage_of_tries tries ≡ untried (stage_of session.entry)) }
     {
         let alloc = session.allocator();
         let range = range_of(session.image());
