@@ -188,12 +188,12 @@ up to the chosen step. HEX is two hexadecimal digits each byte:
   differs A HEX             lists them for the input with its bytes from offset A on replaced
 
 The reply to `try` is this line, after the outcome if no earlier try had the same one:
-  tried K new N again M     outcome K; N sides that no earlier run had; M sides that the run has at
-                            least twice, and that no earlier run had twice
+  tried K new N again M     outcome K; N sides that no earlier try had; M sides that the run has at
+                            least twice, and that no earlier try had twice
   outcome K                 an outcome, numbered from 0, and its lines as in a table of
                             `replaycheck sweep`
-A side is an instruction with whether the run continued behind it or elsewhere. Earlier runs are
-those of all tries, and that of the session.
+A side is an instruction with whether the run continued behind it or elsewhere. Sides are told of
+the segment in which the program begins, at most of its first 4 MiB in the file.
 
 The reply to `differs` is a line for each compare that differs, and then `end`:
   STEP PC A B A' B'         the step in the session's run, the address, the operands there, and
