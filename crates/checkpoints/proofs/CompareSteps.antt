@@ -109,7 +109,7 @@ module _ (start : State) (setup : Setup) (marks : List Alteration) (from : ℕ) 
       let more : k + suc n ≡ k + n + 1 = omega arith in (
         before.0 ++ of_step (k + n),
         ap up_to more ∙ compares-more (k + n) (omega arith) ∙ ap (λ xs. xs ++ of_step (k + n)) before.1
-        ∙ append_assoc (up_to k) before.0 (of_step (k + n)),
+            ∙ append_assoc (up_to k) before.0 (of_step (k + n)),
       )
 
   -- as many as there may be are found

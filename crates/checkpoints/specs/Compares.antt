@@ -46,17 +46,18 @@ operands_in core code = option_and_then (operands_of core) (row_of_code code)
 abbrev pub code_at : State → Setup → Option Code
 code_at s setup = code_in (deed_at s.core s.bytes setup.hooks)
 
--- the compare that the step of a state executes, if it executes one
+-- the compare of a step at an address, by its operands
 abbrev pub compare_by : ℕ → ℕ → ℕ × ℕ → Compare
 compare_by step pc operands = record { step = step; pc = pc; left = operands.0; right = operands.1 }
 
+-- the compare that the step of a state executes, if it executes one
 abbrev pub compare_at : ℕ → State → Setup → Option Compare
 compare_at step s setup =
     option_map (compare_by step s.core.pc) (option_and_then (operands_in s.core) (code_at s setup))
 
 -- ---- the compares of a run
 
--- those of its steps from one on, below another, in order
+-- those of the steps of a run from one on, below another, in order
 unfoldable pub compares_between : State → Setup → List Alteration → ℕ → ℕ → List Compare
 compares_between start setup marks from zero = []
 compares_between start setup marks from (suc k) =

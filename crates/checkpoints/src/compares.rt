@@ -17,22 +17,22 @@ use guest_machine::{Alteration, Code, Machine, Register, Setup};
 use instructions::{Instruction, Operation, row_of_code};
 use std::alloc::{AllocError, Global};
 
-/// A compare of a run: a branch, or SLT, SLTU, SLTI or SLTIU.
+/// A compare that a run executes: a branch, or SLT, SLTU, SLTI or SLTIU.
 #[derive(Clone, Copy)]
 pub struct Compare {
-    /// The step that executes it.
+    /// The step.
     pub step: u32,
     /// The address of the instruction.
     pub pc: u32,
-    /// The value of its first register, whichever of its bits are undefined.
+    /// The value of the instruction's first register, whichever of its bits are undefined.
     pub left: u32,
-    /// That of its second one, or the immediate, sign-extended.
+    /// The value of the second register, in the same way, or the immediate, sign-extended.
     pub right: u32,
 }
 
 impl Fork {
-    /// Returns the compares of a run that the fork's machine is of, from the fork's step on and below another, in order: the first `most`.
-    /// The steps are executed up to the last of these, and count on no meter.
+    /// Returns the first `most` compares, in order, of the fork's run from the fork's step on and below another step. No step is executed
+    /// from the last of these compares on, nor once the machine is halted. The steps count on no meter.
     pub fn compares(
         &self,
         alloc: Global,
@@ -48,7 +48,7 @@ impl Fork {
         compares_from(alloc, copy, setup, marks, self.step, step, most)
     }
 
-    /// The same of an edited run, if an edit with this effect leads to that run.
+    /// Returns the same of an edited run, if an edit with this effect leads from the fork's run to it.
     pub fn compares_edited(
         &self,
         alloc: Global,
@@ -75,7 +75,7 @@ impl Fork {
     }
 }
 
-/// The first `most` compares of a run from a step on and below another, from the machine before the first.
+/// The first `most` compares of a run from a step on and below another, by the machine before the first step.
 fn compares_from(
     alloc: Global,
     machine: Machine,
