@@ -1,11 +1,13 @@
 -- The run of a session with other bytes as its input, tried from a machine at which they don't show yet.
-use Rattle.std.specs.Prelude.{◌≡◌, ℕ, false, take}
+use Rattle.std.specs.Prelude.{◌≡◌, ℕ, false, List, take}
 use Rattle.std.proofs.Props.{props}
 use Rattle.checkpoints.specs.Compares.{compares_between}
-use Rattle.checkpoints.specs.Forks.{IsForkFor}
+use Rattle.checkpoints.specs.Forks.{IsForkFor, WritesWhole}
 use Rattle.checkpoints.specs.Known.{IsKnown, known-prop}
 use Rattle.checkpoints.specs.OneProof.{shows-prop}
+use Rattle.checkpoints.specs.declared.compares.Compare.{Compare}
 use Rattle.checkpoints.specs.declared.effect.Effect.{Effect}
+use Rattle.checkpoints.specs.declared.effect.Effect.TheVariants.{Nowhere, After, Input, End, Heap, Patch, Anew}
 use Rattle.commands.specs.declared.edit.Edit.{Edit}
 use Rattle.commands.specs.declared.edit.Edit.TheVariants.{Overwrite, Give}
 use Rattle.run_values.specs.declared.span.Span.{Span}
@@ -32,12 +34,24 @@ pub record IsTried (sc : Scenario) (range : Span) (tried : Tried) : Type 0 where
   pub outcome : IsOutlineOf false sc tried.outcome.items
   pub sides : IsSidesOf sc range tried.sides.items
 
--- the first compares of two scenarios' runs from a step on, below the chosen one
-pub record IsCompared (sc edited : Scenario) (from most : ℕ) (compared : Compared) : Type 0 where
-  pub own : compared.own.items ≡ take most (compares_between (first_state sc) sc.setup sc.marks from sc.step)
-  pub other : compared.other.items
-      ≡ take most (compares_between (first_state edited) edited.setup edited.marks from edited.step)
+-- the compares of a scenario's run from a step on, below the chosen one
+abbrev pub compares_of : Scenario → ℕ → List Compare
+compares_of sc from = compares_between (first_state sc) sc.setup sc.marks from sc.step
 
--- a seed has at most one proof, so a type can keep it as a ghost field
+-- the first of these of two scenarios
+pub record IsCompared (sc edited : Scenario) (from most : ℕ) (compared : Compared) : Type 0 where
+  pub own : compared.own.items ≡ take most (compares_of sc from)
+  pub other : compared.other.items ≡ take most (compares_of edited from)
+
+-- that a seed is one has at most one proof, so a type can keep it as a ghost field
+whole-prop : (effect : Effect) → IsProp (WritesWhole effect)
+whole-prop Nowhere = hlevel props
+whole-prop (After step) = hlevel props
+whole-prop (Input offset) = hlevel props
+whole-prop End = hlevel props
+whole-prop Heap = hlevel props
+whole-prop (Patch addr code) = hlevel props
+whole-prop (Anew addr code) = hlevel props
+
 pub seed-prop : (sc : Scenario) (effect : Effect) (range : Span) (seed : Seed) → IsProp (IsSeed sc effect range seed)
-seed-prop sc effect range seed = hlevel (shows-prop, known-prop, props)
+seed-prop sc effect range seed = hlevel (whole-prop, shows-prop, known-prop, props)

@@ -1,11 +1,13 @@
 //! The run of a session with other bytes as its input, tried from a machine at which they don't show yet.
-ghost use Rattle.std.specs.Prelude.{◌≡◌, ◌≤◌, ℕ, IfOk};
+ghost use Rattle.std.specs.Prelude.{◌≡◌, ◌≤◌, ℕ, IfOk, take};
+ghost use Rattle.guest_machine.specs.Run.{pre};
+ghost use Rattle.guest_machine.specs.Shows.{Shows};
 ghost use Rattle.checkpoints.specs.Effects.{IsOfSetup, LeadsTo, Run};
 ghost use Rattle.checkpoints.specs.Forks.{IsForkFor};
 ghost use Rattle.checkpoints.specs.Sides.{IsSides};
 ghost use Rattle.scenario.specs.Edits.{row, IsTaken};
-ghost use Rattle.scenario.specs.Scenario.{run_of};
-ghost use Rattle.replay_session.specs.Trying.{GivesInput, IsCompared, IsSeed, IsTried};
+ghost use Rattle.scenario.specs.Scenario.{first_state, run_of};
+ghost use Rattle.replay_session.specs.Trying.{GivesInput, IsCompared, IsSeed, IsTried, compares_of};
 
 use checkpoints::{Compare, Effect, Fork, Sides};
 use commands::Edit;
@@ -84,12 +86,52 @@ pub(crate) fn try_edit(
 {
     edits_follow();
     let effect = scenario.effect(&edit);
-    let given = scenario.setup().input.as_slice().to_vec(alloc)?;
+    let given = scenario.input().to_vec(alloc)?;
     let sides = seed.sides.as_slice().to_vec(alloc)?;
     scenario.edit(edit)?;
     let tried = follow(scenario, effect, &seed.fork, sides, range);
     scenario.give(given);
     tried
+}
+
+/// Returns the first compares of a scenario's run from a fork's step on and below the chosen one. The fork is one of that run.
+fn compares(
+    alloc: Global,
+    scenario: &Scenario<'_>,
+    fork: &Fork,
+    most: usize,
+) -> Result<Vec<Compare>, AllocError>
+    ensures { IfOk result (λ found. Shows fork.now.machine (pre (first_state scenario.now) scenario.now.setup scenario.now.marks fork.now.step)
+        → found.items ≡ take most (compares_of scenario.now fork.now.step)) }
+{
+    fork.compares(
+        alloc,
+        scenario.setup(),
+        scenario.marks(),
+        scenario.step(),
+        most,
+    )
+}
+
+/// The same of a scenario to whose run an effect leads from the fork's run.
+fn compares_edited(
+    alloc: Global,
+    scenario: &Scenario<'_>,
+    effect: Effect,
+    fork: &Fork,
+    most: usize,
+) -> Result<Vec<Compare>, AllocError>
+    ensures { IfOk result (λ found. (one : Run) (last : ℕ) → LeadsTo effect one (run_of scenario.now) → IsForkFor effect one last fork.now
+        → found.items ≡ take most (compares_of scenario.now fork.now.step)) }
+{
+    fork.compares_edited(
+        alloc,
+        effect,
+        scenario.setup(),
+        scenario.marks(),
+        scenario.step(),
+        most,
+    )
 }
 
 /// Returns the first compares of a scenario's run, and those of its run with an edit that gives the input bytes, from a fork's step on and
@@ -109,23 +151,10 @@ pub(crate) fn compare_edit(
 {
     edits_follow();
     let effect = scenario.effect(&edit);
-    let given = scenario.setup().input.as_slice().to_vec(alloc)?;
-    let own = fork.compares(
-        alloc,
-        scenario.setup(),
-        scenario.marks(),
-        scenario.step(),
-        most,
-    )?;
+    let given = scenario.input().to_vec(alloc)?;
+    let own = compares(alloc, scenario, fork, most)?;
     scenario.edit(edit)?;
-    let edited = fork.compares_edited(
-        alloc,
-        effect,
-        scenario.setup(),
-        scenario.marks(),
-        scenario.step(),
-        most,
-    );
+    let edited = compares_edited(alloc, scenario, effect, fork, most);
     scenario.give(given);
     let other = edited?;
     Ok(Compared { own, other })
