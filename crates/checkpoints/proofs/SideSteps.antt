@@ -89,8 +89,8 @@ module _ (start : State) (setup : Setup) (marks : List Alteration) where
         λ yes. first-steps k (sided addr on) (either.0 (sym is ∙ yes)),
         λ covers. is ∙ either.1 (last-step k (sided addr on) covers),
       )
+      -- a step after another one with the same side
 
-    -- a step after another one with the same side
   last-again : (k : ℕ) (side : Side) → CoversTwice start setup marks (k + 1) side
       → CoversTwice start setup marks k side
       ⊎ (Covers start setup marks k side × (side_of (post start setup marks k) setup ≡ Some side))
@@ -98,8 +98,10 @@ module _ (start : State) (setup : Setup) (marks : List Alteration) where
     | inl before ↦ inl (twice.0, before, twice.2, twice.3)
     | inr after ↦ (
         let here : twice.0 ≡ k = omega arith in
-        inr (subst (λ j. Covers start setup marks j side) here twice.2,
-          subst (λ j. side_of (post start setup marks j) setup ≡ Some side) here twice.3)
+        inr (
+          subst (λ j. Covers start setup marks j side) here twice.2,
+          subst (λ j. side_of (post start setup marks j) setup ≡ Some side) here twice.3,
+        )
         )
   ]
 
@@ -224,7 +226,8 @@ same-start (After step) s of = absurd of
 same-start (Patch addr code) s of = absurd of
 same-start (Anew addr code) s of = absurd of
 
-module _ (laws : Laws) (effect : Effect) (of : IsOfSetup effect) (one other : Run) (n : ℕ) (led : LeadsTo effect one other)
+module _ (laws : Laws) (effect : Effect) (of : IsOfSetup effect) (one other : Run) (n : ℕ)
+    (led : LeadsTo effect one other)
     (hidden : IsBelowFirst (EffectShows effect one.start one.setup one.marks) n) where
   each-same : (k : ℕ) → k < n → SameStep one.start one.setup one.marks other.setup other.marks k
   each-same = goes-alike laws effect one.start one.setup other.setup one.marks other.marks n led.differ hidden

@@ -27,7 +27,8 @@ abbrev pub is_side : Option Side → ℕ → Bool → Bool
 is_side None addr on = false
 is_side (Some side) addr on = side.addr == addr && same_way side.on on
 
--- each row of a table says after the step what it said, and that side: that the side was had again, if it said so before
+-- each row of a table says after the step what it said, and that side; and that it was had again, if the row said so
+-- before
 pub record Enters (first apart : ℕ) (side : Option Side) (old new : List Sides) : Type 0 where
   pub rows : length new ≡ length old
   pub tells : (i : ℕ) (on : Bool) (d : Sides) → i < length old

@@ -24,8 +24,8 @@ covers_twice start setup marks (suc k) side =
     || (covers start setup marks k side && is_side (side_of (post start setup marks k) setup) side.addr side.on)
 
 -- a row says of a side what the first n steps say
-pub record RowSays (start : State) (setup : Setup) (marks : List Alteration) (n : ℕ) (side : Side) (row : Sides) : Type 0
-    where
+pub record RowSays (start : State) (setup : Setup) (marks : List Alteration) (n : ℕ) (side : Side) (row : Sides)
+    : Type 0 where
   pub once : has_side row side.on ≡ covers start setup marks n side
   pub again : has_again row side.on ≡ covers_twice start setup marks n side
 

@@ -50,8 +50,8 @@ has_again sides true = sides.on_again
 has_again sides false = sides.away_again
 
 -- a row says of a side whether the first n steps of a run have it, and whether more than one does
-pub record RowTells (start : State) (setup : Setup) (marks : List Alteration) (n : ℕ) (side : Side) (row : Sides) : Type 0
-    where
+pub record RowTells (start : State) (setup : Setup) (marks : List Alteration) (n : ℕ) (side : Side) (row : Sides)
+    : Type 0 where
   pub once : Decides (has_side row side.on) (Covers start setup marks n side)
   pub again : Decides (has_again row side.on) (CoversTwice start setup marks n side)
 

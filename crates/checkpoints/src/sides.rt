@@ -103,9 +103,7 @@ impl Fork {
         keeps_isa();
         let written = written_copy(&self.machine, effect)?;
         let apart = written.isa().unit();
-        let machine = enter_sides(
-            written, setup, marks, first, apart, self.step, step, table,
-        )?;
+        let machine = enter_sides(written, setup, marks, first, apart, self.step, step, table)?;
         let marked = apply_marks(machine, marks, step)?;
         Ok(marked)
     }

@@ -6,8 +6,8 @@ use Rattle.checkpoints.specs.declared.effect.Effect.{Effect}
 use Rattle.checkpoints.specs.declared.effect.Effect.TheVariants.{Nowhere, End}
 use Rattle.checkpoints.specs.declared.effect.Effect.TheVariants.{Input as InputFrom}
 use Rattle.commands.specs.declared.edit.Edit.{Edit}
-use Rattle.commands.specs.declared.edit.Edit.TheVariants.{Input, Append, Cut, Overwrite, Give, Patch, PatchHalf, Mark, Unmark}
-use Rattle.commands.specs.declared.edit.Edit.TheVariants.{Switch, Add, Callers, Redzone, Volume, Show}
+use Rattle.commands.specs.declared.edit.Edit.TheVariants.{Input, Append, Cut, Overwrite, Give, Patch, PatchHalf, Mark}
+use Rattle.commands.specs.declared.edit.Edit.TheVariants.{Unmark, Switch, Add, Callers, Redzone, Volume, Show}
 use Rattle.guest_machine.specs.declared.setup.Setup.{Setup}
 use Rattle.run_values.specs.declared.alteration.Alteration.{Alteration}
 use Rattle.scenario.specs.Edits.{alike, input_effect, row, with_input}

@@ -23,8 +23,8 @@ GivesInput (Overwrite offset bytes) = Unit {0}
 GivesInput (Give bytes) = Unit {0}
 GivesInput _ = ⊥
 
--- a fork of a scenario's run for edits with an effect, and what the steps before it have done with each instruction of a
--- range
+-- a fork of a scenario's run for edits with an effect, and what the steps before it have done with each instruction of
+-- a range
 pub record IsSeed (sc : Scenario) (effect : Effect) (range : Span) (seed : Seed) : Type 0 where
   pub fork : IsForkFor effect (run_of sc) sc.step seed.fork
   pub sides : IsKnown (first_state sc) sc.setup sc.marks seed.fork.step range seed.sides.items

@@ -342,7 +342,9 @@ impl<'a> Session<'a> {
         let setup = self.scenario.setup();
         let marks = self.scenario.marks();
         let fork = self.trail.fork_of_setup(effect, step, setup, marks)?;
-        let sides = self.trail.sides(self.alloc, range, fork.step, setup, marks)?;
+        let sides = self
+            .trail
+            .sides(self.alloc, range, fork.step, setup, marks)?;
         Ok(Seed { fork, sides })
     }
 

@@ -17,19 +17,19 @@ too-long word turn line h =
 
 -- a line that is neither
 module _ (old new : TriesStage) (line text : List ℕ) (no : tries old.session.turn line ≡ false)
-  (nor : differs old.session.turn line ≡ false) where
-    abbrev Rest : Type 0
-    Rest = MatchBool (differs old.session.turn line) (TellsLine Differ old line text new) (Others old line text new)
+    (nor : differs old.session.turn line ≡ false) where
+  abbrev Rest : Type 0
+  Rest = MatchBool (differs old.session.turn line) (TellsLine Differ old line text new) (Others old line text new)
 
-    pub as_other : Others old line text new → Tries old line text new
-    as_other h =
-        subst (λ (t : Bool). MatchBool t (TellsLine Tried old line text new) Rest) (sym no)
-        (subst (λ (t : Bool). MatchBool t (TellsLine Differ old line text new) (Others old line text new)) (sym nor) h)
+  pub as_other : Others old line text new → Tries old line text new
+  as_other h =
+      subst (λ (t : Bool). MatchBool t (TellsLine Tried old line text new) Rest) (sym no)
+      (subst (λ (t : Bool). MatchBool t (TellsLine Differ old line text new) (Others old line text new)) (sym nor) h)
 
-    is-other : Tries old line text new → Others old line text new
-    is-other h =
-        subst (λ (t : Bool). MatchBool t (TellsLine Differ old line text new) (Others old line text new)) nor
-        (subst (λ (t : Bool). MatchBool t (TellsLine Tried old line text new) Rest) no h)
+  is-other : Tries old line text new → Others old line text new
+  is-other h =
+      subst (λ (t : Bool). MatchBool t (TellsLine Differ old line text new) (Others old line text new)) nor
+      (subst (λ (t : Bool). MatchBool t (TellsLine Tried old line text new) Rest) no h)
 
 pub long_alike : (old new : TriesStage) (a b text : List ℕ) → longest_line < length a → longest_line < length b
     → Tries old a text new → Tries old b text new

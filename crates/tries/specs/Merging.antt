@@ -1,5 +1,5 @@
 -- What several runs have done with each instruction of a range, and what one more run does that none of them did.
-use Rattle.std.specs.Prelude.{◌≡◌, ℕ, zero, suc, ◌+◌, ◌<◌, ◌&&◌, ◌||◌, Bool, true, false, not, List, length, slice_index_or}
+use Rattle.std.specs.Prelude.{◌≡◌, ℕ, zero, suc, ◌+◌, ◌<◌, ◌||◌, Bool, true, false, List, length, slice_index_or}
 use Rattle.checkpoints.specs.declared.sides.Sides.{Sides}
 
 -- what is said of an instruction that no run has reached

@@ -1,6 +1,6 @@
 -- The reply to a line of a session whose run can be looked at and tried with other input bytes.
 use Rattle.std.specs.Prelude.{◌≡◌, ◌⊎◌, ◌&&◌, ◌==◌, ℕ, nat_le, Bool, not, if◌then◌else◌, List, [], ◌∷◌, ◌++◌, MatchBool}
-use Rattle.std.specs.Prelude.{Result, Ok, Err, codes, length, take}
+use Rattle.std.specs.Prelude.{Result, Ok, Err, codes, false, length, take}
 use Rattle.std.specs.Fmt.{decimal}
 use Rattle.checkpoints.specs.Compares.{compares_between}
 use Rattle.checkpoints.specs.Forks.{IsLastUnshown}
@@ -83,7 +83,8 @@ pub record Tried (old : TriesStage) (edit : Edit) (text : List ℕ) (new : Tries
 unfoldable pub differ_line : Compare → Compare → List ℕ
 differ_line own other =
     decimal own.step ++ codes " " ++ address_text own.pc ++ codes " " ++ address_text own.left ++ codes " "
-    ++ address_text own.right ++ codes " " ++ address_text other.left ++ codes " " ++ address_text other.right ++ newline
+    ++ address_text own.right ++ codes " " ++ address_text other.left ++ codes " " ++ address_text other.right
+    ++ newline
 
 -- do two compares have the same operands?
 abbrev pub have_same : Compare → Compare → Bool

@@ -181,8 +181,8 @@ impl<'a> Tries<'a> {
     /// Replies what was written, or that memory ran out.
     #[tactic(auto, unfolding(crate::specs::Stages::reply_of_tries, crate::specs::Stages::stage_of_tries))]
     fn finish(&mut self, done: Result<(), AllocError>)
-        ensures ok { OnOk done.entry ((stage_of_tries self.new ≡ stage_of_tries self.old) × (reply_of_tries self.new ≡ self.old.shown.items)) }
-        ensures refused { OnErr done.entry (Refused (stage_of_tries self.old) Fault.Memory (reply_of_tries self.new) (stage_of_tries self.new)) }
+        ensures ok { OnOk done ((stage_of_tries self.new ≡ stage_of_tries self.old) × (reply_of_tries self.new ≡ self.old.shown.items)) }
+        ensures refused { OnErr done (Refused (stage_of_tries self.old) Fault.Memory (reply_of_tries self.new) (stage_of_tries self.new)) }
         ensures base { LeavesBase (stage_of_tries self.old) (stage_of_tries self.new) }
     {
         match done {

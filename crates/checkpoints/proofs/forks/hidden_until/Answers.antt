@@ -38,7 +38,8 @@ returns-then-has_shown_in-clause-last c start h hidden =
     let k = c.loop-k.k in
     let setup = c.args.setup.now in
     let marks = c.args.marks.now in
-    let shown = subst (λ (b : Bool). Tells (EffectShows c.args.effect start setup marks) (k + 1) b) c.if-has_shown_in.true
+    let shown = subst (λ (b : Bool). Tells (EffectShows c.args.effect start setup marks) (k + 1) b)
+    c.if-has_shown_in.true
     (c.has_shown_in.ensures start setup marks (k + 1) (shows-along _ _ _ _ refl (pre-more start setup marks k)
     (c.in_ok-stepped.ensures.shows _ (c.in_ok-marked.ensures.shows _ (inv.shows start h))))) in
     record {
