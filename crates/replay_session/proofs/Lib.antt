@@ -7,4 +7,4 @@ pub mod LawSteps
 pub mod ToldSteps
 pub mod VerdictSteps
 pub mod ReadSteps
-mod TrySteps
+pub mod TrySteps

@@ -90,14 +90,16 @@ differ_line own other =
 abbrev pub have_same : Compare → Compare → Bool
 have_same own other = own.left == other.left && own.right == other.right
 
+-- the line of two compares, if their operands differ
+abbrev pub pair_lines : Compare → Compare → List ℕ
+pair_lines own other = if have_same own other then [] else differ_line own other
+
 -- a line for each pair of compares whose operands differ, up to the first pair at different addresses
 unfoldable pub differ_lines : List Compare → List Compare → List ℕ
 differ_lines [] others = []
 differ_lines (own ∷ owns) [] = []
 differ_lines (own ∷ owns) (other ∷ others) =
-    if own.pc == other.pc
-    then (if have_same own other then [] else differ_line own other) ++ differ_lines owns others
-    else []
+    if own.pc == other.pc then pair_lines own other ++ differ_lines owns others else []
 
 -- how many compares of a run are looked at
 abbrev pub most_compares : ℕ

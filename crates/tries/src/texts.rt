@@ -1,6 +1,6 @@
 //! The replies to lines that try an input, as text.
 ghost use Rattle.std.specs.Prelude.{◌≡◌, ◌++◌, OnOk};
-ghost use Rattle.tries.specs.Tries.{differ_line, differ_lines, have_same, outcome_text, tried_line, tried_text};
+ghost use Rattle.tries.specs.Tries.{differ_line, differ_lines, have_same, outcome_text, pair_lines, tried_line, tried_text};
 
 use crate::merging::News;
 use checkpoints::Compare;
@@ -76,6 +76,16 @@ fn push_differ(out: &mut Vec<u8>, own: Compare, other: Compare) -> Result<(), Al
     push_text(out, b"\n")
 }
 
+/// Appends the line of two compares, if their operands differ.
+fn push_pair(out: &mut Vec<u8>, own: Compare, other: Compare) -> Result<(), AllocError>
+    ensures { OnOk result (out.new.items ≡ out.old.items ++ pair_lines own other) }
+{
+    if !have_same(own, other) {
+        push_differ(out, own, other)?;
+    }
+    Ok(())
+}
+
 /// Appends a line for each pair of compares whose operands differ, up to the first pair at different addresses.
 pub(crate) fn push_differs(
     out: &mut Vec<u8>,
@@ -86,9 +96,7 @@ pub(crate) fn push_differs(
 {
     let mut i = 0;
     while i < own.len() && i < other.len() && own[i].pc == other[i].pc {
-        if !have_same(own[i], other[i]) {
-            push_differ(out, own[i], other[i])?;
-        }
+        push_pair(out, own[i], other[i])?;
         i += 1;
     }
     Ok(())
