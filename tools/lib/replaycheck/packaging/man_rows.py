@@ -71,7 +71,7 @@ ERROR SUMMARY: 1 errors from 1 contexts (suppressed: 0 from 0)
     "tries": (
         Example("Two values of byte 39. The second does something new, on six sides of instructions:",
                 "printf 'goto 2000\\ntry 39 00\\ntry 39 69\\n' |\nreplaycheck tries station.elf --input station.input",
-                "ok\noutcome 0\nexited 0\ntried 0 new 0 again 0\ntried 0 new 6 again 0\n"),
+                "ok\noutcome 0\nexited 0\ntried 0 new 377 again 103\ntried 0 new 6 again 0\n"),
         Example("The byte is compared with 0x69:",
                 "printf 'goto 2000\\ndiffers 39 00\\n' |\nreplaycheck tries station.elf --input station.input",
                 "ok\n691 0x00010570 0x00000063 0x00000069 0x00000000 0x00000069\nend\n")),
