@@ -1,6 +1,6 @@
 -- One more pair of compares.
-use Rattle.std.proofs.Common.{◌≡◌, ◌==◌, ℕ, ◌+◌, ◌<◌, ◌≤◌, ◌++◌, ◌∙◌, Bool, true, false, List, [], ◌∷◌, ap, ap₂, cond, drop}
-use Rattle.std.proofs.Common.{get_or, length, refl}
+use Rattle.std.proofs.Common.{◌≡◌, ◌==◌, ℕ, ◌+◌, ◌<◌, ◌≤◌, ◌++◌, ◌∙◌, Bool, true, false, List, [], ◌∷◌, ap, ap₂}
+use Rattle.std.proofs.Common.{cond, drop, get_or, length, refl}
 use Rattle.std.proofs.lemmas.Bool.Decides.{Decides-eqb}
 use Rattle.std.proofs.lemmas.List.{drop_all, drop_more}
 use Rattle.checkpoints.specs.declared.compares.Compare.{Compare}

@@ -25,27 +25,28 @@ heard-to =
     stand-for Hears reply_of_tries (λ tries. is_over (turn_of tries.viewer.session)) AnswersLine
     (λ stage. is_over stage.session.turn) stage_of_tries (λ l m line h. h) (λ l. refl)
 
-module _ (tries : Tries) (stage : TriesStage) (same : stage_of_tries tries ≡ stage) (held-old held-new : Option (List ℕ))
-  where
-    of-stage : (P : TriesStage → Type 0) → P (stage_of_tries tries) → P stage
-    of-stage P h = subst P same h
+module _ (tries : Tries) (stage : TriesStage) (same : stage_of_tries tries ≡ stage)
+    (held-old held-new : Option (List ℕ)) where
+  of-stage : (P : TriesStage → Type 0) → P (stage_of_tries tries) → P stage
+  of-stage P h = subst P same h
 
-    pub all-told : (left : Option (List ℕ)) → ServedAll (Heard tries) left held-old held-new
-        → ServedAll (TriesLines stage) left held-old held-new
-    all-told left h = of-stage (λ stage. ServedAll (TriesLines stage) left held-old held-new)
-        (all-to (Heard tries) (TriesLines (stage_of_tries tries)) (heard-to tries) left held-old held-new h)
+  pub all-told : (left : Option (List ℕ)) → ServedAll (Heard tries) left held-old held-new
+      → ServedAll (TriesLines stage) left held-old held-new
+  all-told left h = of-stage (λ stage. ServedAll (TriesLines stage) left held-old held-new)
+      (all-to (Heard tries) (TriesLines (stage_of_tries tries)) (heard-to tries) left held-old held-new h)
 
-    pub read-told : (left-old left-new : Option (List ℕ))
-        → ServedRead (Heard tries) left-old left-new held-old held-new
-        → ServedRead (TriesLines stage) left-old left-new held-old held-new
-    read-told left-old left-new h =
-        of-stage (λ stage. ServedRead (TriesLines stage) left-old left-new held-old held-new)
-        (read-to (Heard tries) (TriesLines (stage_of_tries tries)) (heard-to tries) left-old left-new held-old held-new h)
+  pub read-told : (left-old left-new : Option (List ℕ))
+      → ServedRead (Heard tries) left-old left-new held-old held-new
+      → ServedRead (TriesLines stage) left-old left-new held-old held-new
+  read-told left-old left-new h =
+      of-stage (λ stage. ServedRead (TriesLines stage) left-old left-new held-old held-new)
+      (read-to (Heard tries) (TriesLines (stage_of_tries tries)) (heard-to tries) left-old left-new held-old
+      held-new h)
 
-    pub stopped-told : (left-old left-new : Option (List ℕ)) (fault : ServeFault)
-        → StoppedBy fault (Heard tries) left-old left-new held-old held-new
-        → StoppedBy fault (TriesLines stage) left-old left-new held-old held-new
-    stopped-told left-old left-new fault h =
-        of-stage (λ stage. StoppedBy fault (TriesLines stage) left-old left-new held-old held-new)
-        (stopped-to (Heard tries) (TriesLines (stage_of_tries tries)) (heard-to tries) fault left-old left-new held-old
-        held-new h)
+  pub stopped-told : (left-old left-new : Option (List ℕ)) (fault : ServeFault)
+      → StoppedBy fault (Heard tries) left-old left-new held-old held-new
+      → StoppedBy fault (TriesLines stage) left-old left-new held-old held-new
+  stopped-told left-old left-new fault h =
+      of-stage (λ stage. StoppedBy fault (TriesLines stage) left-old left-new held-old held-new)
+      (stopped-to (Heard tries) (TriesLines (stage_of_tries tries)) (heard-to tries) fault left-old left-new held-old
+      held-new h)
