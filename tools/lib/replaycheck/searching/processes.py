@@ -1,0 +1,98 @@
+"""The processes of a search: workers, and what they tell."""
+from __future__ import annotations
+
+import json
+import os
+import selectors
+from typing import Callable, Dict, Iterator, List, Tuple
+
+from replaycheck import children as child_processes
+from replaycheck.endings import Fault, Interrupted, children, end_children, undisturbed
+from replaycheck.exploring.lines import shown_name
+
+from .worker import Over
+
+AT_ONCE = 1 << 16  # bytes of one read
+
+
+class Forked(child_processes.Child):
+    """A worker, which is a copy of this process. It ends when a signal ends this one. `told` is the pipe of what it tells."""
+
+    def __init__(self, work: Callable, unneeded: List[int]):
+        self.status, self.unread = None, b""
+        self.told, tells = os.pipe()
+        self.pid = os.fork()
+        if not self.pid:
+            for number in (self.told, *unneeded):
+                os.close(number)
+            status = 1
+            try:
+                children.clear()
+                status = obey(work, tells)
+            finally:
+                os._exit(status)
+        os.close(tells)
+
+
+def obey(work: Callable, tells: int) -> int:
+    """Does the work of a worker. What keeps it from that is told."""
+    def tell(*values):
+        content = json.dumps(values).encode("ascii") + b"\n"
+        try:
+            while content:
+                content = content[os.write(tells, content):]
+        except BrokenPipeError:
+            raise Over from None
+    try:
+        try:
+            work(tell)
+        except Fault as fault:
+            tell("fault", str(fault), fault.said)
+        except OSError as fault:
+            named = f"{shown_name(os.fspath(fault.filename))}: " if fault.filename else ""
+            tell("fault", f"{named}{fault.strerror or fault}", "")
+        except MemoryError:
+            tell("fault", "out of memory", "")
+    except (Interrupted, Over):
+        pass
+    end_children()
+    return 0
+
+
+class Workers:
+    """Workers that run side by side. `works` has what each does, given a function that tells this process something."""
+
+    def __init__(self, works: List[Callable], unneeded: List[int]):
+        self.selector = selectors.DefaultSelector()
+        self.running: Dict[int, Forked] = {}
+        for work in works:
+            undisturbed(lambda: children.append(Forked(work, [*unneeded, *self.running])))
+            self.running[children[-1].told] = children[-1]
+            self.selector.register(children[-1].told, selectors.EVENT_READ, (len(self.running) - 1, children[-1]))
+
+    def messages(self, patience: float) -> Iterator[Tuple[int, list]]:
+        """What workers tell within some seconds: of each its number, and the message."""
+        for key, _ in self.selector.select(patience):
+            number, worker = key.data
+            content = os.read(worker.told, AT_ONCE)
+            if not content:
+                self.end(worker)
+                continue
+            *lines, worker.unread = (worker.unread + content).split(b"\n")
+            yield from ((number, json.loads(line)) for line in lines)
+
+    def end(self, worker: Forked):
+        self.selector.unregister(worker.told)
+        os.close(worker.told)
+        del self.running[worker.told]
+        status = worker.wait()
+        children.remove(worker)
+        if status:
+            raise Fault(f"a worker ended with {f'signal {-status}' if status < 0 else f'status {status}'}")
+
+    def stop(self):
+        """Ends the workers that run."""
+        for it in self.running.values():
+            it.terminate()
+        for it in self.running.values():
+            it.wait()

@@ -1,0 +1,47 @@
+"""The summary of a search."""
+from __future__ import annotations
+
+from typing import Iterator, List
+
+from replaycheck.exploring.lines import shown
+from replaycheck.exploring.outcomes import Part
+from replaycheck.exploring.summary import SourceLines, counted
+from replaycheck.programs import USUAL
+from replaycheck.exploring.heads import told_isa, told_regions
+
+from .folder import Finding
+from .tries import LONGEST
+
+INDENT = " " * 18
+
+
+def head(title: str, search) -> Iterator[str]:
+    options = search.options
+    yield (f"{title}{told_isa(options.isa or USUAL)}{told_regions(options.regions)}: {counted(search.state.runs, 'try', 'tries')}, "
+           f"seed {options.seed}, inputs of up to {options.max_len} bytes, step {options.step}")
+    yield from filter(None, [search.step_note])
+    kept = f", in {search.folder.own}" if options.out is not None else ""
+    yield f"queue: {counted(search.state.entries, 'input')}, {counted(len(search.seeds), 'seed')} among them{kept}"
+
+
+def found_lines(search, found: List[Finding]) -> Iterator[str]:
+    goal = search.options.goal
+    if goal is None:
+        yield counted(len(found), "new error, leak or stop", "new errors, leaks and stops") + f", which no seed{'' if found else ' '} has"
+    else:
+        yield f"reached by {counted(len(found), 'outcome')}: a line that begins with `{shown(goal)}`, which no seed has"
+
+
+def summary(title: str, search, found: List[Finding], sources: SourceLines) -> Iterator[str]:
+    """The lines of a summary."""
+    yield from head(title, search)
+    yield from found_lines(search, found)
+    if not found:
+        return
+    sources.learn([it.address for it in found])
+    yield ""
+    yield f"   finding  bytes  {'new error, leak or stop' if search.options.goal is None else 'line of the outcome'}"
+    for it in found:
+        yield f"   {it.name:>7}  {len(it.content):5}  {sources.told(Part(it.text, it.address))}"
+        if len(it.content) <= LONGEST:
+            yield f"{INDENT}bytes is {it.content.hex()}".rstrip()
