@@ -22,14 +22,13 @@ from replaycheck.exploring.unedited import Unedited, default_step
 from replaycheck.file_heaps import heap_of_run
 from replaycheck.options import LAST_STEP, Reader, number
 from replaycheck.places import Paths, Places
-from replaycheck.programs import program
 from replaycheck.sessions import Session
 
 from .folder import Finding, Folder, report_of, session_lines
 from .processes import Workers
 from .reached import Reached
 from .seeds import seeds
-from .state import State
+from .state import State, Told
 from .summary import summary
 from .tokens import tokens_in
 from .tries import COMMAND
@@ -84,7 +83,7 @@ class Search:
         self.findings: List[Finding] = list(self.folder.findings())
         self.first = self.folder.add_seeds(self.seeds, options.max_len)
         self.jobs = options.jobs or len(os.sched_getaffinity(0))
-        self.state = State(self.jobs, self.folder.own if options.out is not None else None, [program(), *sys.argv[1:]], self.reached)
+        self.state = State(self.jobs, self.folder.own if options.out is not None else None, ["replaycheck", "search", *sys.argv[1:]], self.reached)
 
     def first_file(self) -> Optional[str]:
         """A file that has the first seed; none for an empty one."""
@@ -166,6 +165,7 @@ class Search:
                 self.state.write()
         finally:
             workers.stop()
+            self.state.ended_at = time.monotonic()
 
     def work_of(self, plan: Plan, place: int, tell):
         Worker(plan, place, self.jobs, tell).work()
@@ -175,7 +175,7 @@ class Search:
         getattr(self, f"take_{kind}")(place, *values)
 
     def take_state(self, place, *values):
-        self.state.told[place] = values
+        self.state.told[place] = Told(*values)
 
     def take_entry(self, _, name):
         self.state.entries += 1

@@ -16,13 +16,22 @@ WIDTH = 18  # of a key
 BETWEEN = 5.0  # seconds between two writes of the files
 
 
+class Told:
+    """What a worker has told last: its runs, how many inputs of the queue it hasn't mutated, the place of the one at work, how often it
+    has mutated each, and whether no run of all has ended."""
+
+    def __init__(self, runs=0, waiting=0, at=0, cycles=0, all_running=True):
+        self.runs, self.waiting, self.at, self.cycles, self.all_running = runs, waiting, at, cycles, all_running
+
+
 class State:
     """The numbers of a search, as its workers have told them. `jobs` is the number of workers. `reached` says what was executed."""
 
     def __init__(self, jobs: int, folder: Optional[str], command: List[str], reached):
         self.folder, self.command, self.reached = folder, command, reached
-        self.told = [(0, 0, 0, 0, 0)] * jobs
+        self.told = [Told() for _ in range(jobs)]
         self.begun, self.begun_at = time.monotonic(), int(time.time())
+        self.ended_at: Optional[float] = None
         self.news_at: Optional[float] = None
         self.finding_at: Optional[float] = None
         self.entries = self.new_entries = self.findings = 0
@@ -31,24 +40,32 @@ class State:
 
     @property
     def runs(self) -> int:
-        return sum(it[0] for it in self.told)
+        return sum(it.runs for it in self.told)
+
+    @property
+    def all_running(self) -> bool:
+        return all(it.all_running for it in self.told)
+
+    @property
+    def now(self) -> float:
+        """This moment, or that at which the workers had ended."""
+        return time.monotonic() if self.ended_at is None else self.ended_at
 
     @property
     def seconds(self) -> float:
-        return time.monotonic() - self.begun
+        return self.now - self.begun
 
     @property
     def rate(self) -> float:
         return self.runs / self.seconds if self.seconds > 0 else 0.0
 
     def line(self) -> str:
-        now = time.monotonic()
         parts = [f"search: {self.seconds:.0f} s", counted(self.runs, "try", "tries"), f"{self.rate:.0f} a second", f"queue {self.entries}"]
         if self.reached and self.reached.total:
             parts.append(f"{self.reached.total - self.reached.count} of {self.reached.total} instructions not reached")
         parts.append(counted(self.findings, "finding"))
         if self.news_at is not None:
-            parts.append(f"the last news {now - self.news_at:.0f} s ago")
+            parts.append(f"the last news {self.now - self.news_at:.0f} s ago")
         return ", ".join(parts)
 
     def show(self):
@@ -87,11 +104,11 @@ class State:
 
     @property
     def pending(self) -> int:
-        return min(it[2] for it in self.told)
+        return min(it.waiting for it in self.told)
 
     @property
     def cycles(self) -> int:
-        return min(it[4] for it in self.told)
+        return min(it.cycles for it in self.told)
 
     def cover(self) -> str:
         whole = self.reached.total if self.reached else 0
@@ -102,7 +119,7 @@ class State:
         values = {
             "start_time": self.begun_at, "last_update": int(time.time()), "run_time": int(self.seconds), "fuzzer_pid": os.getpid(),
             "cycles_done": self.cycles, "cycles_wo_finds": 0, "execs_done": self.runs, "execs_per_sec": f"{self.rate:.2f}",
-            "corpus_count": self.entries, "corpus_found": self.new_entries, "cur_item": self.told[0][3], "pending_favs": 0,
+            "corpus_count": self.entries, "corpus_found": self.new_entries, "cur_item": self.told[0].at, "pending_favs": 0,
             "pending_total": self.pending, "bitmap_cvg": self.cover(), "saved_crashes": self.findings, "saved_hangs": 0,
             "last_find": self.wall(self.news_at), "last_crash": self.wall(self.finding_at), "last_hang": 0,
             "edges_found": sides, "afl_banner": "replaycheck", "afl_version": "replaycheck-search", "target_mode": "replaycheck",
@@ -111,6 +128,6 @@ class State:
 
     def row(self) -> str:
         sides = self.reached.sides_count if self.reached else 0
-        values = (int(self.seconds), self.cycles, self.told[0][3], self.entries, self.pending, 0, self.cover(), self.findings, 0, 0,
+        values = (int(self.seconds), self.cycles, self.told[0].at, self.entries, self.pending, 0, self.cover(), self.findings, 0, 0,
                   f"{self.rate:.2f}", self.runs, sides)
         return ", ".join(map(str, values)) + "\n"

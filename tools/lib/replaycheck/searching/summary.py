@@ -3,11 +3,11 @@ from __future__ import annotations
 
 from typing import Iterator, List
 
-from replaycheck.exploring.lines import shown
-from replaycheck.exploring.outcomes import Part
+from replaycheck.exploring.heads import told_isa, told_regions
+from replaycheck.exploring.lines import shown, shown_name
+from replaycheck.exploring.outcomes import Part, still_running
 from replaycheck.exploring.summary import SourceLines, counted
 from replaycheck.programs import USUAL
-from replaycheck.exploring.heads import told_isa, told_regions
 
 from .folder import Finding
 from .tries import LONGEST
@@ -20,21 +20,23 @@ def head(title: str, search) -> Iterator[str]:
     yield (f"{title}{told_isa(options.isa or USUAL)}{told_regions(options.regions)}: {counted(search.state.runs, 'try', 'tries')}, "
            f"seed {options.seed}, inputs of up to {options.max_len} bytes, step {options.step}")
     yield from filter(None, [search.step_note])
-    kept = f", in {search.folder.own}" if options.out is not None else ""
+    kept = f", in {shown_name(search.folder.own)}" if options.out is not None else ""
     yield f"queue: {counted(search.state.entries, 'input')}, {counted(len(search.seeds), 'seed')} among them{kept}"
 
 
 def found_lines(search, found: List[Finding]) -> Iterator[str]:
     goal = search.options.goal
     if goal is None:
-        yield counted(len(found), "new error, leak or stop", "new errors, leaks and stops") + f", which no seed{'' if found else ' '} has"
+        yield f"{counted(len(found), 'new error, leak or stop', 'new errors, leaks and stops')}, which no seed has"
     else:
-        yield f"reached by {counted(len(found), 'outcome')}: a line that begins with `{shown(goal)}`, which no seed has"
+        yield f"{counted(len(found), 'new line', 'new lines')} of outcomes, which no seed has, that begin{'s' * (len(found) == 1)} with `{shown(goal)}`"
 
 
 def summary(title: str, search, found: List[Finding], sources: SourceLines) -> Iterator[str]:
     """The lines of a summary."""
     yield from head(title, search)
+    if search.state.all_running:
+        yield still_running(search.options.step, "each run")
     yield from found_lines(search, found)
     if not found:
         return

@@ -6,7 +6,7 @@ import time
 from functools import partial
 from typing import Callable, Dict, Iterator, List, Optional, Tuple
 
-from replaycheck.exploring.outcomes import Part
+from replaycheck.exploring.outcomes import RUNS
 
 from .asking import AHEAD, Asking, Repairs
 from .entries import Entry, Folders, name_of, write
@@ -235,7 +235,8 @@ class Worker:
         waiting = sum(not it.taken for it in self.entries)
         at = self.entries.index(self.at_work) if self.at_work in self.entries else 0
         cycles = min((it.taken for it in self.entries), default=0)
-        self.tell("state", self.all_runs, len(self.entries), waiting, at, cycles)
+        runs_on = all(it.split(b"\n", 1)[0] == RUNS.encode() for it in self.outcomes)
+        self.tell("state", self.all_runs, waiting, at, cycles, runs_on)
 
     at_work: Optional[Entry] = None
 
