@@ -158,14 +158,21 @@ class Search:
         workers = Workers(works, [self.folder.lock])
         try:
             while workers.running:
-                for place, message in workers.messages(0 if self.reached.waiting else PATIENCE):
-                    self.take(place, *message)
+                self.listen(workers, 0 if self.reached.waiting else PATIENCE)
                 self.reached.look()
                 self.state.show()
                 self.state.write()
-        finally:
+        except Interrupted:
             workers.stop()
+            while workers.running:
+                self.listen(workers, PATIENCE)
+            raise
+        finally:
             self.state.ended_at = time.monotonic()
+
+    def listen(self, workers: Workers, patience: float):
+        for place, message in workers.messages(patience):
+            self.take(place, *message)
 
     def work_of(self, plan: Plan, place: int, tell):
         Worker(plan, place, self.jobs, tell).work()

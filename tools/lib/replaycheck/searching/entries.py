@@ -24,10 +24,19 @@ class Entry:
         self.guards: List = []
 
 
-def name_of(number: int, source: Optional[int], how: str, has_sides: bool) -> str:
-    """The name of a file of the queue: its number, that of the entry that it was made of, and how."""
-    made = "sync" if source is None else f"src:{source:06},op:{how}"
-    return f"id:{number:06},{made}{',+cov' if has_sides else ''}"
+def made_of(number: int, how: str) -> str:
+    """How an input was made of an entry of this search's queue."""
+    return f"src:{number:06},op:{how}"
+
+
+def taken_from(folder: str, number: Optional[int]) -> str:
+    """Where an input of another search comes from: the folder that its queue is in, or the one that all searches are in."""
+    return f"sync:{PLAIN.sub('_', folder) or 'main'}" + (f",src:{number:06}" if number is not None else "")
+
+
+def name_of(number: int, origin: str, has_sides: bool) -> str:
+    """The name of a file of the queue."""
+    return f"id:{number:06},{origin}{',+cov' if has_sides else ''}"
 
 
 def name_of_seed(number: int, name: str) -> str:
@@ -68,6 +77,11 @@ class Folders:
     def __init__(self, path: str, own: str, most: int):
         self.path, self.own, self.most = path, os.path.join(own, QUEUE), most
         self.seen: Dict[str, Set[str]] = {}
+
+    def name(self, queue: str) -> str:
+        """What another search's queue is called: by its folder, empty for that which all searches are in."""
+        folder = os.path.dirname(queue)
+        return "" if folder == self.path else os.path.basename(folder)
 
     def queues(self) -> List[str]:
         """The folders of queues: this search's first."""

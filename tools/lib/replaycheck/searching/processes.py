@@ -7,7 +7,7 @@ import selectors
 from typing import Callable, Dict, Iterator, List, Tuple
 
 from replaycheck import children as child_processes
-from replaycheck.endings import Fault, Interrupted, children, end_children, undisturbed
+from replaycheck.endings import Fault, Interrupted, Starting, children, end_children, signal, undisturbed
 from replaycheck.exploring.lines import shown_name
 
 from .worker import Over
@@ -28,10 +28,32 @@ class Forked(child_processes.Child):
             status = 1
             try:
                 children.clear()
+                Leaving().begin()
                 status = obey(work, tells)
             finally:
                 os._exit(status)
         os.close(tells)
+
+
+class Leaving:
+    """How a worker obeys signals: it ends where the first process of the search ends it, once. What a terminal sends to all processes is
+    for the first one."""
+
+    is_on = False
+
+    def begin(self):
+        for number in (signal.SIGINT, signal.SIGHUP):
+            signal.signal(number, signal.SIG_IGN)
+        signal.signal(signal.SIGTERM, self.leave)
+
+    def leave(self, number, _):
+        if self.is_on:
+            return
+        self.is_on = True
+        if Starting.is_on:
+            Starting.come = number
+        else:
+            raise Interrupted(number)
 
 
 def obey(work: Callable, tells: int) -> int:
@@ -91,8 +113,6 @@ class Workers:
             raise Fault(f"a worker ended with {f'signal {-status}' if status < 0 else f'status {status}'}")
 
     def stop(self):
-        """Ends the workers that run."""
+        """Tells the workers to end. They tell how far they are first."""
         for it in self.running.values():
             it.terminate()
-        for it in self.running.values():
-            it.wait()

@@ -62,7 +62,8 @@ class State:
     def line(self) -> str:
         parts = [f"search: {self.seconds:.0f} s", counted(self.runs, "try", "tries"), f"{self.rate:.0f} a second", f"queue {self.entries}"]
         if self.reached and self.reached.total:
-            parts.append(f"{self.reached.total - self.reached.count} of {self.reached.total} instructions not reached")
+            most = "at most " if self.reached.waiting else ""  # what the others reach isn't known yet
+            parts.append(f"{most}{self.reached.total - self.reached.count} of {self.reached.total} instructions not reached")
         parts.append(counted(self.findings, "finding"))
         if self.news_at is not None:
             parts.append(f"the last news {self.now - self.news_at:.0f} s ago")

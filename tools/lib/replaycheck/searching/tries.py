@@ -192,7 +192,8 @@ class Tries:
             self.waiting.popleft()
             waiting.take(waiting.content, line)
         elif line.startswith(b"refused "):
-            raise Refused(f"a try of {len(waiting.content)} bytes", line.decode("ascii", "replace"))
+            word = "differs" if waiting.kind == OTHER else "try"
+            raise Refused(f"{word} of {len(waiting.content)} bytes", line.decode("ascii", "replace"))
         elif waiting.kind == OTHER and line == b"end":
             self.ended(waiting, pairs_in(self.part, waiting.kept))
         elif waiting.kind != OTHER and line.startswith(b"tried "):

@@ -6,10 +6,11 @@ import time
 from functools import partial
 from typing import Callable, Dict, Iterator, List, Optional, Tuple
 
+from replaycheck.endings import Interrupted
 from replaycheck.exploring.outcomes import RUNS
 
 from .asking import AHEAD, Asking, Repairs
-from .entries import Entry, Folders, name_of, write
+from .entries import Entry, Folders, made_of, name_of, taken_from, write
 from .mutations import Mutations
 from .news import News
 from .shortening import Shortening
@@ -54,7 +55,7 @@ class Worker:
         self.sessions: Dict[Optional[int], Tries] = {}
         self.next, self.left, self.is_over = plan.first + place, share(plan.runs, place, count), False
         self.runs = self.quiet_since = 0
-        self.fresh: List[Tuple[bytes, Reply, Optional[Entry], str]] = []
+        self.fresh: List[Tuple[bytes, Reply, str]] = []
         self.to_shorten: List[Tuple[bytes, str]] = []
         self.told_at = 0.0
 
@@ -90,7 +91,8 @@ class Worker:
     def attempt(self, tries: Tries, content: bytes, how: str, then=None, kind=NEWS):
         """Tries an input that follows from the entry at work."""
         if self.spend():
-            tries.attempt(content, partial(self.judge, self.at_work, how, then), kind)
+            origin = made_of(self.at_work.number or 0, how) if self.at_work else how
+            tries.attempt(content, partial(self.judge, origin, then), kind)
 
     def differ(self, tries: Tries, content: bytes, take, kept=frozenset()):
         if self.spend():
@@ -102,11 +104,11 @@ class Worker:
         if self.is_over:
             raise Over
 
-    def judge(self, source, how, then, content: bytes, reply: Reply):
+    def judge(self, origin: str, then, content: bytes, reply: Reply):
         """Takes the reply to a try. An input with news will enter the queue, if it is tried for that."""
         if reply.is_news and content not in self.known:
             self.known[content] = None
-            self.fresh.append((content, reply, source, how))
+            self.fresh.append((content, reply, origin))
         if then is not None:
             then(content, reply)
 
@@ -126,9 +128,9 @@ class Worker:
         if self.fresh and os.getppid() != self.plan.parent:
             raise Over  # nobody takes what it finds
         while self.fresh:
-            content, reply, source, how = self.fresh.pop(0)
+            content, reply, origin = self.fresh.pop(0)
             entry = self.known[content] = Entry(content, self.next)
-            name = name_of(self.next, source.number if source else None, how, reply.sides > 0)
+            name = name_of(self.next, origin, reply.sides > 0)
             write(self.folders.own, name, content)
             self.folders.seen.setdefault(self.folders.own, set()).add(name)
             self.next += self.count
@@ -177,7 +179,7 @@ class Worker:
             if folder == self.folders.own:
                 self.take_own(content, number, self.place == 0, len(self.entries) % self.count == self.place)
             elif self.place == 0:
-                self.take_other(content)
+                self.take_other(content, taken_from(self.folders.name(folder), number))
         for tries in list(self.sessions.values()):
             self.settle(tries)
 
@@ -203,13 +205,13 @@ class Worker:
         self.attempt_known(tries, content, take)
         self.settle(tries, AHEAD)
 
-    def take_other(self, content: bytes):
+    def take_other(self, content: bytes, origin: str):
         """Takes an input that another search has found, if it is news here, too."""
         if content not in self.known:
             self.at_work = None
             tries = self.tries_for(content)
             tries.prepare(content)
-            self.attempt(tries, content, "sync")
+            self.attempt(tries, content, origin)
             self.settle(tries)
 
     def look_around(self):
@@ -218,7 +220,7 @@ class Worker:
             if folder == self.folders.own:
                 self.take_own(content, number, False, False)
             elif self.place == 0:
-                self.take_other(content)
+                self.take_other(content, taken_from(self.folders.name(folder), number))
 
     # ---- the order of work
 
@@ -249,6 +251,9 @@ class Worker:
                 if time.monotonic() - looked_at >= SECOND:
                     self.look_around()
                     looked_at = time.monotonic()
+        except Interrupted:
+            self.tell_state()
+            raise
         except Over:
             if self.is_over:
                 self.finish()
