@@ -103,7 +103,8 @@ class Search:
             if options.step is None:
                 end = run.end()
                 if end is None:
-                    raise Fault(f"{name} doesn't end by step {LAST_STEP}: --step N says how far each run goes, or another seed comes first")
+                    raise Fault(f"{name} doesn't end by step {LAST_STEP}: --step N says how far each run goes, or another seed comes "
+                                "first")
                 options.step, self.step_note = default_step(end, name)
             run.run.at(options.step)
             _, read, _, has_asked = run.run.look("input")[0].split()

@@ -29,7 +29,8 @@ def found_lines(search, found: List[Finding]) -> Iterator[str]:
     if goal is None:
         yield f"{counted(len(found), 'new error, leak or stop', 'new errors, leaks and stops')}, which no seed has"
     else:
-        yield f"{counted(len(found), 'new line', 'new lines')} of outcomes, which no seed has, that begin{'s' * (len(found) == 1)} with `{shown(goal)}`"
+        begin = "begins" if len(found) == 1 else "begin"
+        yield f"{counted(len(found), 'new line')} of outcomes, which no seed has, that {begin} with `{shown(goal)}`"
 
 
 def summary(title: str, search, found: List[Finding], sources: SourceLines) -> Iterator[str]:

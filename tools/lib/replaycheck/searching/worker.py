@@ -67,7 +67,8 @@ class Worker:
         if length not in self.sessions:
             if len(self.sessions) > MOST_SESSIONS:
                 self.drop(next(it for it in self.sessions if it is not None))
-            self.sessions[length] = Tries(self.plan.opened, self.plan.step, length, partial(self.known_of, length), self.outcomes, self.tick)
+            known = partial(self.known_of, length)
+            self.sessions[length] = Tries(self.plan.opened, self.plan.step, length, known, self.outcomes, self.tick)
         return self.sessions[length]
 
     def drop(self, length):
