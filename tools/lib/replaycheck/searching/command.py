@@ -83,7 +83,8 @@ class Search:
         self.findings: List[Finding] = list(self.folder.findings())
         self.first = self.folder.add_seeds(self.seeds, options.max_len)
         self.jobs = options.jobs or len(os.sched_getaffinity(0))
-        self.state = State(self.jobs, self.folder.own if options.out is not None else None, ["replaycheck", "search", *sys.argv[1:]], self.reached)
+        kept = self.folder.own if options.out is not None else None
+        self.state = State(self.jobs, kept, ["replaycheck", "search", *sys.argv[1:]], self.reached)
 
     def first_file(self) -> Optional[str]:
         """A file that has the first seed; none for an empty one."""
