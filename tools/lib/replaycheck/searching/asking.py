@@ -5,7 +5,7 @@ from functools import partial
 from typing import List
 
 from .compares import Compares, Guard, parts_ways
-from .tries import EACH, LONGEST, Pair, Reply
+from .tries import EACH, LONGEST, NEWS, Pair, Reply
 
 MOST_ASKED = 1024  # bytes of an entry that are changed, from its begin on
 BEHIND = 24  # zero bytes behind the end, which a program may read or not
@@ -23,9 +23,10 @@ class Repairs:
         self.guards: List[Guard] = entry.guards
         self.steps = frozenset(it.step for it in self.guards)
 
-    def begin(self, content: bytes, how: str, unrepaired=""):
-        """Tries an input once it is repaired. One that needs no repair is tried if `unrepaired` says how it was made."""
-        self.ask(content, partial(self.tried, how, unrepaired))
+    def begin(self, content: bytes, how: str, unrepaired="", then=None):
+        """Tries an input once it is repaired. One that needs no repair is tried if `unrepaired` says how it was made. `then` gets the input
+        with each reply, if it is there."""
+        self.ask(content, partial(self.tried, how, unrepaired, then))
 
     def ask(self, content: bytes, then, rounds=0):
         """Repairs an input. `then` gets it with the compares that differ, and how many repairs it needed."""
@@ -49,9 +50,9 @@ class Repairs:
                 return made
         return None
 
-    def tried(self, how: str, unrepaired: str, content: bytes, _, rounds: int):
+    def tried(self, how: str, unrepaired: str, then, content: bytes, _, rounds: int):
         if rounds or unrepaired:
-            self.worker.attempt(self.tries, content, how if rounds else unrepaired)
+            self.worker.attempt(self.tries, content, how if rounds else unrepaired, then, EACH if then else NEWS)
 
 
 class Asking:

@@ -81,7 +81,7 @@ class Search:
         self.reached = Reached(options, self.code, self.folder.queue)
         self.places = self.places_of_lines()
         self.findings: List[Finding] = list(self.folder.findings())
-        self.first = self.folder.add_seeds(self.seeds, options.max_len)
+        self.first_seed, self.first = self.folder.add_seeds(self.seeds, options.max_len)
         self.jobs = options.jobs or len(os.sched_getaffinity(0))
         kept = self.folder.own if options.out is not None else None
         self.state = State(self.jobs, kept, ["replaycheck", "search", *sys.argv[1:]], self.reached)
@@ -144,7 +144,7 @@ class Search:
         until = self.state.begun + options.time if options.time else float("inf")
         return Plan(most=options.max_len, code=self.code, seed=options.seed, tokens=self.tokens, path=self.folder.path,
                     own=self.folder.own, goal=None if options.goal is None else options.goal.encode("utf-8", "surrogateescape"),
-                    found=[it.text for it in self.findings], first=self.first, runs=options.runs, step=options.step,
+                    found=[it.text for it in self.findings], first=self.first, first_seed=self.first_seed, runs=options.runs, step=options.step,
                     seeds=[content for _, content in self.seeds], opened=self.opened, until=until, parent=os.getpid())
 
     def work(self):

@@ -14,12 +14,12 @@ LONGEST_NAME = 80  # of a seed, within the name of a file
 
 
 class Entry:
-    """An input of the queue. `number` is that of its file, None before it has one. `taken` counts how often it was mutated; `swept` and
-    `placed` are the first byte whose values, and the first place whose tokens, weren't tried; `guards` are compares that mutated inputs
-    have to keep equal."""
+    """An input of the queue. `number` is that of its file. Of one that `is_new` the compares are asked before all others are mutated, of
+    any other one when it is mutated first. `taken` counts how often it was mutated; `swept` and `placed` are the first byte whose values,
+    and the first place whose tokens, weren't tried; `guards` are compares that mutated inputs have to keep equal."""
 
-    def __init__(self, content: bytes, number: Optional[int], is_asked=False):
-        self.content, self.number, self.is_asked = content, number, is_asked
+    def __init__(self, content: bytes, number: Optional[int], is_new: bool):
+        self.content, self.number, self.is_new, self.is_asked = content, number, is_new, False
         self.taken = self.swept = self.placed = 0
         self.guards: List = []
 

@@ -74,18 +74,18 @@ class Folder:
         found = ((name.partition(SEED)[2], read(os.path.join(self.queue, name), most)) for name in names)
         return [(name, content) for name, content in found if content is not None]
 
-    def add_seeds(self, seeds: List[Tuple[str, bytes]], most: int) -> int:
-        """Adds seeds that aren't in the queue. Returns the number of the next file."""
+    def add_seeds(self, seeds: List[Tuple[str, bytes]], most: int) -> Tuple[int, int]:
+        """Adds seeds that aren't in the queue. Returns the number of the first of them, and that of the next file."""
         numbers, known = [-1], set()
         for name, number in files_in(self.queue):
             numbers.append(-1 if number is None else number)
             known.add(read(os.path.join(self.queue, name), most))
-        following = max(numbers) + 1
+        first = following = max(numbers) + 1
         for name, content in seeds:
             if content not in known:
                 write(self.queue, name_of_seed(following, name or "empty"), content)
                 following += 1
-        return following
+        return first, following
 
     # ---- findings
 

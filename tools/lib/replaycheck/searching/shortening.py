@@ -1,7 +1,7 @@
 """Shorter inputs that lead to the same finding, and ones that are nearer to the seed."""
 from __future__ import annotations
 
-from typing import Callable, Iterator
+from typing import Callable, Iterator, Optional
 
 from .tries import LONGEST
 
@@ -18,17 +18,19 @@ def cuts(length: int) -> Iterator[int]:
 
 
 class Shortening:
-    """Shortens an input as long as `holds` says that the finding stays, which it is asked at most MOST_TRIES times."""
+    """Shortens an input. `held` returns another one with which the finding stays, that one itself or with compares put right, or None. It
+    is asked at most MOST_TRIES times."""
 
-    def __init__(self, content: bytes, seed: bytes, holds: Callable[[bytes], bool]):
-        self.content, self.seed, self.holds, self.left = content, seed, holds, MOST_TRIES
+    def __init__(self, content: bytes, seed: bytes, held: Callable[[bytes], Optional[bytes]]):
+        self.content, self.seed, self.held, self.left = content, seed, held, MOST_TRIES
 
     def takes(self, content: bytes) -> bool:
         """Takes another input for the one that there is, if the finding stays."""
         if self.left and content != self.content:
             self.left -= 1
-            if self.holds(content):
-                self.content = content
+            held = self.held(content)
+            if held is not None and held != self.content:
+                self.content = held
                 return True
         return False
 

@@ -6,6 +6,7 @@ import select
 from collections import deque
 from typing import Callable, Deque, Dict, Iterable, List, Optional, Set, Tuple
 
+from replaycheck.endings import Fault
 from replaycheck.refusals import Refused
 from replaycheck.sessions import Session
 
@@ -16,6 +17,7 @@ AT_ONCE = 1 << 16  # bytes of one read
 PATIENCE = 1.0  # seconds after which a wait is interrupted for a look at the clock
 PAIRS_KEPT = 4  # compares at one address of those that a reply lists
 MOST_AHEAD = 1000  # lines of the runs that a new session makes first
+FULL = b"refused 1"  # memory ran out
 NEWS, EACH, OTHER = range(3)  # which replies are passed on: of a try those with news, or each; of another line each
 
 
@@ -70,6 +72,7 @@ class Tries:
         self.numbers: List[int] = []  # the numbers of the session's outcomes
         self.dull: Set[bytes] = set()  # replies to tries that have no news
         self.counted = self.runs = 0
+        self.is_full = False  # whether the program has run out of memory
 
     # ---- sessions
 
@@ -83,7 +86,7 @@ class Tries:
         self.session = self.opened(content if self.length else None)
         self.base = content if self.length else b""
         os.set_blocking(self.session.child.stdin.fileno(), False)
-        self.numbers, self.dull, self.counted = [], set(), 0
+        self.numbers, self.dull, self.counted, self.is_full = [], set(), 0, False
         self.line(f"goto {self.step}")
         runs = self.runs
         for it in self.known():
@@ -92,10 +95,12 @@ class Tries:
             self.settle(MOST_AHEAD)
         self.settle()
         self.runs = runs
+        if self.is_full:
+            raise Fault("the program runs out of memory by the inputs of the queue")
 
     def set_base(self, content: bytes):
-        """Makes an input the base. Another session takes the place of one that has had its lines."""
-        if self.session is not None and self.counted >= MOST_LINES:
+        """Makes an input the base. Another session takes the place of one that has had its lines, or has run out of memory."""
+        if self.session is not None and (self.counted >= MOST_LINES or self.is_full):
             self.settle()
             self.close()
         if self.session is None:
@@ -191,6 +196,9 @@ class Tries:
         if is_line and not (waiting.content and line != b"ok"):
             self.waiting.popleft()
             waiting.take(waiting.content, line)
+        elif line == FULL:
+            self.is_full, self.part = True, []
+            self.waiting.popleft()
         elif line.startswith(b"refused "):
             word = "differs" if waiting.kind == OTHER else "try"
             raise Refused(f"{word} of {len(waiting.content)} bytes", line.decode("ascii", "replace"))

@@ -32,8 +32,8 @@ class Over(Exception):
 
 class Plan:
     """What all workers of a search are given. `opened` starts a session of `replaycheck tries` for an input, `code` is that of the program,
-    `own` the search's folder in `path`, `found` the findings that its files have. `first` is the number of the next file of the queue, and
-    `until` the time at which the search ends."""
+    `own` the search's folder in `path`, `found` the findings that its files have. `first` is the number of the next file of the queue,
+    `first_seed` that of the first seed which this search has added, and `until` the time at which the search ends."""
 
     def __init__(self, **values):
         self.__dict__.update(values)
@@ -130,7 +130,7 @@ class Worker:
             raise Over  # nobody takes what it finds
         while self.fresh:
             content, reply, origin = self.fresh.pop(0)
-            entry = self.known[content] = Entry(content, self.next)
+            entry = self.known[content] = Entry(content, self.next, True)
             name = name_of(self.next, origin, reply.sides > 0)
             write(self.folders.own, name, content)
             self.folders.seen.setdefault(self.folders.own, set()).add(name)
@@ -146,22 +146,31 @@ class Worker:
             self.to_shorten.append((content, part.text))
 
     def shorten(self, content: bytes, finding: str):
-        """Makes a finding's input shorter. What was reached is told where the search ends meanwhile, too."""
-        self.at_work = self.known.get(content)
+        """Makes a finding's input shorter. What was reached is reported where the search ends meanwhile, too."""
+        entry = self.known.get(content) or Entry(content, None, False)
+        self.ask(entry)
         tries = self.tries_for(content)
         tries.set_base(content)
-        work = Shortening(content, self.plan.seeds[0], partial(self.holds, tries, finding))
+        work = Shortening(content, self.plan.seeds[0], partial(self.held, Repairs(self, entry, tries), finding))
         try:
             work.run()
         finally:
             if work.content != content:
                 self.tell("shorter", work.content.hex(), finding)
 
-    def holds(self, tries: Tries, finding: str, content: bytes) -> bool:
-        replies: List[Reply] = []
-        self.attempt(tries, content, "shorter", lambda _, reply: replies.append(reply), EACH)
-        self.settle(tries)
-        return bool(replies) and self.has(replies[0].outcome, finding)
+    def held(self, repairs: Repairs, finding: str, content: bytes) -> Optional[bytes]:
+        """An input with which a finding stays: this one, or it with compares put right."""
+        found: List[bytes] = []
+
+        def take(made, reply):
+            if self.has(reply.outcome, finding):
+                found.append(made)
+        self.attempt(repairs.tries, content, "shorter", take, EACH)
+        self.settle(repairs.tries)
+        if not found and repairs.guards:
+            repairs.begin(content, "shorter", then=take)
+            self.settle(repairs.tries)
+        return found[0] if found else None
 
     def has(self, number: int, finding: str) -> bool:
         self.news.learn(number, self.text_of(number))
@@ -178,7 +187,8 @@ class Worker:
             tries.settle()
         for folder, number, content in self.folders.new():
             if folder == self.folders.own:
-                self.take_own(content, number, self.place == 0, len(self.entries) % self.count == self.place)
+                is_seed = number is not None and number >= self.plan.first_seed
+                self.take_own(content, number, self.place == 0, is_seed and number % self.count == self.place)
             elif self.place == 0:
                 self.take_other(content, taken_from(self.folders.name(folder), number))
         for tries in list(self.sessions.values()):
@@ -189,11 +199,11 @@ class Worker:
         if self.spend():
             tries.attempt(content, take, EACH)
 
-    def take_own(self, content: bytes, number: Optional[int], finds: bool, asks: bool):
-        """Takes an input of the search's own folder, which an earlier search or another worker has found."""
+    def take_own(self, content: bytes, number: Optional[int], finds: bool, is_new: bool):
+        """Takes an input of the search's own folder: a seed, or what an earlier search or another worker has found."""
         if content in self.known:
             return
-        self.known[content] = entry = Entry(content, number, not asks)
+        self.known[content] = entry = Entry(content, number, is_new)
         self.entries.append(entry)
         tries = self.tries_for(content)
         tries.prepare(content)
@@ -273,19 +283,25 @@ class Worker:
         if self.to_shorten:
             self.shorten(*self.to_shorten.pop(0))
             return
-        entry = next((it for it in reversed(self.entries) if not it.is_asked), None)
+        entry = next((it for it in reversed(self.entries) if it.is_new and not it.is_asked), None)
         if entry is not None:
-            entry.is_asked, self.at_work = True, entry
-            Asking(self, entry).work()
+            self.ask(entry)
             return
         entry = min(reversed(self.entries), key=lambda it: it.taken)
-        self.at_work = entry
         entry.taken += 1
+        self.ask(entry)
         tries = self.tries_for(entry.content)
         tries.set_base(entry.content)
         if self.all_runs - self.quiet_since >= QUIET:
             self.sweep(tries, entry)
         self.mutate(tries, entry)
+
+    def ask(self, entry: Entry):
+        """Goes to work on an entry: asks for its compares, unless that is done."""
+        self.at_work = entry
+        if not entry.is_asked:
+            entry.is_asked = True
+            Asking(self, entry).work()
 
     def mutate(self, tries: Tries, entry: Entry):
         """Tries mutated inputs of an entry."""
