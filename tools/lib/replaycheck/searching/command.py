@@ -75,7 +75,7 @@ class Search:
         self.seeds = given or seeds(options.input, options.max_len, say)
         self.seed = self.first_file()
         self.code = Code(options.file, options.isa, options.regions)
-        self.step_note = ""
+        self.step_note, self.of_seeds = "", []
         self.choose_step()
         self.tokens = tokens_in(options.tokens) if options.tokens is not None else []
         self.reached = Reached(options, self.code, self.folder.queue)
@@ -140,12 +140,11 @@ class Search:
         return Session(options.file, path, options.supp, command=COMMAND, isa=options.isa, regions=options.regions)
 
     def plan(self) -> Plan:
-        options = self.options
+        options, goal = self.options, self.options.goal
         until = self.state.begun + options.time if options.time else float("inf")
-        return Plan(most=options.max_len, code=self.code, seed=options.seed, tokens=self.tokens, path=self.folder.path,
-                    own=self.folder.own, goal=None if options.goal is None else options.goal.encode("utf-8", "surrogateescape"),
-                    found=[it.text for it in self.findings], first=self.first, first_seed=self.first_seed, runs=options.runs, step=options.step,
-                    seeds=[content for _, content in self.seeds], opened=self.opened, until=until, parent=os.getpid())
+        return Plan(self.opened, self.code, options.step, [content for _, content in self.seeds], self.tokens, options.max_len,
+                    None if goal is None else goal.encode("utf-8", "surrogateescape"), options.runs, options.seed, until,
+                    self.folder.path, self.folder.own, [it.text for it in self.findings], self.first_seed, self.first, os.getpid())
 
     def work(self):
         """Runs the workers. A signal ends them; what was found is told all the same."""
@@ -153,7 +152,7 @@ class Search:
         for name in sorted(os.listdir(self.folder.queue)):
             if not name.startswith("."):
                 self.reached.add(name)
-                self.state.entries += 1
+                self.state.add(name)
         self.state.findings = len(self.findings)
         flush()
         works = [partial(self.work_of, plan, place) for place in range(self.jobs)]
@@ -187,10 +186,11 @@ class Search:
         self.state.told[place] = Told(*values)
 
     def take_entry(self, _, name):
-        self.state.entries += 1
-        self.state.new_entries += 1
-        self.state.news_at = time.monotonic()
+        self.state.add_new(name)
         self.reached.add(name)
+
+    def take_seeds(self, _, texts):
+        self.of_seeds = texts
 
     def take_finding(self, _, content, text, address):
         if any(it.text == text for it in self.findings):

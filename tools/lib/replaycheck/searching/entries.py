@@ -92,10 +92,17 @@ class Folders:
     def new(self) -> Iterator[Tuple[str, Optional[int], bytes]]:
         """The files that have come: the folder of each, its number there, and its content."""
         for folder in self.queues():
-            seen = self.seen.setdefault(folder, set())
-            for name, number in files_in(folder):
-                if name not in seen:
-                    seen.add(name)
-                    content = read(os.path.join(folder, name), self.most)
-                    if content is not None:
-                        yield folder, number, content
+            try:
+                yield from self.new_in(folder)
+            except PermissionError:
+                if folder == self.own:
+                    raise
+
+    def new_in(self, folder: str) -> Iterator[Tuple[str, Optional[int], bytes]]:
+        seen = self.seen.setdefault(folder, set())
+        for name, number in files_in(folder):
+            if name not in seen:
+                seen.add(name)
+                content = read(os.path.join(folder, name), self.most)
+                if content is not None:
+                    yield folder, number, content

@@ -12,7 +12,7 @@ from replaycheck.sessions import Session
 from replaycheck.whole_files import rights_of_new, write_whole
 
 from .entries import QUEUE, files_in, name_of_seed, read, write
-from .tries import LONGEST
+from .tries import LONGEST, span
 
 FINDINGS, LOCK = "findings", ".replaycheck-search.lock"
 FINDING = re.compile(r"([0-9]{2,6})\.text")
@@ -119,8 +119,11 @@ def session_lines(seed: bytes, content: bytes, step: int) -> List[str]:
         more = content[len(seed):]
         lines = [*(f"input append {it}" for it in more), *(["input cut"] * (len(seed) - len(content)))]
         whole = (seed + more)[:len(content)]
-        lines += [f"bytes {at} {content[at:at + LONGEST].hex()}" for at in range(0, len(content), LONGEST)
-                  if whole[at:at + LONGEST] != content[at:at + LONGEST]]
+        for at in range(0, len(content), LONGEST):
+            was, part = whole[at:at + LONGEST], content[at:at + LONGEST]
+            if part != was:
+                first, last = span(was, part)
+                lines.append(f"bytes {at + first} {part[first:last].hex()}")
     return [*lines, f"goto {step}", "report"]
 
 

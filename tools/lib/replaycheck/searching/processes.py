@@ -4,7 +4,7 @@ from __future__ import annotations
 import json
 import os
 import selectors
-from typing import Callable, Dict, Iterator, List, Tuple
+from typing import Callable, Iterator, List, Tuple
 
 from replaycheck import children as child_processes
 from replaycheck.endings import Fault, Interrupted, Starting, children, end_children, signal, undisturbed
@@ -16,23 +16,24 @@ AT_ONCE = 1 << 16  # bytes of one read
 
 
 class Forked(child_processes.Child):
-    """A worker, which is a copy of this process. It ends when a signal ends this one. `told` is the pipe of what it tells."""
+    """A worker, which is a copy of this process. It ends when a signal ends this one. `stdout` is the pipe of what it tells."""
 
     def __init__(self, work: Callable, unneeded: List[int]):
         self.status, self.unread = None, b""
-        self.told, tells = os.pipe()
+        told, tells = os.pipe()
         self.pid = os.fork()
         if not self.pid:
-            for number in (self.told, *unneeded):
-                os.close(number)
             status = 1
             try:
+                for number in (told, *unneeded):
+                    os.close(number)
                 children.clear()
                 Leaving().begin()
                 status = obey(work, tells)
             finally:
                 os._exit(status)
         os.close(tells)
+        self.stdout = open(told, "rb", buffering=0)
 
 
 class Leaving:
@@ -45,6 +46,9 @@ class Leaving:
         for number in (signal.SIGINT, signal.SIGHUP):
             signal.signal(number, signal.SIG_IGN)
         signal.signal(signal.SIGTERM, self.leave)
+        if Starting.come is not None:  # since before it was a process of its own
+            raise Interrupted(Starting.come)
+        Starting.is_on = False
 
     def leave(self, number, _):
         if self.is_on:
@@ -86,17 +90,18 @@ class Workers:
 
     def __init__(self, works: List[Callable], unneeded: List[int]):
         self.selector = selectors.DefaultSelector()
-        self.running: Dict[int, Forked] = {}
+        self.running: List[Forked] = []
         for work in works:
-            undisturbed(lambda: children.append(Forked(work, [*unneeded, *self.running])))
-            self.running[children[-1].told] = children[-1]
-            self.selector.register(children[-1].told, selectors.EVENT_READ, (len(self.running) - 1, children[-1]))
+            others = [it.stdout.fileno() for it in self.running]
+            undisturbed(lambda: children.append(Forked(work, [*unneeded, *others])))
+            self.running.append(children[-1])
+            self.selector.register(children[-1].stdout, selectors.EVENT_READ, (len(others), children[-1]))
 
     def messages(self, patience: float) -> Iterator[Tuple[int, list]]:
         """What workers tell within some seconds: of each its number, and the message."""
         for key, _ in self.selector.select(patience):
             number, worker = key.data
-            content = os.read(worker.told, AT_ONCE)
+            content = os.read(worker.stdout.fileno(), AT_ONCE)
             if not content:
                 self.end(worker)
                 continue
@@ -104,9 +109,9 @@ class Workers:
             yield from ((number, json.loads(line)) for line in lines)
 
     def end(self, worker: Forked):
-        self.selector.unregister(worker.told)
-        os.close(worker.told)
-        del self.running[worker.told]
+        self.selector.unregister(worker.stdout)
+        worker.stdout.close()
+        self.running.remove(worker)
         status = worker.wait()
         children.remove(worker)
         if status:
@@ -114,5 +119,5 @@ class Workers:
 
     def stop(self):
         """Tells the workers to end. They tell how far they are first."""
-        for it in self.running.values():
+        for it in self.running:
             it.terminate()

@@ -2,9 +2,10 @@
 from __future__ import annotations
 
 import os
+import re
 import sys
 import time
-from typing import List, Optional
+from typing import Dict, List, Optional
 
 from replaycheck.exploring.summary import counted
 from replaycheck.whole_files import rights_of_new, write_whole
@@ -12,6 +13,7 @@ from replaycheck.whole_files import rights_of_new, write_whole
 STATS, PLOT = "fuzzer_stats", "plot_data"
 PLOT_HEAD = ("# relative_time, cycles_done, cur_item, corpus_count, pending_total, pending_favs, map_size, saved_crashes, saved_hangs, "
              "max_depth, execs_per_sec, total_execs, edges_found\n")
+NUMBERS = re.compile(r"id:([0-9]+),(?:src:([0-9]+))?")
 WIDTH = 18  # of a key
 BETWEEN = 5.0  # seconds between two writes of the files
 
@@ -34,9 +36,27 @@ class State:
         self.ended_at: Optional[float] = None
         self.news_at: Optional[float] = None
         self.finding_at: Optional[float] = None
-        self.entries = self.new_entries = self.findings = 0
+        self.entries = self.new_entries = self.findings = self.cycles_at_news = 0
+        self.depths: Dict[str, int] = {}  # of entries, by the numbers of their files
         self.shown_at = self.written_at = self.begun
         self.is_shown = False
+
+    def add(self, name: str):
+        """Adds an input of the queue, by the name of its file."""
+        self.entries += 1
+        found = NUMBERS.match(name)
+        if found:
+            self.depths[found[1]] = self.depths.get(found[2], 0) + 1
+
+    def add_new(self, name: str):
+        self.add(name)
+        self.new_entries += 1
+        self.news_at, self.cycles_at_news = time.monotonic(), self.cycles
+
+    @property
+    def depth(self) -> int:
+        """The greatest number of inputs that are made of each other, as far as the names say."""
+        return max(self.depths.values(), default=0)
 
     @property
     def runs(self) -> int:
@@ -119,9 +139,10 @@ class State:
         sides = self.reached.sides_count if self.reached else 0
         values = {
             "start_time": self.begun_at, "last_update": int(time.time()), "run_time": int(self.seconds), "fuzzer_pid": os.getpid(),
-            "cycles_done": self.cycles, "cycles_wo_finds": 0, "execs_done": self.runs, "execs_per_sec": f"{self.rate:.2f}",
-            "corpus_count": self.entries, "corpus_found": self.new_entries, "cur_item": self.told[0].at, "pending_favs": 0,
-            "pending_total": self.pending, "bitmap_cvg": self.cover(), "saved_crashes": self.findings, "saved_hangs": 0,
+            "cycles_done": self.cycles, "cycles_wo_finds": self.cycles - self.cycles_at_news,
+            "time_wo_finds": int(self.now - (self.news_at or self.begun)), "execs_done": self.runs, "execs_per_sec": f"{self.rate:.2f}",
+            "corpus_count": self.entries, "corpus_found": self.new_entries, "max_depth": self.depth,
+            "cur_item": self.told[0].at, "pending_favs": 0, "pending_total": self.pending, "bitmap_cvg": self.cover(), "saved_crashes": self.findings, "saved_hangs": 0,
             "last_find": self.wall(self.news_at), "last_crash": self.wall(self.finding_at), "last_hang": 0,
             "edges_found": sides, "afl_banner": "replaycheck", "afl_version": "replaycheck-search", "target_mode": "replaycheck",
             "command_line": " ".join(self.command).replace("\n", " ")}
@@ -129,6 +150,6 @@ class State:
 
     def row(self) -> str:
         sides = self.reached.sides_count if self.reached else 0
-        values = (int(self.seconds), self.cycles, self.told[0].at, self.entries, self.pending, 0, self.cover(), self.findings, 0, 0,
-                  f"{self.rate:.2f}", self.runs, sides)
+        values = (int(self.seconds), self.cycles, self.told[0].at, self.entries, self.pending, 0, self.cover(), self.findings, 0,
+                  self.depth, f"{self.rate:.2f}", self.runs, sides)
         return ", ".join(map(str, values)) + "\n"

@@ -25,12 +25,12 @@ def head(title: str, search) -> Iterator[str]:
 
 
 def found_lines(search, found: List[Finding]) -> Iterator[str]:
-    goal = search.options.goal
-    if goal is None:
-        yield f"{counted(len(found), 'new error, leak or stop', 'new errors, leaks and stops')}, which no seed has"
+    if search.options.goal is None:
+        had = f"; the seeds have {len(search.of_seeds)} of their own" if search.of_seeds else ""
+        yield f"{counted(len(found), 'new error, leak or stop', 'new errors, leaks and stops')}, which no seed has{had}"
     else:
-        begin = "begins" if len(found) == 1 else "begin"
-        yield f"{counted(len(found), 'new line')} of outcomes, which no seed has, that {begin} with `{shown(goal)}`"
+        begin, had = "begins" if len(found) == 1 else "begin", "; a seed has one too" if search.of_seeds else ""
+        yield f"{counted(len(found), 'new line')} of outcomes, which no seed has, that {begin} with `{shown(search.options.goal)}`{had}"
 
 
 def summary(title: str, search, found: List[Finding], sources: SourceLines) -> Iterator[str]:

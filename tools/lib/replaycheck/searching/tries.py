@@ -18,7 +18,8 @@ PATIENCE = 1.0  # seconds after which a wait is interrupted for a look at the cl
 PAIRS_KEPT = 4  # compares at one address of those that a reply lists
 MOST_AHEAD = 1000  # lines of the runs that a new session makes first
 FULL = b"refused 1"  # memory ran out
-NEWS, EACH, OTHER = range(3)  # which replies are passed on: of a try those with news, or each; of another line each
+# What a line is, and which replies are passed on: a try, of which those with news, or each; a question for compares; a counted line.
+NEWS, EACH, COMPARES, LINE = range(4)
 
 
 class Pair:
@@ -128,7 +129,7 @@ class Tries:
             if reply != b"ok":
                 raise Refused(line, reply.decode("ascii", "replace"))
         self.counted += 1
-        self.send(line.encode("ascii"), Waiting(b"", take, OTHER))
+        self.send(line.encode("ascii"), Waiting(b"", take, LINE))
 
     def send(self, line: bytes, waiting: Waiting):
         self.unsent += line + b"\n"
@@ -148,7 +149,7 @@ class Tries:
     def differ(self, content: bytes, take: Callable[[bytes, List[Pair]], None], kept=frozenset()):
         """Asks in which compares an input's run differs from the base's. `take` gets the input with the compares: the first PAIRS_KEPT at
         each address, and those at the steps `kept`."""
-        self.send(b"differs" + self.fields(content), Waiting(content, take, OTHER, kept))
+        self.send(b"differs" + self.fields(content), Waiting(content, take, COMPARES, kept))
 
     # ---- replies
 
@@ -192,19 +193,18 @@ class Tries:
 
     def take(self, waiting: Waiting, line: bytes):
         """Takes a line of a reply."""
-        is_line = waiting.kind == OTHER and not self.part and (line == b"ok" or line.startswith(b"refused "))
-        if is_line and not (waiting.content and line != b"ok"):
+        if waiting.kind == LINE:
             self.waiting.popleft()
             waiting.take(waiting.content, line)
         elif line == FULL:
             self.is_full, self.part = True, []
             self.waiting.popleft()
         elif line.startswith(b"refused "):
-            word = "differs" if waiting.kind == OTHER else "try"
+            word = "differs" if waiting.kind == COMPARES else "try"
             raise Refused(f"{word} of {len(waiting.content)} bytes", line.decode("ascii", "replace"))
-        elif waiting.kind == OTHER and line == b"end":
+        elif waiting.kind == COMPARES and line == b"end":
             self.ended(waiting, pairs_in(self.part, waiting.kept))
-        elif waiting.kind != OTHER and line.startswith(b"tried "):
+        elif waiting.kind != COMPARES and line.startswith(b"tried "):
             self.ended(waiting, self.tried(line))
         else:
             self.part.append(line)

@@ -3,11 +3,14 @@ from __future__ import annotations
 
 import os
 import time
+from dataclasses import dataclass
 from functools import partial
 from typing import Callable, Dict, Iterator, List, Optional, Tuple
 
+from replaycheck.covering.code import Code
 from replaycheck.endings import Interrupted
 from replaycheck.exploring.outcomes import RUNS
+from replaycheck.sessions import Session
 
 from .asking import AHEAD, Asking, Repairs
 from .entries import Entry, Folders, made_of, name_of, taken_from, write
@@ -30,13 +33,28 @@ class Over(Exception):
     """The search has had its time or its tries."""
 
 
+@dataclass
 class Plan:
-    """What all workers of a search are given. `opened` starts a session of `replaycheck tries` for an input, `code` is that of the program,
-    `own` the search's folder in `path`, `found` the findings that its files have. `first` is the number of the next file of the queue,
-    `first_seed` that of the first seed which this search has added, and `until` the time at which the search ends."""
+    """What all workers of a search are given. `path` is the folder of all searches, and `own` that of this one; `found` are the findings
+    that it has already. `first_seed` is the number of the first file that this search has added for a seed, and `first` that of the next file.
+    `until` is the time at which the search ends, `parent` the process that takes what is found."""
 
-    def __init__(self, **values):
-        self.__dict__.update(values)
+    opened: Callable[[Optional[bytes]], Session]
+    code: Code
+    step: int
+    seeds: List[bytes]
+    tokens: List[bytes]
+    most: int
+    goal: Optional[bytes]
+    runs: Optional[int]
+    seed: int
+    until: float
+    path: str
+    own: str
+    found: List[str]
+    first_seed: int
+    first: int
+    parent: int
 
 
 class Worker:
@@ -185,6 +203,8 @@ class Worker:
             tries.prepare(content)
             self.attempt_known(tries, content, lambda _, reply: self.news.skip(reply.outcome, self.text_of(reply.outcome)))
             tries.settle()
+        if self.place == 0:
+            self.tell("seeds", sorted({it.text for parts in self.news.parts.values() for it in parts}))
         for folder, number, content in self.folders.new():
             if folder == self.folders.own:
                 is_seed = number is not None and number >= self.plan.first_seed
