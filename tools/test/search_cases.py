@@ -79,3 +79,20 @@ REJECTED = (
     ("an unknown option", ["--jbos=2"], "unrecognized arguments: --jbos=2"),
     ("suppressions that aren't any", ["--supp=no-token"], "suppressions refused 13"),
 )
+
+# What compares say and what follows: a label, an input, what a change of the byte at an offset does to a compare (step, address, the two
+# operands, and the operands of the other run; the offset None is a byte more at the end), and some inputs that are solved for.
+SOLVED = (
+    ("a word, the lowest byte first", "0000", {0: "7 1 0 1234 1 1234", 1: "7 1 0 1234 100 1234"}, ["3412", "3512", "3312"]),
+    ("a word, the highest byte first", "0000", {0: "7 1 0 1234 100 1234", 1: "7 1 0 1234 1 1234"}, ["1234", "1235", "1233"]),
+    ("the other operand", "0000", {1: "7 1 41 0 41 1"}, ["0041", "0042", "0040"]),
+    ("a byte that gets smaller", "0100", {0: "7 1 1 20 0 20"}, ["2000"]),
+    ("something is added to it", "0500", {0: "7 1 35 41 34 41"}, ["1100"]),
+    ("a carry", "ff00", {0: "7 1 1ff 200 1fe 200", 1: "7 1 1ff 200 2ff 200"}, ["0001", "0101"]),
+    ("a byte that has no room", "0000", {0: "7 1 0 200 1 200"}, []),
+    ("a length", "0000", {None: "7 1 2 5 3 5"}, ["0000000000", "000000000000", "00000000"]),
+    ("a length in other units", "0000", {None: "7 1 8 10 c 10"}, ["00000000"]),
+    ("the last compare first", "0000", {0: "7 1 0 41 1 41", 1: "9 2 0 42 1 42"}, ["0042", "0043", "0041", "4100"]))
+# Tokens: the text of a line, and its bytes, or None if it is rejected.
+TOKENS = ((b'"a"', b"a"), (b'name="a b"', b"a b"), (b'n@3="\\x00\\xff"', b"\0\xff"), (b'"\\\\\\""', b'\\"'), (b'"a" # no', None), (b'""', None),
+          (b'"\\x0"', None), (b'"a', None), (b'a', None), (b'"' + b"a" * 65 + b'"', None))

@@ -97,9 +97,10 @@ class Compares:
                 yield it
 
     def solved(self, most: int) -> Iterator[bytes]:
-        """The inputs by which compares come out otherwise, none twice."""
+        """The inputs by which compares come out otherwise, none twice. The last compare comes first: of an input with many parts the last
+        one changes, and there is room before it for what another one has to say."""
         known = {self.content}
-        for it in self.in_order():
+        for it in reversed(list(self.in_order())):
             for side in (0, 1):
                 for content in (*self.lengths(it, side, most), *self.contents(it, side)):
                     if content is not None and content not in known:
