@@ -94,5 +94,5 @@ SOLVED = (
     ("a length in other units", "0000", {None: "7 1 8 10 c 10"}, ["00000000"]),
     ("the last compare first", "0000", {0: "7 1 0 41 1 41", 1: "9 2 0 42 1 42"}, ["0042", "0043", "0041", "4100"]))
 # Tokens: the text of a line, and its bytes, or None if it is rejected.
-TOKENS = ((b'"a"', b"a"), (b'name="a b"', b"a b"), (b'n@3="\\x00\\xff"', b"\0\xff"), (b'"\\\\\\""', b'\\"'), (b'"a" # no', None), (b'""', None),
-          (b'"\\x0"', None), (b'"a', None), (b'a', None), (b'"' + b"a" * 65 + b'"', None))
+TOKENS = ((b'"a"', b"a"), (b'name="a b"', b"a b"), (b'n@3="\\x00\\xff"', b"\0\xff"), (b'"\\\\\\""', b'\\"'), (b'"a" # no', None),
+          (b'""', None), (b'"\\x0"', None), (b'"a', None), (b'a', None), (b'"' + b"a" * 65 + b'"', None))

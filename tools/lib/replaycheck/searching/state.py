@@ -142,9 +142,9 @@ class State:
             "cycles_done": self.cycles, "cycles_wo_finds": self.cycles - self.cycles_at_news,
             "time_wo_finds": int(self.now - (self.news_at or self.begun)), "execs_done": self.runs, "execs_per_sec": f"{self.rate:.2f}",
             "corpus_count": self.entries, "corpus_found": self.new_entries, "max_depth": self.depth,
-            "cur_item": self.told[0].at, "pending_favs": 0, "pending_total": self.pending, "bitmap_cvg": self.cover(), "saved_crashes": self.findings, "saved_hangs": 0,
-            "last_find": self.wall(self.news_at), "last_crash": self.wall(self.finding_at), "last_hang": 0,
-            "edges_found": sides, "afl_banner": "replaycheck", "afl_version": "replaycheck-search", "target_mode": "replaycheck",
+            "cur_item": self.told[0].at, "pending_favs": 0, "pending_total": self.pending, "bitmap_cvg": self.cover(),
+            "saved_crashes": self.findings, "saved_hangs": 0, "last_find": self.wall(self.news_at),
+            "last_crash": self.wall(self.finding_at), "last_hang": 0, "edges_found": sides, "afl_banner": "replaycheck", "afl_version": "replaycheck-search", "target_mode": "replaycheck",
             "command_line": " ".join(self.command).replace("\n", " ")}
         return "".join(f"{name:<{WIDTH}}: {value}\n" for name, value in values.items())
 

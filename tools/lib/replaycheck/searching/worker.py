@@ -36,8 +36,8 @@ class Over(Exception):
 @dataclass
 class Plan:
     """What all workers of a search are given. `path` is the folder of all searches, and `own` that of this one; `found` are the findings
-    that it has already. `first_seed` is the number of the first file that this search has added for a seed, and `first` that of the next file.
-    `until` is the time at which the search ends, `parent` the process that takes what is found."""
+    that it has already. `first_seed` is the number of the first file that this search has added for a seed, and `first` that of the next
+    file. `until` is the time at which the search ends, `parent` the process that takes what is found."""
 
     opened: Callable[[Optional[bytes]], Session]
     code: Code
