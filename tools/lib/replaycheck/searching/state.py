@@ -144,7 +144,8 @@ class State:
             "corpus_count": self.entries, "corpus_found": self.new_entries, "max_depth": self.depth,
             "cur_item": self.told[0].at, "pending_favs": 0, "pending_total": self.pending, "bitmap_cvg": self.cover(),
             "saved_crashes": self.findings, "saved_hangs": 0, "last_find": self.wall(self.news_at),
-            "last_crash": self.wall(self.finding_at), "last_hang": 0, "edges_found": sides, "afl_banner": "replaycheck", "afl_version": "replaycheck-search", "target_mode": "replaycheck",
+            "last_crash": self.wall(self.finding_at), "last_hang": 0, "edges_found": sides,
+            "afl_banner": "replaycheck", "afl_version": "replaycheck-search", "target_mode": "replaycheck",
             "command_line": " ".join(self.command).replace("\n", " ")}
         return "".join(f"{name:<{WIDTH}}: {value}\n" for name, value in values.items())
 
