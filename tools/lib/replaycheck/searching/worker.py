@@ -156,6 +156,7 @@ class Worker:
             self.entries.append(entry)
             self.quiet_since = self.all_runs
             self.tell("entry", name)
+            self.tell_state()
             self.find(content, reply)
 
     def find(self, content: bytes, reply: Reply):
