@@ -14,19 +14,20 @@ LONGEST_NAME = 80  # of a seed, within the name of a file
 
 
 class Entry:
-    """An input of the queue. `number` is that of its file. Of one that `is_new` the compares are asked before all others are mutated, of
-    any other one when it is mutated first. `taken` counts how often it was mutated; `swept` and `placed` are the first byte whose values,
-    and the first place whose tokens, weren't tried; `guards` are compares that mutated inputs have to keep equal."""
+    """An input of the queue. `number` is that of its file. The compares of one that `is_new` are asked for before any other one is mutated;
+    those of one that `is_own` when it is first mutated, and those of any other one, which another worker asks for, when it is mutated
+    again. `taken` counts how often it was mutated; `swept` and `placed` are the first byte whose values, and the first place whose tokens,
+    weren't tried; `guards` are compares that mutated inputs have to keep equal."""
 
-    def __init__(self, content: bytes, number: Optional[int], is_new: bool):
-        self.content, self.number, self.is_new, self.is_asked = content, number, is_new, False
+    def __init__(self, content: bytes, number: Optional[int], is_new: bool, is_own=True):
+        self.content, self.number, self.is_new, self.is_own, self.is_asked = content, number, is_new, is_own, False
         self.taken = self.swept = self.placed = 0
         self.guards: List = []
 
 
-def made_of(number: int, how: str) -> str:
-    """How an input was made of an entry of this search's queue."""
-    return f"src:{number:06},op:{how}"
+def made_of(entry: Entry, how: str) -> str:
+    """How an input was made of an entry of this search's queue. The file of one that the user has put there may have no number."""
+    return f"op:{how}" if entry.number is None else f"src:{entry.number:06},op:{how}"
 
 
 def taken_from(folder: str, number: Optional[int]) -> str:

@@ -1,6 +1,7 @@
 """The work of one process of a search: what is tried, in which order, and what of it enters the queue."""
 from __future__ import annotations
 
+import contextlib
 import os
 import time
 from dataclasses import dataclass
@@ -110,7 +111,7 @@ class Worker:
     def attempt(self, tries: Tries, content: bytes, how: str, then=None, kind=NEWS):
         """Tries an input that follows from the entry at work."""
         if self.spend():
-            origin = made_of(self.at_work.number or 0, how) if self.at_work else how
+            origin = made_of(self.at_work, how) if self.at_work else how
             tries.attempt(content, partial(self.judge, origin, then), kind)
 
     def differ(self, tries: Tries, content: bytes, take, kept=frozenset()):
@@ -208,8 +209,9 @@ class Worker:
             self.tell("seeds", sorted({it.text for parts in self.news.parts.values() for it in parts}))
         for folder, number, content in self.folders.new():
             if folder == self.folders.own:
+                is_own = (number or 0) % self.count == self.place
                 is_seed = number is not None and number >= self.plan.first_seed
-                self.take_own(content, number, self.place == 0, is_seed and number % self.count == self.place)
+                self.take_own(Entry(content, number, is_own and is_seed, is_own), self.place == 0)
             elif self.place == 0:
                 self.take_other(content, taken_from(self.folders.name(folder), number))
         for tries in list(self.sessions.values()):
@@ -220,11 +222,12 @@ class Worker:
         if self.spend():
             tries.attempt(content, take, EACH)
 
-    def take_own(self, content: bytes, number: Optional[int], finds: bool, is_new: bool):
+    def take_own(self, entry: Entry, finds: bool):
         """Takes an input of the search's own folder: a seed, or what an earlier search or another worker has found."""
+        content = entry.content
         if content in self.known:
             return
-        self.known[content] = entry = Entry(content, number, is_new)
+        self.known[content] = entry
         self.entries.append(entry)
         tries = self.tries_for(content)
         tries.prepare(content)
@@ -250,7 +253,7 @@ class Worker:
         """Reads what other workers and other searches have found."""
         for folder, number, content in self.folders.new():
             if folder == self.folders.own:
-                self.take_own(content, number, False, False)
+                self.take_own(Entry(content, number, False, False), False)
             elif self.place == 0:
                 self.take_other(content, taken_from(self.folders.name(folder), number))
 
@@ -295,9 +298,10 @@ class Worker:
             it.close()
 
     def finish(self):
-        """Takes the replies that are to come."""
-        for it in list(self.sessions.values()):
-            it.settle()
+        """Takes the replies that are to come, as long as there is time."""
+        with contextlib.suppress(Over):
+            for it in list(self.sessions.values()):
+                it.settle()
 
     def turn(self):
         """Does the next piece of work."""
@@ -310,7 +314,9 @@ class Worker:
             return
         entry = min(reversed(self.entries), key=lambda it: it.taken)
         entry.taken += 1
-        self.ask(entry)
+        self.at_work = entry
+        if entry.is_own or entry.taken > 1:
+            self.ask(entry)
         tries = self.tries_for(entry.content)
         tries.set_base(entry.content)
         if self.all_runs - self.quiet_since >= QUIET:
