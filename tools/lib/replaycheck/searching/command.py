@@ -70,11 +70,11 @@ class Search:
 
     def __init__(self, options, room: str):
         self.options, self.room = options, room
+        self.code = Code(options.file, options.isa, options.regions)
         self.folder = Folder(options.out if options.out is not None else os.path.join(room, "search"))
         given = [] if options.input else self.folder.seeds(options.max_len)
         self.seeds = given or seeds(options.input, options.max_len, say)
         self.seed = self.first_file()
-        self.code = Code(options.file, options.isa, options.regions)
         self.step_note, self.of_seeds = "", []
         self.choose_step()
         self.tokens = tokens_in(options.tokens) if options.tokens is not None else []
