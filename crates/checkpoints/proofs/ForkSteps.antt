@@ -10,14 +10,15 @@ use Rattle.instructions.specs.declared.code.Code.{Code}
 use Rattle.guest_machine.specs.Run.{pre, poked}
 use Rattle.run_values.specs.declared.alteration.Alteration.{Alteration}
 use Rattle.guest_machine.specs.declared.setup.Setup.{Setup}
+use Rattle.run_values.specs.declared.span.Span.{Span}
 use Rattle.checkpoints.specs.Entries.{below, entry_of}
 use Rattle.checkpoints.specs.FirstUses.{earliest, first_of_code, uses_code, IsFirstBelow}
 use Rattle.checkpoints.specs.declared.uses.FirstUses.{FirstUses}
 use Rattle.checkpoints.specs.FirstEffects.{IsBelowFirst}
-use Rattle.checkpoints.specs.Effects.{EffectShows, Run, LeadsTo, effect_by, written_by}
+use Rattle.checkpoints.specs.Effects.{EffectShows, IsOfSetup, Run, LeadsTo, WritesWithin, effect_by, written_by}
 use Rattle.checkpoints.specs.Forks.{IsLastUnshown, WritesWhole}
 use Rattle.checkpoints.specs.declared.effect.Effect.{Effect}
-use Rattle.checkpoints.specs.declared.effect.Effect.TheVariants.{After, Patch, Anew}
+use Rattle.checkpoints.specs.declared.effect.Effect.TheVariants.{Nowhere, After, Input, End, Heap, Patch, Anew}
 use Rattle.checkpoints.proofs.RunSteps.{PokeLaws, same-pre, pre-poked}
 use Rattle.checkpoints.proofs.FirstSteps.{is-low}
 use Rattle.checkpoints.proofs.TrailSteps.{touches-none}
@@ -78,6 +79,25 @@ step-is-last step last run l = record {
   hidden = λ j low shown. omega arith;
   next = λ l hidden. hidden (step + 1) (omega arith) refl;
 }
+
+-- an edit of the setup writes no code
+pub whole-of-setup : (effect : Effect) → IsOfSetup effect → WritesWhole effect
+whole-of-setup Nowhere of = tt
+whole-of-setup (Input offset) of = tt
+whole-of-setup End of = tt
+whole-of-setup Heap of = tt
+whole-of-setup (After step) of = tt
+whole-of-setup (Patch addr code) of = absurd of
+whole-of-setup (Anew addr code) of = absurd of
+
+pub within-of-setup : (ranges : List Span) (effect : Effect) → IsOfSetup effect → WritesWithin ranges effect
+within-of-setup ranges Nowhere of = tt
+within-of-setup ranges (Input offset) of = tt
+within-of-setup ranges End of = tt
+within-of-setup ranges Heap of = tt
+within-of-setup ranges (After step) of = tt
+within-of-setup ranges (Patch addr code) of = absurd of
+within-of-setup ranges (Anew addr code) of = absurd of
 
 pub code-whole : (b : Bool) (addr : ℕ) (code : Code) → addr + len_of code ≤ 2 ^ 32 → WritesWhole (effect_by b addr code)
 code-whole true addr code whole = whole

@@ -43,6 +43,14 @@ IsWrite (Patch addr code) = Unit {0}
 IsWrite (Anew addr code) = Unit {0}
 IsWrite _ = ⊥
 
+-- the effect of an edit that changes nothing but the setup
+abbrev pub IsOfSetup : Effect → Type 0
+IsOfSetup Nowhere = Unit {0}
+IsOfSetup (Input offset) = Unit {0}
+IsOfSetup End = Unit {0}
+IsOfSetup Heap = Unit {0}
+IsOfSetup _ = ⊥
+
 -- ---- from which run to which
 
 -- two lists of marks differ only in those of one step

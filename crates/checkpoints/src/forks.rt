@@ -5,8 +5,8 @@ ghost use Rattle.guest_machine.specs.Run.{pre};
 ghost use Rattle.guest_machine.specs.Shows.{Shows};
 ghost use Rattle.guest_machine.specs.declared.setup.Setup.{Setup as SetupOf};
 ghost use Rattle.run_values.specs.declared.alteration.Alteration.{Alteration as AlterationOf};
-ghost use Rattle.checkpoints.specs.Effects.{LeadsTo, Run, code_effect, written_by};
-ghost use Rattle.checkpoints.specs.FirstEffects.{IsBelowFirst, InputShows};
+ghost use Rattle.checkpoints.specs.Effects.{EffectShows, IsOfSetup, LeadsTo, Run, code_effect, written_by};
+ghost use Rattle.checkpoints.specs.FirstEffects.{IsBelowFirst};
 ghost use Rattle.checkpoints.specs.Forks.{IsLastUnshown, IsForkFor, ShowsEdited, WritesWhole, IsStepOf, IsForkOf};
 ghost use Rattle.checkpoints.specs.Trails.{is_short, loaded_of, last_held, IsRightFor};
 ghost use Rattle.checkpoints.specs.Words.{IsCodeIn};
@@ -14,7 +14,7 @@ ghost use Rattle.instructions.specs.Codes.{len_of};
 ghost use Rattle.instructions.specs.declared.code.Code.{Code as CodeOf};
 ghost use Rattle.checkpoints.specs.declared.effect.Effect.{Effect as EffectOf};
 
-use crate::cuts::poked_copy;
+use crate::cuts::{has_shown_in, poked_copy};
 use crate::effect::Effect;
 use crate::reaching::SPACING;
 use crate::running::{apply_marks, next_step, pass_marks, run_on};
@@ -88,7 +88,7 @@ impl Fork {
 }
 
 /// A copy of a machine, with the code written if an effect writes one.
-fn written_copy(machine: &Machine, effect: Effect) -> Result<Machine, AllocError>
+pub(crate) fn written_copy(machine: &Machine, effect: Effect) -> Result<Machine, AllocError>
     ensures { IfOk result (λ copy. (s : State) → Shows machine.now s → Shows copy (written_by effect s)) }
 {
     match effect {
@@ -102,7 +102,6 @@ fn written_copy(machine: &Machine, effect: Effect) -> Result<Machine, AllocError
 impl Trail {
     /// Returns a fork of the run before the last step, up to another, at which the byte of the input at an offset isn't read yet. Each run
     /// whose input differs from that offset on continues from it.
-    #[tactic(auto, unfolding(crate::specs::Trails::last_held))]
     pub fn fork_at_byte(
         &mut self,
         offset: u32,
@@ -117,8 +116,30 @@ impl Trail {
         ensures short { is_short self.new ≡ is_short self.old }
         ensures loaded { loaded_of self.new ≡ loaded_of self.old }
     {
+        self.fork_of_setup(Effect::Input(offset), last, setup, marks)
+    }
+
+    /// Returns a fork of the run before the last step, up to another, at which an edit that changes only the setup doesn't show. Each run to
+    /// which such an edit leads continues from it.
+    #[tactic(auto, unfolding(crate::specs::Trails::last_held))]
+    pub fn fork_of_setup(
+        &mut self,
+        effect: Effect,
+        last: u32,
+        setup: &Setup,
+        marks: &[Alteration],
+    ) -> Result<Fork, AllocError>
+        requires small { last < 2 ^ 31 }
+        requires of { IsOfSetup effect }
+        ensures right { (start : State) → IsRightFor self.old start setup.now marks.now → IsRightFor self.new start setup.now marks.now }
+        ensures step { IfOk result (λ fork. fork.step ≤ last) }
+        ensures fork { IfOk result (λ fork. (start : State) → IsRightFor self.old start setup.now marks.now
+            → IsForkFor effect (record { start = start; setup = setup.now; marks = marks.now }) last fork) }
+        ensures short { is_short self.new ≡ is_short self.old }
+        ensures loaded { loaded_of self.new ≡ loaded_of self.old }
+    {
         self.reach((last / SPACING + 1) as usize, setup, marks)?;
-        let step = self.last_unread(offset, last, setup, marks)?;
+        let step = self.last_hidden(effect, last, setup, marks)?;
         self.fork_at(step, setup, marks)
     }
 
@@ -170,23 +191,24 @@ impl Trail {
         self.fork_at(step, setup, marks)
     }
 
-    /// The last step, up to another, at which the byte of the input at an offset isn't read yet.
+    /// The last step, up to another, at which an edit that changes only the setup doesn't show.
     #[tactic(auto, unfolding(crate::specs::Trails::machines_of, crate::specs::Trails::last_held))]
-    fn last_unread(
+    fn last_hidden(
         &self,
-        offset: u32,
+        effect: Effect,
         last: u32,
         setup: &Setup,
         marks: &[Alteration],
     ) -> Result<u32, AllocError>
-        requires { last < last_held self.now }
+        requires held { last < last_held self.now }
+        requires of { IsOfSetup effect }
         ensures within { IfOk result (λ step. step ≤ last) }
-        ensures step { IfOk result (λ step. IsStepOf (Effect.Input offset) self.now setup.now marks.now last step) }
+        ensures step { IfOk result (λ step. IsStepOf effect self.now setup.now marks.now last step) }
     {
-        let kept = self.held_before(Effect::Input(offset));
+        let kept = self.held_before(effect);
         let place = lesser((kept - 1) as u32, last / SPACING);
         let copy = self.copy_of(place as usize)?;
-        unread_until(copy, setup, marks, offset, place * SPACING, last)
+        hidden_until(copy, effect, setup, marks, place * SPACING, last)
     }
 
     /// The last step, up to another, at which another code at an address doesn't show.
@@ -237,20 +259,21 @@ fn lesser(x: u32, y: u32) -> u32
     if x < y { x } else { y }
 }
 
-/// The last step, from one up to another, at which the byte of the input at an offset isn't read yet, if it isn't at the first.
-fn unread_until(
+/// The last step, from one up to another, at which an edit that changes only the setup doesn't show, if it doesn't at the first.
+fn hidden_until(
     machine: Machine,
+    effect: Effect,
     setup: &Setup,
     marks: &[Alteration],
-    offset: u32,
     from: u32,
     to: u32,
 ) -> Result<u32, AllocError>
-    requires { from ≤ to }
+    requires forward { from ≤ to }
+    requires of { IsOfSetup effect }
     ensures within { IfOk result (λ step. step ≤ to) }
     ensures last { IfOk result (λ step. (start : State) → Shows machine (pre start setup.now marks.now from)
-        → IsBelowFirst (InputShows offset start setup.now marks.now) from
-        → IsLastUnshown (Effect.Input offset) (record { start = start; setup = setup.now; marks = marks.now }) to step) }
+        → IsBelowFirst (EffectShows effect start setup.now marks.now) from
+        → IsLastUnshown effect (record { start = start; setup = setup.now; marks = marks.now }) to step) }
 {
     let mut machine = machine;
     let mut meter = Meter::new();
@@ -258,7 +281,7 @@ fn unread_until(
     for k in from..to {
         let marked = pass_marks(machine, marks, k, &mut next)?;
         let (stepped, _touched) = marked.step(setup, &mut meter)?;
-        if stepped.position() > u64::from(offset) {
+        if has_shown_in(effect, &stepped) {
             return Ok(k);
         }
         machine = stepped;

@@ -1,18 +1,24 @@
 //! Which instructions a run has executed, and how it went on from each.
-ghost use Rattle.std.specs.Prelude.{◌≡◌, ◌+◌, ◌*◌, ◌<◌, ℕ, Bool, false, Decides, length, slice_index_or, IfOk, IfNone, IfSome, OnOk};
+ghost use Rattle.std.specs.Prelude.{◌≡◌, ◌+◌, ◌*◌, ◌<◌, ◌≤◌, ℕ, Bool, false, length, slice_index_or, IfOk, IfNone, IfSome, OnOk};
 ghost use Rattle.guest_elf.specs.Profiles.{unit};
 ghost use Rattle.guest_machine.specs.State.{State};
 ghost use Rattle.guest_machine.specs.Exec.{exec};
 ghost use Rattle.guest_machine.specs.Run.{pre};
 ghost use Rattle.guest_machine.specs.Shows.{Shows};
 ghost use Rattle.checkpoints.specs.Entering.{Enters, IsApart, with_side};
-ghost use Rattle.checkpoints.specs.Sides.{Covers, IsSides, has_side, places, side_by, side_of, sided};
+ghost use Rattle.checkpoints.specs.Effects.{IsOfSetup, LeadsTo, Run};
+ghost use Rattle.checkpoints.specs.Forks.{IsForkFor, ShowsEdited};
+ghost use Rattle.checkpoints.specs.Sides.{IsSides, RowTells, has_again, has_side, places, side_by, side_of, sided, span};
 ghost use Rattle.checkpoints.specs.Trails.{machines_of, IsRightFor};
 
-use crate::running::{is_running, next_step, pass_marks};
+use crate::effect::Effect;
+use crate::forks::{Fork, written_copy};
+use crate::running::{apply_marks, is_running, next_step, pass_marks, run_on};
 use crate::trail::Trail;
-use guest_machine::laws::stays_halted;
-use guest_machine::{Alteration, Machine, Setup, Span};
+use guest_machine::laws::{
+    end_stays, keeps_end, keeps_heap, keeps_input, keeps_isa, keeps_pokes, reads_on, stays_halted,
+};
+use guest_machine::{Alteration, Machine, Meter, Setup, Span};
 use std::alloc::{AllocError, Global};
 
 /// What a run has done with the instruction at a place.
@@ -22,12 +28,18 @@ pub struct Sides {
     pub on: bool,
     /// It has executed the instruction and gone elsewhere, or ended there.
     pub away: bool,
+    /// It has gone on behind the instruction more than once.
+    pub on_again: bool,
+    /// It has gone elsewhere more than once.
+    pub away_again: bool,
 }
 
 /// What it has done with one that it hasn't reached.
 const UNREACHED: Sides = Sides {
     on: false,
     away: false,
+    on_again: false,
+    away_again: false,
 };
 
 impl Trail {
@@ -48,10 +60,62 @@ impl Trail {
     {
         let machine = self.copy_of(0)?;
         let apart = machine.isa().unit();
-        let mut table = vec![in alloc; UNREACHED; rows(apart, range.len)]?;
-        enter_sides(machine, setup, marks, range.start, apart, step, &mut table)?;
+        let mut table = empty_table(alloc, rows(apart, range.len))?;
+        enter_sides(
+            machine,
+            setup,
+            marks,
+            range.start,
+            apart,
+            0,
+            step,
+            &mut table,
+        )?;
         Ok(table)
     }
+}
+
+impl Fork {
+    /// Returns the machine at a step of an edited run as [`Fork::follow`] does, and what the steps of that run below it have done with the
+    /// instruction at each place of a range. `table` says what the steps below the fork's have done. No step counts on a meter.
+    pub fn follow_entering(
+        &self,
+        effect: Effect,
+        setup: &Setup,
+        marks: &[Alteration],
+        step: u32,
+        first: u32,
+        table: &mut Vec<Sides>,
+    ) -> Result<Machine, AllocError>
+        requires before { self.now.step ≤ step }
+        requires of { IsOfSetup effect }
+        ensures shows { IfOk result (λ machine. (last : ℕ) → ShowsEdited effect self.now setup.now marks.now last step machine) }
+        ensures sides { OnOk result ((one : Run) (start : State) (last len : ℕ) → LeadsTo effect one (record { start = start; setup = setup.now; marks = marks.now })
+            → IsForkFor effect one last self.now → IsSides one.start one.setup one.marks self.now.step (span first len) table.old.items
+            → IsSides start setup.now marks.now step (span first len) table.new.items) }
+    {
+        keeps_input();
+        keeps_end();
+        reads_on();
+        end_stays();
+        keeps_heap();
+        keeps_pokes();
+        keeps_isa();
+        let written = written_copy(&self.machine, effect)?;
+        let apart = written.isa().unit();
+        let machine = enter_sides(written, setup, marks, first, apart, self.step, step, table)?;
+        let marked = apply_marks(machine, marks, step)?;
+        Ok(marked)
+    }
+}
+
+/// A table that tells of no step.
+fn empty_table(alloc: Global, rows: usize) -> Result<Vec<Sides>, AllocError>
+    ensures rows { IfOk result (λ table. length table.items ≡ rows) }
+    ensures once { IfOk result (λ table. (i : ℕ) (on : Bool) (d : Sides) → i < rows → has_side (slice_index_or table.items i d) on ≡ false) }
+    ensures again { IfOk result (λ table. (i : ℕ) (on : Bool) (d : Sides) → i < rows → has_again (slice_index_or table.items i d) on ≡ false) }
+{
+    vec![in alloc; UNREACHED; rows]
 }
 
 /// The number of places in so many bytes.
@@ -62,33 +126,38 @@ fn rows(apart: u32, len: u32) -> usize
     (len as usize + (apart as usize - 1)) / apart as usize
 }
 
-/// Runs a machine from step zero to another step, and enters the side of each step on the way. A machine that is halted has none.
+/// Moves a machine from one step of a run to a later one, both before their marks, and enters the side of each step on the way in a table
+/// that says what the steps before have done. A step of a machine that is halted has no side.
 fn enter_sides(
     machine: Machine,
     setup: &Setup,
     marks: &[Alteration],
     first: u32,
     apart: u32,
+    from: u32,
     to: u32,
     table: &mut Vec<Sides>,
-) -> Result<(), AllocError>
+) -> Result<Machine, AllocError>
+    requires forward { from ≤ to }
     requires apart { IsApart apart }
-    requires empty { (i : ℕ) (on : Bool) (d : Sides) → i < length table.old.items → has_side (slice_index_or table.old.items i d) on ≡ false }
+    ensures shows { IfOk result (λ r. (start : State) → Shows machine (pre start setup.now marks.now from) → Shows r (pre start setup.now marks.now to)) }
     ensures rows { OnOk result (length table.new.items ≡ length table.old.items) }
-    ensures tells { OnOk result ((start : State) (i : ℕ) (on : Bool) (d : Sides) → Shows machine (pre start setup.now marks.now 0) → i < length table.old.items
-        → Decides (has_side (slice_index_or table.new.items i d) on) (Covers start setup.now marks.now to (sided (first + apart * i) on))) }
+    ensures tells { OnOk result ((start : State) (i : ℕ) (on : Bool) (d : Sides) → Shows machine (pre start setup.now marks.now from) → i < length table.old.items
+        → RowTells start setup.now marks.now from (sided (first + apart * i) on) (slice_index_or table.old.items i d)
+        → RowTells start setup.now marks.now to (sided (first + apart * i) on) (slice_index_or table.new.items i d)) }
 {
     stays_halted();
     let mut machine = machine;
-    let mut next = next_step(marks, 0);
-    for k in 0..to {
+    let mut next = next_step(marks, from);
+    for k in from..to {
         if !is_running(&machine) {
-            return Ok(());
+            let halted = run_on(machine, setup, marks, k, to, &mut Meter::new())?;
+            return Ok(halted);
         }
         let marked = pass_marks(machine, marks, k, &mut next)?;
         machine = step_entering(marked, setup, first, apart, table)?;
     }
-    Ok(())
+    Ok(machine)
 }
 
 /// Executes one step, and enters its side.
@@ -135,6 +204,8 @@ fn with_side(sides: Sides, on: bool) -> Sides
     Sides {
         on: sides.on || on,
         away: sides.away || !on,
+        on_again: sides.on_again || (sides.on && on),
+        away_again: sides.away_again || (sides.away && !on),
     }
 }
 

@@ -14,7 +14,7 @@ use Rattle.command_line.specs.declared.order.Order.{Order}
 use Rattle.command_line.specs.declared.order.ProfileWords.{ProfileWords}
 use Rattle.command_line.specs.declared.order.SweepWords.{SweepWords}
 use Rattle.command_line.specs.declared.order.Task.{Task}
-use Rattle.command_line.specs.declared.order.Task.TheVariants.{Report, Session, Look, Sweep, Certify}
+use Rattle.command_line.specs.declared.order.Task.TheVariants.{Report, Session, Look, Tries, Sweep, Certify}
 use Rattle.command_line.specs.declared.order.Task.TheVariants.{Exec}
 use Rattle.command_line.specs.declared.order.ExecWords.{ExecWords}
 
@@ -91,6 +91,10 @@ with_session = with_subcommand with_run (program_command (codes "session")).top
 abbrev pub with_look : App
 with_look = with_subcommand with_session (program_command (codes "look")).top
 
+-- with `tries`
+abbrev pub with_tries : App
+with_tries = with_subcommand with_look (program_command (codes "tries")).top
+
 -- a flag
 abbrev pub output_flag : Rule
 output_flag = record (new_rule (codes "with-output")) { long = Some (codes "with-output"); action = Some SetTrue }
@@ -117,7 +121,7 @@ sweep_command =
 
 -- with `sweep`
 abbrev pub with_sweep : App
-with_sweep = with_subcommand with_look sweep_command.top
+with_sweep = with_subcommand with_tries sweep_command.top
 
 -- `certify`, which takes no suppressions: a suppressed error counts as any other
 abbrev pub certify_command : App
@@ -162,7 +166,7 @@ exec_command =
     with_rule (with_rule (with_rule exec_reports (number_option (codes "error-exitcode") 1 255))
     (default_option (codes "count") (codes "definite,possible"))) (number_option (codes "idle-exitcode") 0 255)
 
--- the command line: `run`, `session`, `look`, `sweep`, `certify` and `exec`
+-- the command line: `run`, `session`, `look`, `tries`, `sweep`, `certify` and `exec`
 abbrev pub command_line : App
 command_line = with_subcommand with_certify exec_command.top
 
@@ -222,11 +226,12 @@ IsTaskOf name rows (Report n) = (bytes_eq name (codes "run") ≡ true) × IsStep
 IsTaskOf name rows (Sweep words) = (bytes_eq name (codes "sweep") ≡ true) × IsSweepOf rows words
 IsTaskOf name rows (Certify n) = (bytes_eq name (codes "certify") ≡ true) × IsStepOf rows n
 IsTaskOf name rows Look = bytes_eq name (codes "look") ≡ true
+IsTaskOf name rows Tries = bytes_eq name (codes "tries") ≡ true
 IsTaskOf name rows (Exec asked) = (bytes_eq name (codes "exec") ≡ true) × IsExecOf rows asked
 IsTaskOf name rows Session =
     (bytes_eq name (codes "run") ≡ false) × (bytes_eq name (codes "sweep") ≡ false)
-    × (bytes_eq name (codes "look") ≡ false) × (bytes_eq name (codes "certify") ≡ false)
-    × (bytes_eq name (codes "exec") ≡ false)
+    × (bytes_eq name (codes "look") ≡ false) × (bytes_eq name (codes "tries") ≡ false)
+    × (bytes_eq name (codes "certify") ≡ false) × (bytes_eq name (codes "exec") ≡ false)
 
 -- what a file is read for, of what was found
 pub record IsProfileOf (rows : List Row) (asked : ProfileWords) : Type 0 where

@@ -2,12 +2,12 @@
 ghost use Rattle.std.specs.Prelude.{◌≡◌, IfErr, IfOk, IfSome, IsSomeAnd, false, map, string_bytes, true};
 ghost use Rattle.clap.specs.Words.{FailsBy, app_of, fault_of, found_of, kind_of, rows_of, rule_of, subcommand_rows_of, takes};
 ghost use Rattle.clap.specs.declared.builder.command.Command.TheViews.{out-Command};
-ghost use Rattle.command_line.specs.Orders.{IsOrderFor, IsOrderOf, IsProfileOf, IsStepOf, IsSweepOf, IsTaskOf, certify_command, command_line, default_option, file_argument, heap_option, input_command, isa_option, option, output_flag, program_command, run_command, stack_option, step_option, sweep_command, sweep_of_bytes, sweep_of_steps, sweep_of_words, with_certify, with_look, with_profile, with_run, with_session, with_sweep};
+ghost use Rattle.command_line.specs.Orders.{IsOrderFor, IsOrderOf, IsProfileOf, IsStepOf, IsSweepOf, IsTaskOf, certify_command, command_line, default_option, file_argument, heap_option, input_command, isa_option, option, output_flag, program_command, run_command, stack_option, step_option, sweep_command, sweep_of_bytes, sweep_of_steps, sweep_of_words, with_certify, with_look, with_profile, with_run, with_session, with_sweep, with_tries};
 
 use crate::exec::{exec_command, exec_of};
 use crate::help::{
-    ABOUT, AFTER_CERTIFY, AFTER_LOOK, AFTER_RUN, AFTER_SESSION, AFTER_SWEEP, CERTIFY, LOOK, RUN,
-    SESSION, SWEEP,
+    ABOUT, AFTER_CERTIFY, AFTER_LOOK, AFTER_RUN, AFTER_SESSION, AFTER_SWEEP, AFTER_TRIES, CERTIFY,
+    LOOK, RUN, SESSION, SWEEP, TRIES,
 };
 use crate::order::{Order, ProfileWords, SweepWords, Task};
 use clap::error::ErrorKind;
@@ -175,6 +175,14 @@ fn with_look<'a>(alloc: Global) -> Result<Command<'a>, AllocError>
     with_session(alloc)?.subcommand(look)
 }
 
+/// The command line with `run`, `session`, `look` and `tries`.
+fn with_tries<'a>(alloc: Global) -> Result<Command<'a>, AllocError>
+    ensures { IfOk result (λ command. app_of command ≡ with_tries) }
+{
+    let tries = program_command(alloc, "tries", TRIES, AFTER_TRIES, INPUT)?;
+    with_look(alloc)?.subcommand(tries)
+}
+
 /// The flag of `sweep`.
 fn output_flag<'a>(alloc: Global) -> Arg<'a>
     ensures rule { rule_of result ≡ output_flag }
@@ -235,12 +243,12 @@ fn sweep_command<'a>(alloc: Global) -> Result<Command<'a>, AllocError>
     command.arg(default_option(alloc, "part", "I/N", "1/1", part))
 }
 
-/// The command line with `run`, `session`, `look` and `sweep`.
+/// The command line with `run`, `session`, `look`, `tries` and `sweep`.
 fn with_sweep<'a>(alloc: Global) -> Result<Command<'a>, AllocError>
     ensures { IfOk result (λ command. app_of command ≡ with_sweep) }
 {
     let sweep = sweep_command(alloc)?;
-    with_look(alloc)?.subcommand(sweep)
+    with_tries(alloc)?.subcommand(sweep)
 }
 
 /// The command `certify`.
@@ -251,7 +259,7 @@ fn certify_command<'a>(alloc: Global) -> Result<Command<'a>, AllocError>
     input_command(alloc, "certify", CERTIFY, AFTER_CERTIFY, INPUT)?.arg(step_argument(alloc))
 }
 
-/// The command line with `run`, `session`, `look`, `sweep` and `certify`.
+/// The command line with `run`, `session`, `look`, `tries`, `sweep` and `certify`.
 fn with_certify<'a>(alloc: Global) -> Result<Command<'a>, AllocError>
     ensures { IfOk result (λ command. app_of command ≡ with_certify) }
 {
@@ -321,6 +329,8 @@ fn task_of<'a>(name: &str, chosen: &ArgMatches<'a>) -> Option<Task<'a>>
         Some(Task::Sweep(sweep_of(chosen)?))
     } else if name == "look" {
         Some(Task::Look)
+    } else if name == "tries" {
+        Some(Task::Tries)
     } else if name == "certify" {
         Some(Task::Certify(step_of(chosen)?))
     } else if name == "exec" {

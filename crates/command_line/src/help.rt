@@ -16,6 +16,10 @@ pub(crate) const SESSION: &str =
 pub(crate) const LOOK: &str =
     "Answers the lines of a session, and others that show or alter registers and memory";
 
+/// What `tries` does.
+pub(crate) const TRIES: &str =
+    "Answers the lines of `look`, and others that try inputs and report what is new in their runs";
+
 /// What `sweep` does.
 pub(crate) const SWEEP: &str =
     "Tries every edit of an input or of code, one at a time, and writes a table of the outcomes";
@@ -168,6 +172,44 @@ Such a line is answered `ok`, or refused: 2 as above, 3 for bytes beyond the inp
 
 Example, the last write of a word before the first 5000 steps are over:
   printf 'goto 5000\\nlook last write 0x20010 4 0\\n' | replaycheck look program.elf
+"
+);
+
+/// The end of the help of `tries`: the lines that it has besides those of `look`.
+pub(crate) const AFTER_TRIES: &str = with_refusals!(
+    "\
+The lines of `replaycheck session` and `replaycheck look`, whose help lists them, and these, which
+edit nothing and don't count. Each is answered for the run of another input, with all other edits,
+up to the chosen step. HEX is two hexadecimal digits each byte:
+  try [HEX]                 tries these bytes as the whole input
+  try A HEX                 tries the input with its bytes from offset A on replaced by these
+  differs [HEX]             lists the compares in which the run of these bytes differs from the run
+                            of the session, which has all edits and no other input
+  differs A HEX             lists them for the input with its bytes from offset A on replaced
+
+The reply to `try` is this line, after the outcome if no earlier try had the same one:
+  tried K new N again M     outcome K; N sides that no earlier try had; M sides that the run has at
+                            least twice, and that no earlier try had twice
+  outcome K                 an outcome, numbered from 0, and its lines as in a table of
+                            `replaycheck sweep`
+A side is an instruction with whether the run continued behind it or elsewhere. Sides are told of
+the segment in which the program begins, at most of its first 4 MiB in the file.
+
+The reply to `differs` is a line for each compare that differs, and then `end`:
+  STEP PC A B A' B'         the step in the session's run, the address, the operands there, and
+                            the operands in the other run
+Compares are the conditional branches, slt, slti, sltu and sltiu. Each run's first 65536, from the
+last step on at which the other input doesn't show, are paired in order, up to the first pair at
+two addresses.
+
+Refusals of these lines, besides out of memory (1):
+  2   a field that is missing, too many or of the wrong form
+  3   bytes beyond the input
+  14  an input of more than 1048576 bytes
+
+Example, two inputs, and the compares that depend on the first byte:
+  printf 'goto 5000\\ntry 00\\ntry ff\\ndiffers 0 ff\\n' |
+    replaycheck tries program.elf --input bytes
 "
 );
 

@@ -35,6 +35,8 @@ pub enum Task<'a> {
     Session,
     /// A session whose run can be looked at.
     Look,
+    /// A session that can also be looked at, and in which inputs are tried.
+    Tries,
     /// Every edit, one at a time.
     Sweep(SweepWords<'a>),
     /// Whether the run is clean up to a step.

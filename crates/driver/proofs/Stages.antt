@@ -13,7 +13,7 @@ use Rattle.guest_elf.specs.declared.image.Image.{Image as ProgramImage}
 use Rattle.guest_elf.specs.declared.profile.Profile.{Profile}
 use Rattle.line_server.specs.Lines.{closed_lines}
 use Rattle.line_server.specs.Answers.{Relation, joined}
-use Rattle.line_server.specs.Served.{StoppedBy}
+use Rattle.line_server.specs.Served.{ServedAll, ServedRead, StoppedBy}
 use Rattle.line_server.specs.declared.fault.ServeFault.{ServeFault}
 use Rattle.line_server.specs.declared.fault.ServeFault.TheVariants.{ReadFailed, WriteFailed, Endless}
 use Rattle.line_server.specs.declared.fault.ServeFault.TheVariants.{NoMemory as ServedNoMemory}
@@ -29,7 +29,7 @@ use Rattle.driver.specs.Sweeping.{SweepsImage, SweepsRequest}
 use Rattle.driver.specs.declared.carrying.Action.{Action}
 use Rattle.driver.specs.declared.carrying.Action.TheVariants.{Report, Certify}
 use Rattle.ends.specs.declared.ends.End.{End}
-use Rattle.ends.specs.declared.ends.End.TheVariants.{Image}
+use Rattle.ends.specs.declared.ends.End.TheVariants.{Done, Image}
 use Rattle.sweep_plans.specs.declared.request.Request.{Request}
 use Rattle.checkpoints.specs.Trails.{is_short}
 use Rattle.checkpoints.specs.Work.{Work}
@@ -39,6 +39,7 @@ use Rattle.replay_session.specs.Turns.{Turn}
 use Rattle.replay_session.specs.Work.{no_work, work_on}
 use Rattle.replay_session.specs.declared.session.Session.{Session}
 use Rattle.looks.specs.Views.{ViewsLines}
+use Rattle.tries.specs.Tries.{TriesLines, untried}
 use Rattle.suppressions.specs.Rules.{Rule}
 
 pub untouched : (left held : Option (List ℕ)) → Untouched (streams left held) (streams left held)
@@ -141,13 +142,37 @@ module _ (session : Session) (turn : Turn) (said : turn_of session ≡ turn) (wo
       ∙ ap (λ (w : Work). stage-with turn w (is_short (trail_of session))) work
       ∙ ap (λ (b : Bool). stage-with turn no_work b) whole
 
+  -- of any service that depends on the stage, and that has no replies to no lines
+  served-fault : (AreReplies : Stage → Relation)
+      → ((replies : List (List ℕ)) → AreReplies (fresh turn) [] replies → replies ≡ [])
+      → (fault : ServeFault)
+      → StoppedBy fault (AreReplies (stage_of session)) left-old left-new held-old held-new
+      → Serves (AreReplies (fresh turn)) (streams left-old held-old) (streams left-new held-new) (end_of_serve fault)
+  served-fault AreReplies none-of fault stopped =
+      serves-fault (AreReplies (fresh turn)) none-of fault left-old left-new held-old held-new
+      (subst (λ (stage : Stage). StoppedBy fault (AreReplies stage) left-old left-new held-old held-new) begins-fresh
+      stopped)
+
   pub viewed-fault : (fault : ServeFault)
       → StoppedBy fault (ViewsLines (stage_of session)) left-old left-new held-old held-new
       → Serves (ViewsLines (fresh turn)) (streams left-old held-old) (streams left-new held-new) (end_of_serve fault)
-  viewed-fault fault stopped =
-      serves-fault (ViewsLines (fresh turn)) (λ replies none. none) fault left-old left-new held-old held-new
-      (subst (λ (stage : Stage). StoppedBy fault (ViewsLines stage) left-old left-new held-old held-new) begins-fresh
-      stopped)
+  viewed-fault fault stopped = served-fault ViewsLines (λ replies none. none) fault stopped
+
+  abbrev tries-of : Stage → Relation
+  tries-of stage = TriesLines (untried stage)
+
+  pub tried-fault : (fault : ServeFault)
+      → StoppedBy fault (tries-of (stage_of session)) left-old left-new held-old held-new
+      → Serves (tries-of (fresh turn)) (streams left-old held-old) (streams left-new held-new) (end_of_serve fault)
+  tried-fault fault stopped = served-fault tries-of (λ replies none. none) fault stopped
+
+  pub tried-done : ServedAll (tries-of (stage_of session)) left-old held-old held-new
+      → ServedRead (tries-of (stage_of session)) left-old left-new held-old held-new
+      → Serves (tries-of (fresh turn)) (streams left-old held-old) (streams left-new held-new) Done
+  tried-done all read = (
+    subst (λ (stage : Stage). ServedAll (tries-of stage) left-old held-old held-new) begins-fresh all,
+    subst (λ (stage : Stage). ServedRead (tries-of stage) left-old left-new held-old held-new) begins-fresh read,
+  )
 
 -- a file that gives no bytes gives no program
 no-program : (gives : Giving) (profile : Profile) (path : List ℕ) (end : End) → NoBytes gives path end

@@ -15,10 +15,11 @@ use Rattle.replay_session.specs.Stages.{fresh}
 use Rattle.replay_session.specs.Turns.{opening}
 use Rattle.line_server.specs.declared.fault.ServeFault.TheVariants.{ReadFailed, WriteFailed}
 use Rattle.looks.specs.Views.{ViewsLines}
+use Rattle.tries.specs.Tries.{TriesLines, untried}
 use Rattle.driver.specs.Certified.{Certifies}
 use Rattle.driver.specs.Once.{IsReportOnce, WritesReport, StopsBy}
 use Rattle.driver.specs.declared.carrying.Action.{Action}
-use Rattle.driver.specs.declared.carrying.Action.TheVariants.{Report, Session, Look, Certify}
+use Rattle.driver.specs.declared.carrying.Action.TheVariants.{Report, Session, Look, Tries, Certify}
 use Rattle.ends.specs.declared.ends.End.{End}
 use Rattle.ends.specs.declared.ends.End.TheVariants.{Done, CannotRead, CannotReadInput, CannotWrite, Image}
 use Rattle.ends.specs.declared.ends.End.TheVariants.{Suppressions, SuppressionsTooLong, InputTooLarge, NoMemory}
@@ -47,12 +48,15 @@ Serves AreReplies old new NoMemory = Untouched old new
 Serves AreReplies old new end = ⊥
 
 -- what an order asks for was done with a program, its suppressions and its input: the report of a step, a session, one
--- that can be looked at, or the verdict up to a step, which doesn't depend on suppressions
+-- that can be looked at, one in which inputs can be tried too, or the verdict up to a step, which doesn't depend on
+-- suppressions
 abbrev pub Does : Action → ProgramImage → List Rule → List ℕ → Streams → Streams → End → Type 0
 Does (Report step) image list input old new end =
     Consumes old.left new.left [] × Reports (IsReportOnce image input list step) old.held new.held end
 Does Session image list input old new end = Serves (Answers (fresh (opening image input list))) old new end
 Does Look image list input old new end = Serves (ViewsLines (fresh (opening image input list))) old new end
+Does Tries image list input old new end =
+    Serves (TriesLines (untried (fresh (opening image input list)))) old new end
 Does (Certify step) image list input old new end =
     Consumes old.left new.left [] × Certifies image input step old.held new.held end
 

@@ -8,7 +8,7 @@ use Rattle.command_line.specs.Orders.{input_path, rules_path}
 use Rattle.command_line.specs.declared.order.Order.{Order}
 use Rattle.command_line.specs.declared.order.SweepWords.{SweepWords}
 use Rattle.command_line.specs.declared.order.Task.{Task}
-use Rattle.command_line.specs.declared.order.Task.TheVariants.{Report, Session, Look, Sweep, Certify, Exec}
+use Rattle.command_line.specs.declared.order.Task.TheVariants.{Report, Session, Look, Tries, Sweep, Certify, Exec}
 use Rattle.guest_elf.specs.File.{IsImageFor}
 use Rattle.guest_elf.specs.declared.image.Image.{Image as ProgramImage}
 use Rattle.guest_elf.specs.declared.profile.Profile.{Profile}
@@ -79,6 +79,7 @@ abbrev pub CarriedOut : Giving → Order → Task → Streams → Streams → En
 CarriedOut gives order (Report step) old new end = Carried gives order (Action.Report step) old new end
 CarriedOut gives order Session old new end = Carried gives order Action.Session old new end
 CarriedOut gives order Look old new end = Carried gives order Action.Look old new end
+CarriedOut gives order Tries old new end = Carried gives order Action.Tries old new end
 CarriedOut gives order (Sweep words) old new end = CarriedSweep gives order words old new.held end
 CarriedOut gives order (Certify step) old new end = Carried gives order (Action.Certify step) old new end
 CarriedOut gives order (Exec asked) old new end = (end ≡ Usage) × Untouched old new

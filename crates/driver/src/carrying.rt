@@ -4,6 +4,7 @@ ghost use Rattle.replay_session.specs.Replies.{Answers};
 ghost use Rattle.replay_session.specs.Stages.{fresh};
 ghost use Rattle.replay_session.specs.Turns.{opening};
 ghost use Rattle.looks.specs.Views.{ViewsLines};
+ghost use Rattle.tries.specs.Tries.{TriesLines, untried};
 ghost use Rattle.driver.specs.Carried.{Carried, Reports, Serves};
 ghost use Rattle.program_files.specs.Files.{streams};
 ghost use Rattle.sweep_plans.specs.Planned.{IsPart};
@@ -77,6 +78,23 @@ fn serve_looks<'a, R: Read, W: Write>(
     Ok(looks::serve(session, reader, writer)?)
 }
 
+/// Serves a session with a program that can also be looked at, and in which inputs can be tried.
+fn serve_tries<'a, R: Read, W: Write>(
+    alloc: Global,
+    image: Image<'_>,
+    input: Vec<u8>,
+    suppressions: Vec<Suppression>,
+    reader: &mut R,
+    writer: &mut W,
+) -> Result<(), End<'a>>
+    requires { length input.items ≤ longest_input }
+    ensures { Serves (TriesLines (untried (fresh (opening image.entry input.items suppressions.items))))
+        (streams (R.remaining reader.old) (W.contents writer.old)) (streams (R.remaining reader.new) (W.contents writer.new)) (end_of result) }
+{
+    let session = Session::begin(alloc, image, input, suppressions)?;
+    Ok(tries::serve(session, reader, writer)?)
+}
+
 /// What to do with a program whose files were read.
 #[derive(Clone, Copy)]
 pub(crate) enum Action {
@@ -86,6 +104,8 @@ pub(crate) enum Action {
     Session,
     /// A session is served that can also be looked at.
     Look,
+    /// A session is served that can also be looked at, and in which inputs can be tried.
+    Tries,
     /// The verdict up to a step is printed.
     Certify(u32),
 }
@@ -112,6 +132,7 @@ fn follow_order<'a, F: Files, R: Read, W: Write>(
         Action::Report(step) => print_report(alloc, &image, input, &suppressions, step, writer),
         Action::Session => serve_session(alloc, image, input, suppressions, reader, writer),
         Action::Look => serve_looks(alloc, image, input, suppressions, reader, writer),
+        Action::Tries => serve_tries(alloc, image, input, suppressions, reader, writer),
         Action::Certify(step) => print_verdict(alloc, &image, input, step, writer),
     }
 }
@@ -200,6 +221,7 @@ pub fn run_order<'a, F: Files, R: Read, W: Write>(
         }
         Task::Session => ended(follow_order(alloc, order, Action::Session, files, reader, writer)),
         Task::Look => ended(follow_order(alloc, order, Action::Look, files, reader, writer)),
+        Task::Tries => ended(follow_order(alloc, order, Action::Tries, files, reader, writer)),
         Task::Sweep(words) => ended(follow_sweep(alloc, order, &words, files, reader, writer)),
         Task::Certify(step) => {
             ended(follow_order(alloc, order, Action::Certify(step), files, reader, writer))

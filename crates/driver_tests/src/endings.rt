@@ -359,8 +359,8 @@ const GOOD_RULES: &[u8] = b"{\n  any\n  Memcheck:Cond\n  fun:*\n}\n";
 
 const BAD_RULES: &[u8] = b"# an empty block\n{\n}\n";
 
-/// A report, a session, one that also looks, and a verdict.
-const ORDERS: [Case; 5] = [
+/// A report, a session, one that also looks, one that also tries, and a verdict.
+const ORDERS: [Case; 6] = [
     (
         "a report",
         ("program", false, Asked::Task(Task::Report(3))),
@@ -385,6 +385,13 @@ const ORDERS: [Case; 5] = [
     (
         "a session that looks",
         ("program", false, Asked::Task(Task::Look)),
+        b"",
+        0,
+        Written::Around(b"ok\n", b"step 2\n"),
+    ),
+    (
+        "a session that tries, which looks too",
+        ("program", false, Asked::Task(Task::Tries)),
         b"",
         0,
         Written::Around(b"ok\n", b"step 2\n"),

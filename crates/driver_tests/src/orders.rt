@@ -45,6 +45,7 @@ fn is_task(asked: &Task<'_>, want: &Task<'_>) -> bool {
         (Task::Report(step), Task::Report(at)) => step == at,
         (Task::Session, Task::Session) => true,
         (Task::Look, Task::Look) => true,
+        (Task::Tries, Task::Tries) => true,
         (Task::Sweep(asked), Task::Sweep(want)) => is_sweep(asked, want),
         (Task::Certify(step), Task::Certify(at)) => step == at,
         _ => false,
@@ -141,7 +142,7 @@ fn reports_are_ordered(rt: HostRuntime) {
     assert_given(&rt, rt.alloc(), &REPORTS);
 }
 
-const SESSIONS: [Line; 4] = [
+const SESSIONS: [Line; 5] = [
     (
         "texts of regions, whatever they are",
         &[
@@ -197,6 +198,17 @@ const SESSIONS: [Line; 4] = [
             suppressions: None,
             profile: USUAL_PROFILE,
             task: Task::Look,
+        },
+    ),
+    (
+        "one that tries",
+        &["tries", "f", "--input", "i", "--supp", "s"],
+        Order {
+            file: "f",
+            input: Some("i"),
+            suppressions: Some("s"),
+            profile: USUAL_PROFILE,
+            task: Task::Tries,
         },
     ),
 ];

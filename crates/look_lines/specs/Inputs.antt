@@ -13,13 +13,17 @@ use Rattle.commands.specs.declared.fault.Fault.{Fault}
 use Rattle.commands.specs.declared.fault.Fault.TheVariants.{BadCommand, Memory}
 use Rattle.commands.specs.declared.refusal.Refusal.{Refusal}
 
--- does a line give the input bytes? Its first word says so
-abbrev pub gives_among : List (List ℕ) → Bool
-gives_among [] = false
-gives_among (word ∷ more) = bytes_eq word (codes "bytes")
+-- is the first word of a line this one?
+abbrev pub is_first : List ℕ → List (List ℕ) → Bool
+is_first word [] = false
+is_first word (first ∷ more) = bytes_eq first word
 
+abbrev pub begins_with : List ℕ → List ℕ → Bool
+begins_with word line = is_first word (fields line)
+
+-- does a line give the input bytes? Its first word says so
 unfoldable pub gives : List ℕ → Bool
-gives line = gives_among (fields line)
+gives line = begins_with (codes "bytes") line
 
 -- does a field write bytes, at least one: hexadecimal digits in either case, two a byte?
 unfoldable pub is_hex : List ℕ → Bool
@@ -53,6 +57,22 @@ edit_among (word ∷ more) = edit_of more
 -- the edit that a line asks for, or why it asks for none
 unfoldable pub edit_asked : List ℕ → Result Edit Fault
 edit_asked line = edit_among (fields line)
+
+-- the edit of the fields after the word of a line that tries an input: the whole input, which is empty without a field,
+-- or `A HEX`
+unfoldable pub tried_of : List (List ℕ) → Result Edit Fault
+tried_of [] = Ok (Give [])
+tried_of (hex ∷ []) = give_of hex
+tried_of (place ∷ hex ∷ []) = overwrite_with (number place) hex
+tried_of _ = Err BadCommand
+
+abbrev pub tried_among : List (List ℕ) → Result Edit Fault
+tried_among [] = Err BadCommand
+tried_among (word ∷ more) = tried_of more
+
+-- the edit that a line tries, or why it tries none
+unfoldable pub edit_tried : List ℕ → Result Edit Fault
+edit_tried line = tried_among (fields line)
 
 -- an edit as it is read: why it is rejected, if it is; otherwise the edit, or memory ran out for its bytes
 abbrev pub Makes : Option Refusal → Edit → Result Edit Fault → Type 0

@@ -3,7 +3,7 @@ ghost use Rattle.std.specs.Prelude.{◌≡◌, ◌∷◌, [], nat_lt, IfOk, true
 ghost use Rattle.std.specs.Char.{digit_value};
 ghost use Rattle.std.specs.List.{list_all};
 ghost use Rattle.commands.specs.Commands.{number as number_of};
-ghost use Rattle.look_lines.specs.Inputs.{bytes_of, edit_asked, edit_of, give_of, gives, is_hex, overwrite_with, ReadsFor};
+ghost use Rattle.look_lines.specs.Inputs.{begins_with, bytes_of, edit_asked, edit_of, edit_tried, give_of, gives, is_hex, overwrite_with, tried_of, ReadsFor};
 
 use commands::{Bytes, Edit, Fault, digit_value, number};
 use scenario::LONGEST_INPUT;
@@ -14,15 +14,22 @@ const BYTES: &[u8] = b"bytes";
 
 const IS: &[u8] = b"is";
 
+/// Returns whether the first word of a line is this one.
+pub fn begins_with(line: &[u8], word: &[u8]) -> bool
+    ensures { result ≡ begins_with word.now line.now }
+{
+    match Parts::new(line, b' ').next() {
+        Some(first) => first == word,
+        None => false,
+    }
+}
+
 /// Returns whether a line gives the input bytes: its first word is `bytes`.
 #[tactic(auto, unfolding(crate::specs::Inputs::gives))]
 pub fn gives(line: &[u8]) -> bool
     ensures { result ≡ gives line.now }
 {
-    match Parts::new(line, b' ').next() {
-        Some(word) => word == BYTES,
-        None => false,
-    }
+    begins_with(line, BYTES)
 }
 
 /// Whether a byte is a hexadecimal digit.
@@ -124,6 +131,39 @@ fn edit_of(alloc: Global, mut fields: Parts<'_>, len: u64) -> Result<Edit, Fault
     } else {
         overwrite_of(alloc, place, hex, len)
     }
+}
+
+/// The edit of the fields after the word of a line that tries an input.
+#[tactic(auto, unfolding(crate::specs::Inputs::tried_of))]
+fn tried_of(alloc: Global, mut fields: Parts<'_>, len: u64) -> Result<Edit, Fault>
+    ensures { ReadsFor len (tried_of fields.entry) result }
+{
+    let Some(place) = fields.next() else {
+        return Ok(Edit::Give(Bytes::new(Vec::new(alloc))));
+    };
+    let Some(hex) = fields.next() else {
+        return give_of(alloc, place, len);
+    };
+    if fields.next().is_some() {
+        return Err(Fault::BadCommand);
+    }
+    overwrite_of(alloc, place, hex, len)
+}
+
+/// Returns the edit that a line tries, or why it is rejected, for an input of a length. The line's first word is not looked at.
+///
+/// # Errors
+///
+/// Those of [`edit_asked`].
+#[tactic(auto, unfolding(crate::specs::Inputs::edit_tried))]
+pub fn edit_tried(alloc: Global, line: &[u8], len: u64) -> Result<Edit, Fault>
+    ensures { ReadsFor len (edit_tried line.now) result }
+{
+    let mut fields = Parts::new(line, b' ');
+    let Some(_word) = fields.next() else {
+        return Err(Fault::BadCommand);
+    };
+    tried_of(alloc, fields, len)
 }
 
 /// Returns the edit that a line asks for, or why it is rejected, for an input of a length.

@@ -6,6 +6,7 @@
 //! | [`Look`], [`Search`] | what is asked: registers, control registers, memory, the output, which instructions the run has executed, the input, the next or the last step that does something, whether the run is clean |
 //! | [`alters`], [`alteration_asked`] | whether a line alters the machine at a step; reads it as an alteration, or returns why it is rejected |
 //! | [`gives`], [`edit_asked`] | whether a line gives the input bytes; reads it as an edit, or returns why it is rejected |
+//! | [`begins_with`], [`edit_tried`] | whether this is the first word of a line; reads a line that tries an input as an edit |
 //! | [`push_registers`], [`push_controls`], [`push_memory`], [`push_input`] | append the reply on a machine |
 //! | [`push_output`], [`push_sides`], [`push_step`] | append the reply on bytes of the output, on instructions that were executed, or on a step that was found |
 //!
@@ -25,7 +26,7 @@ mod texts;
 
 pub use altering::{alteration_asked, alters};
 pub use controls::push_controls;
-pub use inputs::{edit_asked, gives};
+pub use inputs::{begins_with, edit_asked, edit_tried, gives};
 pub use look::{Look, Search};
 pub use parsing::asked;
 pub use texts::{push_input, push_memory, push_output, push_registers, push_sides, push_step};

@@ -15,7 +15,7 @@ use Rattle.look_lines.specs.Looks.{asked}
 use Rattle.looks.specs.Views.{looks, Looked, Views, read_as}
 
 -- a test that fails makes a conjunction fail
-last-fails : (a b c : Bool) → c ≡ false → (a && b && c) ≡ false
+pub last-fails : (a b c : Bool) → c ≡ false → (a && b && c) ≡ false
 last-fails true true c h = h
 last-fails true false c h = refl
 last-fails false b c h = refl

@@ -77,3 +77,4 @@ mod serving;
 mod viewer;
 
 pub use serving::serve;
+pub use viewer::Viewer;

@@ -90,7 +90,8 @@ fn show(session: &mut Session<'_>, look: Look, text: &mut Vec<u8>) -> Result<(),
 /// A session, the texts of its replies, and what a look showed.
 #[derive(Drop)]
 pub struct Viewer<'a> {
-    session: Session<'a>,
+    /// The session.
+    pub session: Session<'a>,
     texts: Texts,
     shown: Vec<u8>,
     /// Whether the last reply is that to a look.
@@ -108,7 +109,8 @@ impl<'a> Viewer<'a> {
     ghost use Rattle.look_lines.specs.Looks.{asked, look_refusal};
     ghost use Rattle.looks.specs.Views.{Looked, reply_of};
 
-    pub(crate) fn new(session: Session<'a>) -> Result<Self, AllocError>
+    /// Returns a viewer of a session.
+    pub fn new(session: Session<'a>) -> Result<Self, AllocError>
         ensures { IfOk result (λ viewer. viewer.session ≡ session.entry) }
     {
         let alloc = session.allocator();
@@ -123,7 +125,7 @@ impl<'a> Viewer<'a> {
 
     /// Replies why a line is rejected.
     #[tactic(auto, unfolding(crate::specs::Views::reply_of))]
-    fn refuse(&mut self, fault: Fault)
+    pub fn refuse(&mut self, fault: Fault)
         ensures reply { reply_of self.new ≡ refused_line fault }
         ensures session { self.new.session ≡ self.old.session }
     {

@@ -7,3 +7,4 @@ pub mod LawSteps
 pub mod ToldSteps
 pub mod VerdictSteps
 pub mod ReadSteps
+pub mod TrySteps

@@ -7,3 +7,4 @@ pub mod LongLines
 pub mod Served
 pub mod Work
 pub mod LinesWork
+pub mod Trying

@@ -17,7 +17,12 @@
 //! | [`Session::next`], [`Session::last`] | return the first step from the chosen one on, and the last before it, that does what is sought |
 //! | [`Session::output`] | returns the bytes of the output at the chosen step that are in a range of positions |
 //! | [`Session::sides`] | returns what the run has done with each instruction of a range |
+//! | [`Session::seed`] | returns a machine at which other input bytes don't show yet, and what the steps before it have done ([`Seed`]) |
+//! | [`Session::try_edit`] | returns what the run does with other input bytes, from a seed ([`Tried`]); changes nothing |
+//! | [`Session::compare_edit`] | returns the compares of the run, and those with other input bytes, from a seed on ([`Compared`]) |
+//! | [`Session::effect`] | returns where an edit shows in the run |
 //! | [`Session::input_len`] | returns the number of bytes of the input |
+//! | [`Session::step`], [`Session::image`] | return the chosen step, and the program |
 //! | [`Session::certify`] | appends the line of the verdict on the run up to the chosen step |
 //! | [`Session::trail`] | returns the held machines, on whose meter each step counts that a report executes |
 //! | [`serve`] | reads lines from any reader and writes the replies to any writer, or stops with a [`ServeFault`] |
@@ -66,6 +71,7 @@
 //! - [`Session::command_as`]: the same of a line that is read as another command (`accepted_as`), or as none.
 //! - [`Texts::answer`]: the reply to a line, from the stage that the session had to the one that it has afterwards (`Replies`).
 //!   [`Texts::answer_as`]: the same of a line that its caller has read (`RepliesAs`).
+//! - [`Session::try_edit`]: the outcome and the sides are those of one run from step zero of the edited scenario (`IsTried`).
 //! - [`laws::work_of_lines`]: if each of any lines costs that, then afterwards machines are held at exactly the steps that the list of
 //!   lines says (`IsHeldAfter`), and the number of executed steps is the one sum that it says (`AddUp`). Neither speaks of a trail.
 //! - [`serve`]: at the end, it has written the replies to the lines of all bytes read, up to and including the first `refused 12`, and
@@ -89,6 +95,7 @@
 //! - `Replies`: the text of each reply, and the replies to one line after another (`Answers`, over `line_server::specs::Answers`).
 //! - `LinesWork`: how many steps any lines cost, which depends on their list only, and that `worked` prints this.
 //! - `Served`: what was written for the bytes read, in the terms of `line_server`.
+//! - `Trying`: what a seed is for, and what a try tells.
 //! - `LongLines` is a lemma for the server of lines.
 //!
 //! Sources: the Memcheck manual, section 4.3 (options), and Valgrind's user manual, section 2.5 (suppressions); the language of the lines
@@ -99,6 +106,7 @@ pub mod laws;
 mod reply;
 mod serving;
 mod session;
+mod trying;
 
 pub use commands::{BeginFault, Fault, number};
 pub use line_server::{READS, Sent, ServeFault, send};
@@ -107,3 +115,4 @@ pub use scenario::{LONGEST_INPUT, MOST_STEPS, setup_with};
 pub use serving::serve;
 pub use serving::texts::Texts;
 pub use session::Session;
+pub use trying::{Compared, Seed, Tried};

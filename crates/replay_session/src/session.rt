@@ -1,13 +1,15 @@
 //! A session, and one line of it.
-ghost use Rattle.std.specs.Prelude.{◌≡◌};
+ghost use Rattle.std.specs.Prelude.{◌≡◌, ◌≤◌};
 ghost use Rattle.checkpoints.specs.Edits.{IsRightForRun};
 ghost use Rattle.checkpoints.specs.OneProof.{right-prop};
 ghost use Rattle.checkpoints.specs.Trails.{LoadsAs};
+ghost use Rattle.scenario.specs.Limits.{most_steps};
 ghost use Rattle.scenario.specs.Scenario.{run_of};
 
 use crate::reply::Reply;
+use crate::trying::{Compared, Seed, Tried, compare_edit, try_edit};
 use checkpoints::laws::keeps_lower;
-use checkpoints::{Sides, Sought, Trail};
+use checkpoints::{Effect, Sides, Sought, Trail};
 use clean_reports::{certify, push_verdict};
 use commands::{BeginFault, Command, Edit, Fault, parse};
 use guest_elf::Image;
@@ -29,23 +31,27 @@ pub struct Session<'a> {
     trail: Trail,
     ghost loads: { LoadsAs trail scenario.image },
     ghost right: { IsRightForRun trail (run_of scenario) } by { right-prop trail (run_of scenario) },
+    ghost near: { scenario.step ≤ most_steps },
     lines: u32,
 }
 
 impl<'a> Session<'a> {
     ghost use Rattle.std.specs.Prelude.{◌≡◌, ◌<◌, ◌↔◌, false, true, IfOk, IfErr, IfNone, OnOk, OnErr, length};
+    ghost use Rattle.checkpoints.specs.Effects.{IsOfSetup};
+    ghost use Rattle.checkpoints.specs.Forks.{IsForkFor};
     ghost use Rattle.checkpoints.specs.Outputs.{part};
     ghost use Rattle.checkpoints.specs.Searches.{IsLast, IsNext};
     ghost use Rattle.checkpoints.specs.Trails.{is_short};
     ghost use Rattle.checkpoints.specs.Work.{reached};
     ghost use Rattle.replay_report.specs.Report.{AppendsReport};
     ghost use Rattle.scenario.specs.Edits.{row, IsTaken};
-    ghost use Rattle.scenario.specs.Limits.{longest_input};
+    ghost use Rattle.scenario.specs.Limits.{longest_input, most_steps};
     ghost use Rattle.guest_machine.specs.Shows.{Shows};
     ghost use Rattle.scenario.specs.Scenario.{IsReportOf, chosen_state};
     ghost use Rattle.commands.specs.Commands.{Reads};
     ghost use Rattle.replay_session.specs.Replies.{is_over};
     ghost use Rattle.replay_session.specs.Session.{Carried, Finds, IsSidesOf, IsVerdictOf, Meets, MeetsAs, scenario_of, turn_of, trail_of, work_of};
+    ghost use Rattle.replay_session.specs.Trying.{GivesInput, IsCompared, IsSeed, IsTried};
     ghost use Rattle.replay_session.specs.Turns.{accepted, accepted_as, changed, command_refusal, counted, if_command, line_refusal, opening, passed};
     ghost use Rattle.replay_session.specs.Work.{MayShorten, MovesWork, Works, WorksAs, WorksLine, work_on, no_work};
 
@@ -186,6 +192,7 @@ impl<'a> Session<'a> {
     /// Chooses a step.
     #[tactic(auto, unfolding(crate::specs::Session::turn_of, crate::specs::Session::trail_of))]
     fn choose(&mut self, step: u32)
+        requires { step ≤ most_steps }
         ensures turn { turn_of self.new ≡ record (turn_of self.old) { scenario = changed (turn_of self.old).scenario (Command.Goto step) } }
         ensures trail { trail_of self.new ≡ trail_of self.old }
     {
@@ -297,6 +304,80 @@ impl<'a> Session<'a> {
             self.scenario.setup(),
             self.scenario.marks(),
         )
+    }
+
+    /// Returns the chosen step.
+    #[tactic(auto, unfolding(crate::specs::Session::turn_of))]
+    pub fn step(&self) -> u32
+        ensures { result ≡ (scenario_of self.now).step }
+    {
+        self.scenario.step()
+    }
+
+    /// Returns the program.
+    #[tactic(auto, unfolding(crate::specs::Session::turn_of))]
+    pub fn image(&self) -> &Image<'a>
+        ensures { result.now ≡ (scenario_of self.now).image }
+    {
+        self.scenario.image()
+    }
+
+    /// Returns where an edit shows in the run.
+    #[tactic(auto, unfolding(crate::specs::Session::turn_of))]
+    pub fn effect(&self, edit: &Edit) -> Effect
+        ensures { result ≡ (row (scenario_of self.now) edit.now).effect }
+    {
+        self.scenario.effect(edit)
+    }
+
+    /// Returns a machine of the run up to the chosen step, before the last step at which an edit that changes only the setup doesn't show.
+    #[tactic(auto, unfolding(crate::specs::Session::turn_of, crate::specs::Session::trail_of))]
+    pub fn seed(&mut self, effect: Effect, range: Span) -> Result<Seed, AllocError>
+        requires { IsOfSetup effect }
+        ensures turn { turn_of self.new ≡ turn_of self.old }
+        ensures short { is_short (trail_of self.new) ≡ is_short (trail_of self.old) }
+        ensures seed { IfOk result (IsSeed (scenario_of self.old) effect range) }
+    {
+        let step = self.scenario.step();
+        let setup = self.scenario.setup();
+        let marks = self.scenario.marks();
+        let fork = self.trail.fork_of_setup(effect, step, setup, marks)?;
+        let sides = self
+            .trail
+            .sides(self.alloc, range, fork.step, setup, marks)?;
+        Ok(Seed { fork, sides })
+    }
+
+    /// Returns what the run does with an edit that gives the input bytes, from a seed for the edit. Nothing is changed.
+    #[tactic(auto, unfolding(crate::specs::Session::turn_of, crate::specs::Session::trail_of))]
+    pub fn try_edit(&mut self, edit: Edit, seed: &Seed, range: Span) -> Result<Tried, AllocError>
+        requires taken { IsTaken (scenario_of self.old) edit }
+        requires input { GivesInput edit }
+        requires seed { IsSeed (scenario_of self.old) (row (scenario_of self.old) edit).effect range seed.now }
+        ensures turn { turn_of self.new ≡ turn_of self.old }
+        ensures trail { trail_of self.new ≡ trail_of self.old }
+        ensures tried { IfOk result (IsTried (row (scenario_of self.old) edit).after range) }
+    {
+        try_edit(self.alloc, &mut self.scenario, edit, seed, range)
+    }
+
+    /// Returns the first compares of the run, and those of the run with an edit that gives the input bytes, from the step of a seed for the
+    /// edit on. Nothing is changed.
+    #[tactic(auto, unfolding(crate::specs::Session::turn_of, crate::specs::Session::trail_of))]
+    pub fn compare_edit(
+        &mut self,
+        edit: Edit,
+        seed: &Seed,
+        most: usize,
+    ) -> Result<Compared, AllocError>
+        requires taken { IsTaken (scenario_of self.old) edit }
+        requires input { GivesInput edit }
+        requires fork { IsForkFor (row (scenario_of self.old) edit).effect (run_of (scenario_of self.old)) (scenario_of self.old).step seed.now.fork }
+        ensures turn { turn_of self.new ≡ turn_of self.old }
+        ensures trail { trail_of self.new ≡ trail_of self.old }
+        ensures compared { IfOk result (IsCompared (scenario_of self.old) (row (scenario_of self.old) edit).after seed.now.fork.step most) }
+    {
+        compare_edit(self.alloc, &mut self.scenario, edit, &seed.fork, most)
     }
 
     /// Returns the number of bytes of the input.

@@ -6,6 +6,8 @@
 #[cfg(test)]
 mod alterations;
 #[cfg(test)]
+mod compares;
+#[cfg(test)]
 mod ends_of_input;
 #[cfg(test)]
 mod outlines;

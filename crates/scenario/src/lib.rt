@@ -19,7 +19,7 @@
 //! | [`Scenario::render`] | appends the report of a machine that is at the chosen step already |
 //! | [`Scenario::outline`] | returns the outline of such a machine |
 //! | [`ScenarioRef::report`] | appends the report of a scenario with borrowed parts, by one run from step zero |
-//! | [`Scenario::image`], [`Scenario::setup`], [`Scenario::marks`], [`Scenario::suppressions`], [`Scenario::options`], [`Scenario::step`] | return its parts |
+//! | [`Scenario::image`], [`Scenario::setup`], [`Scenario::input`], [`Scenario::marks`], [`Scenario::suppressions`], [`Scenario::options`], [`Scenario::step`] | return its parts |
 //! | [`setup_with`] | returns a setup: an input, Memcheck's settings of the heap, and the functions of the heap that a program has by name |
 //! | [`laws::edits_follow`] | does nothing; its contract says that each edit leads from run to run by its effect |
 //! | [`laws::edits_go_back`] | does nothing; its contract says that what takes an edit back leaves the scenario as it was |

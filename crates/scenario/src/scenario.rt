@@ -83,6 +83,14 @@ impl<'a> Scenario<'a> {
         &self.setup
     }
 
+    /// Returns the input.
+    pub fn input(&self) -> &[u8]
+        ensures input { result.now ≡ self.now.setup.input }
+        ensures short { length result.now ≤ longest_input }
+    {
+        self.setup.input.as_slice()
+    }
+
     /// Returns the marks, in their order.
     pub fn marks(&self) -> &[Alteration]
         ensures { result.now ≡ self.now.marks }

@@ -3,6 +3,8 @@
 //! | Call | What it does |
 //! |---|---|
 //! | [`Tallies::begin`] | starts with a first text, of number 0, with count 0 |
+//! | [`Tallies::new`] | starts without a text |
+//! | [`Tallies::find`] | looks up a text: its number, and whether it was met before |
 //! | [`Tallies::meet`] | counts a text; returns its number, and whether it was met before |
 //! | [`Tallies::counts`] | returns how often each text was met, in their order |
 //! | [`laws::texts_are_counted`] | does nothing; its contract says that the entries are the distinct texts with how often each was met |
@@ -91,6 +93,23 @@ impl Tallies {
         let mut texts = IndexMap::new(alloc);
         let _former = texts.insert(first, 0)?;
         Ok(Tallies { texts })
+    }
+
+    /// Returns tallies without a text.
+    pub fn new(alloc: Global) -> Tallies
+        ensures { entries_of result ≡ [] }
+    {
+        Tallies {
+            texts: IndexMap::new(alloc),
+        }
+    }
+
+    /// Looks up a text, and counts none.
+    pub fn find(&self, text: &[u8]) -> Found
+        ensures number { result.number ≡ number_of (entries_of self.now) text.now }
+        ensures met { result.is_met ≡ is_met (entries_of self.now) text.now }
+    {
+        find_in(&self.texts, text)
     }
 
     /// Counts a text. Returns its number, and whether it was met before. If memory runs out for a new text, nothing changes.

@@ -68,6 +68,13 @@ ERROR SUMMARY: 1 errors from 1 contexts (suppressed: 0 from 0)
         Example("The last step before 684 that writes the byte at 0x7fffffc7:",
                 "printf 'goto 684\\nlook last write 0x7fffffc7 1 0\\n' |\nreplaycheck look station.elf --input station.input",
                 "ok\nstep 657\n"),),
+    "tries": (
+        Example("Two values of byte 39. The second does something new, on six sides of instructions:",
+                "printf 'goto 2000\\ntry 39 00\\ntry 39 69\\n' |\nreplaycheck tries station.elf --input station.input",
+                "ok\noutcome 0\nexited 0\ntried 0 new 377 again 103\ntried 0 new 6 again 0\n"),
+        Example("The byte is compared with 0x69:",
+                "printf 'goto 2000\\ndiffers 39 00\\n' |\nreplaycheck tries station.elf --input station.input",
+                "ok\n691 0x00010570 0x00000063 0x00000069 0x00000000 0x00000069\nend\n")),
     "sweep": (
         Example("Two values of byte 1: one edit has the outcome of the unedited run, the other one doesn't:",
                 "replaycheck sweep station.elf --input station.input \\\n--bytes 1 --values 6,8 | tail -n 3",
@@ -187,7 +194,7 @@ FILES = {"": (("/usr/share/doc/replaycheck/manual/index.html", "the manual, with
               ("/usr/share/replaycheck/examples", "programs with their sources and inputs, to copy"), *PAGES), "page": PAGES}
 SEE_ALSO = {
     "run": ("session", "certify", "lines", "suppress"), "exec": ("run", "certify", "suppress"),
-    "session": ("talk", "look", "compare"), "look": ("session", "when", "gdb"),
+    "session": ("talk", "look", "compare"), "look": ("session", "tries", "when", "gdb"), "tries": ("look", "session", "explore"),
     "sweep": ("explore",), "certify": ("run", "origin"), "adopt": ("run", "word"), "compare": ("session", "lines"),
     "coverage": ("run", "look", "explore"),
     "explore": ("sweep", "certify"), "gdb": ("look", "session"), "lines": ("run", "talk"), "origin": ("certify", "when", "look"),

@@ -6,5 +6,5 @@ use Rattle.command_line.proofs.arguments.with_sweep.Goals as goal
 pub returns : goal.returns
 returns c =
     IfOk-weaker c.subcommand.result _ _ (λ command added. added.shape c.in_ok-sweep.ensures.globals
-    ∙ ap₂ with_subcommand c.in_ok-with_look.ensures (ap (λ (app : App). app.top) c.in_ok-sweep.ensures.shape))
+    ∙ ap₂ with_subcommand c.in_ok-with_tries.ensures (ap (λ (app : App). app.top) c.in_ok-sweep.ensures.shape))
     c.subcommand.ensures

@@ -5,7 +5,7 @@ use Rattle.driver.proofs.Stages.{with-image}
 use Rattle.driver.specs.Carried.{Reports}
 use Rattle.ends.specs.Ends.{end_of}
 use Rattle.driver.specs.Once.{IsReportOnce}
-use Rattle.driver.specs.declared.carrying.Action.TheVariants.{Session, Look}
+use Rattle.driver.specs.declared.carrying.Action.TheVariants.{Session, Look, Tries}
 use Rattle.suppressions.specs.Rules.{Rule}
 use Rattle.driver.proofs.carrying.follow_order.Goals as goal
 
@@ -78,6 +78,14 @@ returns-in-Look g c =
     c.deref.ensures.value c.in_ok-image.ensures.image
     c.in_ok-suppressions.ensures.ok c.in_ok-input.ensures.ok
     (does-same _ Look _ _ _ _ _ _ c.in-Look.is c.serve_looks.ensures)
+
+pub returns-in-Tries : goal.returns-in-Tries
+returns-in-Tries g c =
+    with-all (g.F.Files.gives c.args.files.now) c.args.order.now c.args.action _ _ _ _ _ _ _ _ _
+    c.in_ok-profile.ensures.ok c.in_ok-file.ensures.ok
+    c.deref.ensures.value c.in_ok-image.ensures.image
+    c.in_ok-suppressions.ensures.ok c.in_ok-input.ensures.ok
+    (does-same _ Tries _ _ _ _ _ _ c.in-Tries.is c.serve_tries.ensures)
 
 pub returns : goal.returns
 returns g c =

@@ -9,6 +9,9 @@ returns-in-Session g c = rw (c.in-Session.is, c.ended-in-Session.ensures) c.foll
 pub returns-in-Look : goal.returns-in-Look
 returns-in-Look g c = rw (c.in-Look.is, c.ended-in-Look.ensures) c.follow_order-in-Look.ensures
 
+pub returns-in-Tries : goal.returns-in-Tries
+returns-in-Tries g c = rw (c.in-Tries.is, c.ended-in-Tries.ensures) c.follow_order-in-Tries.ensures
+
 pub returns-in-Sweep : goal.returns-in-Sweep
 returns-in-Sweep g c = rw (c.in-Sweep.is, c.ended-in-Sweep.ensures) c.follow_sweep.ensures
 

@@ -1,47 +1,17 @@
-use Rattle.std.proofs.Common.{◌≡◌, ℕ, Option, ◌*◌, nat_lt, refl, ap, sym, ◌∙◌, arith, subst, Bool}
+use Rattle.std.proofs.Common.{◌≡◌, ℕ, Option, ◌*◌, ap, sym, ◌∙◌, arith, subst, Bool}
 use Rattle.std.specs.Prelude.{is_some}
 use Rattle.checkpoints.specs.Trails.{machines_of, table_of, loaded_of, last_held}
 use Rattle.checkpoints.specs.FirstUses.{first_of_code}
 use Rattle.instructions.specs.Codes.{len_of}
 use Rattle.checkpoints.specs.Effects.{Tells, WritesWithin}
 use Rattle.checkpoints.specs.declared.effect.Effect.{Effect}
-use Rattle.checkpoints.specs.FirstEffects.{InputShows, PatchShows}
-use Rattle.checkpoints.proofs.HeldSteps.{held-at}
-use Rattle.checkpoints.proofs.EffectSteps.{told-after, told-input, told-end, told-heap, told-code, told-anew}
+use Rattle.checkpoints.specs.FirstEffects.{PatchShows}
+use Rattle.checkpoints.proofs.EffectSteps.{told-after, told-code, told-anew}
 use Rattle.checkpoints.proofs.trail.Trail.has_shown.Goals as goal
 
 pub returns-in-After : goal.returns-in-After
 returns-in-After c start setup marks h =
     rw c.in-After.is (told-after c.in-After.marked (1024 * c.args.place) (c.args.place * 1024) (omega arith))
-
-pub returns-in-Input : goal.returns-in-Input
-unfolding machines_of
-returns-in-Input c start setup marks h =
-    let place = c.args.place in
-    let shows = held-at c.args.self.now.held.items c.index-machine.result.now place (1024 * place) start setup marks
-    h.held c.index-machine.ensures c.requires.held refl in
-    rw c.in-Input.is (subst (λ o. Tells (InputShows c.in-Input.offset start setup marks) (1024 * place)
-    (nat_lt o c.position.result)) (sym c.from.ensures)
-    (told-input c.reads_on.ensures start setup marks c.in-Input.offset c.position.result (1024 * place)
-    (c.position.ensures _ shows)))
-
-pub returns-in-End : goal.returns-in-End
-unfolding machines_of
-returns-in-End c start setup marks h =
-    let place = c.args.place in
-    let shows = held-at c.args.self.now.held.items c.index-machine.result.now place (1024 * place) start setup marks
-    h.held c.index-machine.ensures c.requires.held refl in
-    rw c.in-End.is (told-end c.end_stays.ensures start setup marks c.end_seen.result (1024 * place)
-    (c.end_seen.ensures _ shows))
-
-pub returns-in-Heap : goal.returns-in-Heap
-unfolding machines_of
-returns-in-Heap c start setup marks h =
-    let place = c.args.place in
-    let shows = held-at c.args.self.now.held.items c.index-machine.result.now place (1024 * place) start setup marks
-    h.held c.index-machine.ensures c.requires.held refl in
-    rw c.in-Heap.is (told-heap c.keeps_heap.ensures start setup marks c.heap_calls.result (1024 * place)
-    (c.heap_calls.ensures _ shows))
 
 pub returns-in-Patch : goal.returns-in-Patch
 unfolding machines_of table_of loaded_of last_held

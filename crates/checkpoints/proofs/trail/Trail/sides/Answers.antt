@@ -1,12 +1,11 @@
-use Rattle.std.proofs.Common.{◌≡◌, ◌+◌, ◌*◌, ◌<◌, ◌∙◌, ap, get_or, length, rules, subst, sym, vec_len}
-use Rattle.std.specs.Prelude.{Decides}
+use Rattle.std.proofs.Common.{◌≡◌, ◌+◌, ◌*◌, ◌<◌, ◌∙◌, ap, get_or, length, rules, subst, sym}
 use Rattle.guest_elf.specs.Profiles.{unit}
 use Rattle.guest_machine.specs.Run.{pre}
 use Rattle.guest_machine.specs.Shows.{Shows}
 use Rattle.checkpoints.specs.Entering.{IsApart}
-use Rattle.checkpoints.specs.Sides.{Covers, has_side, places, sided}
+use Rattle.checkpoints.specs.Sides.{RowTells, places, sided}
 use Rattle.checkpoints.specs.Trails.{machines_of}
-use Rattle.checkpoints.proofs.SideSteps.{apart}
+use Rattle.checkpoints.proofs.SideSteps.{apart, tells-none}
 use Rattle.checkpoints.proofs.trail.Trail.sides.Goals as goal
 
 pub rows-requires : goal.rows-requires
@@ -20,19 +19,22 @@ unfolding pre machines_of
 returns c start right =
     let setup = c.args.setup.now in
     let marks = c.args.marks.now in
+    let first = c.args.range.start in
     let copy = c.in_ok-machine.machine in
     let some : 0 < length (machines_of c.args.self.now) = search rules in
-    let count : length c.in_ok-table.table.items ≡ vec_len c.in_ok-table.table = search rules in
     let shows : Shows copy (pre start setup marks 0) =
     c.in_ok-machine.ensures copy _ (right.held 0 copy some) in
     let far : c.unit-apart.result ≡ unit start.core.isa = c.unit-apart.ensures ∙ ap unit (c.isa.ensures _ shows) in
     record {
       rows =
-          c.in_ok-enter_sides.ensures.rows ∙ count ∙ c.in_ok-table.ensures.len ∙ c.rows.ensures
+          c.in_ok-enter_sides.ensures.rows ∙ c.in_ok-table.ensures.rows ∙ c.rows.ensures
           ∙ ap (λ n. places n c.args.range.len) far;
       tells = λ i on d less.
-          subst (λ n. Decides (has_side (get_or c.enter_sides.new.table.items i d) on)
-          (Covers start setup marks c.args.step (sided (c.args.range.start + n * i) on))) far
-          (c.in_ok-enter_sides.ensures.tells start i on d shows
-          (subst (λ n. i < n) c.in_ok-enter_sides.ensures.rows less));
+          let within = subst (λ n. i < n) c.in_ok-enter_sides.ensures.rows less in
+          subst (λ n. RowTells start setup marks c.args.step (sided (first + n * i) on)
+          (get_or c.enter_sides.new.table.items i d)) far
+          (c.in_ok-enter_sides.ensures.tells start i on d shows within
+          (tells-none start setup marks (first + c.unit-apart.result * i) on (get_or c.in_ok-table.table.items i d)
+          (c.in_ok-table.ensures.once i on d (subst (λ n. i < n) c.in_ok-table.ensures.rows within))
+          (c.in_ok-table.ensures.again i on d (subst (λ n. i < n) c.in_ok-table.ensures.rows within))));
     }

@@ -1,6 +1,7 @@
-use Rattle.std.proofs.Common.{sym, subst}
+use Rattle.std.proofs.Common.{◌≤◌, arith, sym, subst}
 use Rattle.checkpoints.specs.Edits.{IsRightForRun}
 use Rattle.checkpoints.specs.Trails.{LoadsAs}
+use Rattle.scenario.specs.Limits.{most_steps}
 use Rattle.scenario.specs.Scenario.{Scenario, first_state, run_of}
 use Rattle.replay_session.proofs.session.Session.begin.Goals as goal
 
@@ -13,4 +14,5 @@ invariant_of-result c = record {
   right =
       subst (λ (sc : Scenario). IsRightForRun c.in_ok-trail.trail (run_of sc)) (sym c.in_ok-scenario.ensures)
       (c.in_ok-trail.ensures.right _ _);
+  near = subst (λ (sc : Scenario). sc.step ≤ most_steps) (sym c.in_ok-scenario.ensures) (omega arith);
 }

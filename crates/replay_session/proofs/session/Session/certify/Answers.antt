@@ -15,6 +15,7 @@ invariant_of-self c = record {
   right =
       moved c.args.self.now.scenario _ _ _ _ c.setup.ensures c.marks.ensures c.certify.ensures.right
       c.args.self.now.right;
+  near = c.args.self.now.near;
 }
 
 pub returns-clause-tells : goal.returns-clause-tells

@@ -1,12 +1,14 @@
-use Rattle.std.proofs.Common.{◌≡◌, ◌-◌, ap, length, refl, sym, subst, take, ◌∙◌}
+use Rattle.std.proofs.Common.{◌≡◌, ◌-◌, ◌≤◌, ap, length, refl, sym, subst, take, ◌∙◌}
 use Rattle.checkpoints.specs.Effects.{EffectShows, IsWrite}
 use Rattle.checkpoints.specs.Work.{EditMoves}
 use Rattle.checkpoints.specs.declared.effect.Effect.{Effect}
+use Rattle.scenario.specs.Limits.{most_steps}
 use Rattle.scenario.specs.Scenario.{Scenario, first_state}
 use Rattle.replay_session.specs.Session.{turn_of, trail_of}
 use Rattle.replay_session.specs.Work.{work_on}
 use Rattle.scenario.proofs.TrailFacts.{within}
 use Rattle.replay_session.proofs.SessionSteps.{an-error, followed, loads-followed, no-error, word-dropped, writes-need}
+use Rattle.replay_session.proofs.TrySteps.{same-step}
 use Rattle.replay_session.proofs.WorkSteps.{moves-followed}
 use Rattle.replay_session.proofs.session.Session.edit.Goals as goal
 
@@ -28,6 +30,9 @@ invariant_of-self-else-is_err c = record {
       c.effect-effect.ensures.effect c.in_ok-edit.ensures.ok
       (no-error c.follow.result (sym c.is_err.ensures.value ∙ c.if-is_err.false) c.follow.ensures.right)
       c.args.self.now.right;
+  near =
+      subst (λ (sc : Scenario). sc.step ≤ most_steps) (sym c.in_ok-edit.ensures.ok)
+      (subst (λ n. n ≤ most_steps) (sym (same-step c.args.self.now.scenario c.args.edit)) c.args.self.now.near);
 }
 
 pub invariant_of-self-then-is_err : goal.invariant_of-self-then-is_err
@@ -43,6 +48,7 @@ invariant_of-self-then-is_err c =
     record {
       loads = rw (same, back) c.args.self.now.loads;
       right = rw (same, back) c.args.self.now.right;
+      near = rw back c.args.self.now.near;
     }
 
 pub returns-then-is_err-clause-err : goal.returns-then-is_err-clause-err
@@ -73,4 +79,5 @@ invariant_of-self c =
     let same = c.in_err-edit.ensures.err.1 in record {
       loads = rw same c.args.self.now.loads;
       right = rw same c.args.self.now.right;
+      near = rw same c.args.self.now.near;
     }

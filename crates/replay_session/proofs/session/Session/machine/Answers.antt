@@ -11,6 +11,7 @@ invariant_of-self c = record {
   right =
       moved c.args.self.now.scenario _ _ _ _ c.setup.ensures c.marks.ensures c.at_altered.ensures.right
       c.args.self.now.right;
+  near = c.args.self.now.near;
 }
 
 pub returns-clause-shows : goal.returns-clause-shows

@@ -11,6 +11,7 @@ invariant_of-self c = record {
   loads = λ a. ap (λ ranges. is_among ranges a) c.next.ensures.loaded ∙ c.args.self.now.loads a;
   right =
       moved c.args.self.now.scenario _ _ _ _ c.setup.ensures c.marks.ensures c.next.ensures.right c.args.self.now.right;
+  near = c.args.self.now.near;
 }
 
 pub returns-clause-found : goal.returns-clause-found

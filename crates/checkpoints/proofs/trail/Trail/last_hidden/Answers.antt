@@ -1,10 +1,10 @@
 use Rattle.std.proofs.Common.{◌-◌, ◌*◌, ◌<◌, ◌≤◌, arith}
 use Rattle.std.proofs.lemmas.Result.{IfOk-weaker}
-use Rattle.checkpoints.specs.FirstEffects.{InputShows}
+use Rattle.checkpoints.specs.Effects.{EffectShows}
 use Rattle.checkpoints.specs.Trails.{machines_of}
 use Rattle.checkpoints.proofs.HeldSteps.{copy-at}
 use Rattle.checkpoints.proofs.TrailSteps.{held-count, hidden-lower}
-use Rattle.checkpoints.proofs.trail.Trail.last_unread.Goals as goal
+use Rattle.checkpoints.proofs.trail.Trail.last_hidden.Goals as goal
 
 pub returns-clause-step : goal.returns-clause-step
 unfolding machines_of
@@ -17,10 +17,10 @@ returns-clause-step c =
     let some = c.held_before-kept.ensures.some in
     let low : place ≤ kept - 1 = omega arith in
     let within : place < kept = omega arith in
-    IfOk-weaker c.unread_until.result _ _
+    IfOk-weaker c.hidden_until.result _ _
     (λ step last start h. last start
     (copy-at trail.held.items c.in_ok-copy.copy place (place * 1024) start setup marks h.held c.in_ok-copy.ensures
     (omega (arith, within, c.held_before-kept.ensures.within, held-count trail)) (omega arith))
-    (hidden-lower (InputShows c.args.offset start setup marks) (place * 1024) (1024 * (kept - 1)) (omega arith)
+    (hidden-lower (EffectShows c.args.effect start setup marks) (place * 1024) (1024 * (kept - 1)) (omega arith)
     (c.held_before-kept.ensures.last start setup marks h)))
-    c.unread_until.ensures.last
+    c.hidden_until.ensures.last

@@ -1,0 +1,28 @@
+-- The machine from which tries continue, that a session of tries holds.
+use Rattle.std.specs.Prelude.{Option, Some, None}
+use Rattle.std.proofs.Props.{props}
+use Rattle.checkpoints.specs.Effects.{IsOfSetup}
+use Rattle.checkpoints.specs.declared.effect.Effect.{Effect}
+use Rattle.checkpoints.specs.declared.effect.Effect.TheVariants.{Nowhere, After, Input, End, Heap, Patch, Anew}
+use Rattle.replay_session.specs.Trying.{IsSeed, seed-prop}
+use Rattle.run_values.specs.declared.span.Span.{Span}
+use Rattle.scenario.specs.Scenario.{Scenario}
+use Rattle.tries.specs.declared.trying.Held.{Held}
+
+-- what is held, if anything, is a seed for edits with its effect, which change only the setup
+abbrev pub IsHeld : Scenario → Span → Option Held → Type 0
+IsHeld sc range None = Unit {0}
+IsHeld sc range (Some held) = IsOfSetup held.effect × IsSeed sc held.effect range held.seed
+
+of-setup-prop : (effect : Effect) → IsProp (IsOfSetup effect)
+of-setup-prop Nowhere = hlevel props
+of-setup-prop (After step) = hlevel props
+of-setup-prop (Input offset) = hlevel props
+of-setup-prop End = hlevel props
+of-setup-prop Heap = hlevel props
+of-setup-prop (Patch addr code) = hlevel props
+of-setup-prop (Anew addr code) = hlevel props
+
+pub held-prop : (sc : Scenario) (range : Span) (held : Option Held) → IsProp (IsHeld sc range held)
+held-prop sc range None = hlevel props
+held-prop sc range (Some held) = hlevel (of-setup-prop, seed-prop, props)

@@ -1,0 +1,6 @@
+pub mod Ranges
+pub mod Merging
+pub mod Holding
+pub mod Tries
+pub mod Stages
+pub mod LongLines

@@ -1,0 +1,162 @@
+-- The reply to a line of a session whose run can be looked at and tried with other input bytes.
+use Rattle.std.specs.Prelude.{◌≡◌, ◌⊎◌, ◌&&◌, ◌==◌, ℕ, nat_le, Bool, not, if◌then◌else◌, List, [], ◌∷◌, ◌++◌, MatchBool}
+use Rattle.std.specs.Prelude.{Result, Ok, Err, codes, false, length, take}
+use Rattle.std.specs.Fmt.{decimal}
+use Rattle.checkpoints.specs.Compares.{compares_between}
+use Rattle.checkpoints.specs.Forks.{IsLastUnshown}
+use Rattle.checkpoints.specs.declared.compares.Compare.{Compare}
+use Rattle.checkpoints.specs.declared.sides.Sides.{Sides}
+use Rattle.commands.specs.declared.edit.Edit.{Edit}
+use Rattle.commands.specs.declared.fault.Fault.{Fault}
+use Rattle.commands.specs.declared.fault.Fault.TheVariants.{Memory}
+use Rattle.line_server.specs.Answers.{AnswersBy}
+use Rattle.line_server.specs.Lines.{longest_line}
+use Rattle.look_lines.specs.Inputs.{ReadsFor, begins_with, edit_tried}
+use Rattle.looks.specs.Views.{Leaves, Views}
+use Rattle.replay_session.specs.Replies.{is_over, refused_line}
+use Rattle.replay_session.specs.Session.{IsSidesOf}
+use Rattle.replay_session.specs.Stages.{Stage}
+use Rattle.replay_session.specs.Turns.{Turn}
+use Rattle.report_lines.specs.Text.{address_text, newline}
+use Rattle.run_values.specs.declared.span.Span.{Span}
+use Rattle.scenario.specs.Edits.{row}
+use Rattle.scenario.specs.Scenario.{Scenario, IsOutlineOf, first_state, run_of}
+use Rattle.tallies.specs.Tallied.{is_met, number_of, with_text}
+use Rattle.tries.specs.Merging.{IsMerged, agains_of, news_of}
+use Rattle.tries.specs.Ranges.{range_of}
+
+-- what the lines so far have left: the session's stage, the range of which sides are told, what the runs of tries have
+-- done there, and their outcomes
+pub record TriesStage : Type 0 where
+  pub session : Stage
+  pub range : Span
+  pub seen : List Sides
+  pub told : List (List ℕ × ℕ)
+
+-- that of a session without a try
+abbrev pub untried : Stage → TriesStage
+untried session =
+    record { session = session; range = range_of session.turn.scenario.image; seen = []; told = [] }
+
+-- is a line begun by a word answered? One that is too long isn't, and none is once the limit of lines is reached
+unfoldable pub asks : List ℕ → Turn → List ℕ → Bool
+asks word turn line = begins_with word line && not (is_over turn) && nat_le (length line) longest_line
+
+-- does a line try an input, or ask in which compares its run differs?
+abbrev pub tries : Turn → List ℕ → Bool
+tries = asks (codes "try")
+
+abbrev pub differs : Turn → List ℕ → Bool
+differs = asks (codes "differs")
+
+-- `tried NUMBER new SIDES again SIDES`
+unfoldable pub tried_line : ℕ → ℕ → ℕ → List ℕ
+tried_line number sides again =
+    codes "tried " ++ decimal number ++ codes " new " ++ decimal sides ++ codes " again " ++ decimal again ++ newline
+
+-- `outcome NUMBER`, and the outcome's lines
+unfoldable pub outcome_text : ℕ → List ℕ → List ℕ
+outcome_text number outcome = codes "outcome " ++ decimal number ++ newline ++ outcome
+
+-- the reply to a try: its outcome, if no try before had it, and then the outcome's number and how many sides are new
+unfoldable pub tried_text : Bool → ℕ → List ℕ → ℕ → ℕ → List ℕ
+tried_text met number outcome sides again =
+    (if met then [] else outcome_text number outcome) ++ tried_line number sides again
+
+-- a try leaves the session's turn and whether the trail is short, and the range
+pub record LeavesBase (old new : TriesStage) : Type 0 where
+  pub session : Leaves old.session new.session
+  pub range : new.range ≡ old.range
+
+-- an edit was tried: the outcome and the sides are those of one run from step zero of the edited scenario
+pub record Tried (old : TriesStage) (edit : Edit) (text : List ℕ) (new : TriesStage) : Type 0 where
+  pub outcome : List ℕ
+  pub run : List Sides
+  pub is_outcome : IsOutlineOf false (row old.session.turn.scenario edit).after outcome
+  pub is_run : IsSidesOf (row old.session.turn.scenario edit).after old.range run
+  pub tells : text ≡ tried_text (is_met old.told outcome) (number_of old.told outcome) outcome (news_of old.seen run)
+      (agains_of old.seen run)
+  pub told : new.told ≡ with_text old.told outcome
+  pub seen : IsMerged old.seen run new.seen
+
+-- `STEP PC A B A' B'`: the step of a compare, its address, its operands, and those of the other run
+unfoldable pub differ_line : Compare → Compare → List ℕ
+differ_line own other =
+    decimal own.step ++ codes " " ++ address_text own.pc ++ codes " " ++ address_text own.left ++ codes " "
+    ++ address_text own.right ++ codes " " ++ address_text other.left ++ codes " " ++ address_text other.right
+    ++ newline
+
+-- do two compares have the same operands?
+abbrev pub have_same : Compare → Compare → Bool
+have_same own other = own.left == other.left && own.right == other.right
+
+-- the line of two compares, if their operands differ
+abbrev pub pair_lines : Compare → Compare → List ℕ
+pair_lines own other = if have_same own other then [] else differ_line own other
+
+-- a line for each pair of compares whose operands differ, up to the first pair at different addresses
+unfoldable pub differ_lines : List Compare → List Compare → List ℕ
+differ_lines [] others = []
+differ_lines (own ∷ owns) [] = []
+differ_lines (own ∷ owns) (other ∷ others) =
+    if own.pc == other.pc then pair_lines own other ++ differ_lines owns others else []
+
+-- how many compares of a run are looked at
+abbrev pub most_compares : ℕ
+most_compares = 65536
+
+-- the compares of a scenario's run from a step on
+abbrev pub compares_from : ℕ → Scenario → List Compare
+compares_from from sc =
+    take most_compares (compares_between (first_state sc) sc.setup sc.marks from sc.step)
+
+-- the compares of two runs were told, from the last step at which an edit doesn't show
+pub record Differ (old : TriesStage) (edit : Edit) (text : List ℕ) (new : TriesStage) : Type 0 where
+  pub from : ℕ
+  pub is_last : IsLastUnshown (row old.session.turn.scenario edit).effect (run_of old.session.turn.scenario)
+      old.session.turn.scenario.step from
+  pub tells : text
+      ≡ differ_lines (compares_from from old.session.turn.scenario)
+      (compares_from from (row old.session.turn.scenario edit).after) ++ codes "end\n"
+  pub told : new.told ≡ old.told
+  pub seen : new.seen ≡ old.seen
+
+-- or nothing was tried, and the line is rejected
+pub record Refused (old : TriesStage) (fault : Fault) (text : List ℕ) (new : TriesStage) : Type 0 where
+  pub replies : text ≡ refused_line fault
+  pub told : new.told ≡ old.told
+  pub seen : new.seen ≡ old.seen
+
+-- what a line tells of an edit
+abbrev pub Telling : Type 1
+Telling = TriesStage → Edit → List ℕ → TriesStage → Type 0
+
+-- the reply to a line that asks so of an input: it is told of an edit that isn't rejected, or memory ran out
+abbrev pub ToldAs : Telling → TriesStage → Result Edit Fault → List ℕ → TriesStage → Type 0
+ToldAs Tells old (Ok edit) text new = Tells old edit text new ⊎ Refused old Memory text new
+ToldAs Tells old (Err fault) text new = Refused old fault text new
+
+-- as what such a line is read: why it is rejected comes first, then why its edit is, then that memory ran out for its
+-- bytes
+abbrev pub TellsLine : Telling → TriesStage → List ℕ → List ℕ → TriesStage → Type 0
+TellsLine Tells old line text new =
+    LeavesBase old new
+    × ((read : Result Edit Fault)
+    × ReadsFor (length old.session.turn.scenario.setup.input) (edit_tried line) read
+    × ToldAs Tells old read text new)
+
+-- any other line is answered as in a session that can be looked at
+pub record Others (old : TriesStage) (line text : List ℕ) (new : TriesStage) : Type 0 where
+  pub views : Views old.session line text new.session
+  pub range : new.range ≡ old.range
+  pub seen : new.seen ≡ old.seen
+  pub told : new.told ≡ old.told
+
+abbrev pub Tries : TriesStage → List ℕ → List ℕ → TriesStage → Type 0
+Tries old line text new =
+    MatchBool (tries old.session.turn line) (TellsLine Tried old line text new)
+    (MatchBool (differs old.session.turn line) (TellsLine Differ old line text new) (Others old line text new))
+
+-- the replies to one line after another, up to the first that is rejected because there were too many
+abbrev pub TriesLines : TriesStage → List (List ℕ) → List (List ℕ) → Type 0
+TriesLines = AnswersBy Tries (λ stage. is_over stage.session.turn)

@@ -1,0 +1,264 @@
+//! A session that gets one line after another, some of which try an input.
+ghost use Rattle.std.specs.Prelude.{◌≡◌, [], IsTrue, OnErr, OnOk};
+ghost use Rattle.replay_session.specs.Session.{scenario_of, turn_of};
+ghost use Rattle.tallies.specs.Tallied.{entries_of, is_met, number_of, with_text};
+ghost use Rattle.tries.specs.Holding.{IsHeld, held-prop};
+ghost use Rattle.tries.specs.Merging.{IsMerged, agains_of, news_of};
+ghost use Rattle.tries.specs.Tries.{asks, tried_text};
+
+use crate::merging::merge;
+use crate::ranges::range_of;
+use crate::texts::{push_differs, push_reply};
+use checkpoints::{Effect, Sides};
+use commands::{Edit, Fault};
+use guest_machine::Span;
+use line_server::{LONGEST_LINE, Listener};
+use look_lines::{begins_with, edit_tried};
+use looks::Viewer;
+use replay_session::{Seed, Session, Tried};
+use report_lines::push_text;
+use std::alloc::AllocError;
+use tallies::Tallies;
+
+/// How many compares of a run are looked at.
+const MOST_COMPARES: usize = 65_536;
+
+/// Whether a line is one that a word begins, and is answered.
+#[tactic(auto, unfolding(crate::specs::Tries::asks))]
+fn asks(word: &[u8], session: &Session<'_>, line: &[u8]) -> bool
+    ensures { result ≡ asks word.now (turn_of session.now) line.now }
+{
+    begins_with(line, word) && !session.is_over() && line.len() <= LONGEST_LINE
+}
+
+/// Whether two effects are known to be the same.
+fn are_same(one: Effect, other: Effect) -> bool
+    ensures { IsTrue result → one ≡ other }
+{
+    match (one, other) {
+        (Effect::Input(a), Effect::Input(b)) => a == b,
+        (Effect::End, Effect::End) => true,
+        (Effect::Nowhere, Effect::Nowhere) => true,
+        _ => false,
+    }
+}
+
+/// Writes the reply to a try, and keeps what the try has told. If memory runs out, nothing is kept.
+fn tell(
+    text: &mut Vec<u8>,
+    told: &mut Tallies,
+    seen: &mut Vec<Sides>,
+    tried: Tried,
+) -> Result<(), AllocError>
+    requires { text.old.items ≡ [] }
+    ensures tells { OnOk result (text.new.items ≡ tried_text (is_met (entries_of told.old) tried.outcome.items) (number_of (entries_of told.old) tried.outcome.items)
+        tried.outcome.items (news_of seen.old.items tried.sides.items) (agains_of seen.old.items tried.sides.items)) }
+    ensures told { OnOk result (entries_of told.new ≡ with_text (entries_of told.old) tried.outcome.items) }
+    ensures seen { OnOk result (IsMerged seen.old.items tried.sides.items seen.new.items) }
+    ensures kept { OnErr result ((entries_of told.new ≡ entries_of told.old) × (seen.new ≡ seen.old)) }
+{
+    let mut run = tried.sides;
+    let news = merge(seen, &mut run);
+    push_reply(text, told.find(&tried.outcome), &tried.outcome, news)?;
+    let _found = told.meet(&tried.outcome)?;
+    *seen = run;
+    Ok(())
+}
+
+/// A seed, and the effect of the edits that it is for.
+#[derive(Drop)]
+struct Held {
+    effect: Effect,
+    seed: Seed,
+}
+
+/// A session that can be looked at, what tries have told of it, and the text of the last reply.
+#[derive(Drop)]
+pub struct Tries<'a> {
+    viewer: Viewer<'a>,
+    range: Span,
+    seen: Vec<Sides>,
+    told: Tallies,
+    held: Option<Held>,
+    ghost seeded: { IsHeld (scenario_of viewer.session) range held } by { held-prop (scenario_of viewer.session) range held },
+    shown: Vec<u8>,
+    /// Whether the last reply is that to a try.
+    is_shown: bool,
+}
+
+impl<'a> Tries<'a> {
+    ghost use Rattle.std.specs.Prelude.{◌≡◌, IfOk, OnOk, OnErr};
+    ghost use Rattle.checkpoints.specs.Effects.{IsOfSetup};
+    ghost use Rattle.replay_session.specs.Session.{scenario_of, turn_of};
+    ghost use Rattle.replay_session.specs.Stages.{stage_of};
+    ghost use Rattle.replay_session.specs.Trying.{GivesInput, IsSeed};
+    ghost use Rattle.scenario.specs.Edits.{row, IsTaken};
+    ghost use Rattle.tries.specs.Stages.{reply_of_tries, stage_of_tries};
+    ghost use Rattle.tries.specs.Tries.{Differ, LeavesBase, Refused, TellsLine, Tried as HasTried, untried};
+
+    pub(crate) fn new(session: Session<'a>) -> Result<Self, AllocError>
+        ensures { IfOk result (λ tries. stage_of_tries tries ≡ untried (stage_of session.entry)) }
+    {
+        let alloc = session.allocator();
+        let range = range_of(session.image());
+        let viewer = Viewer::new(session)?;
+        Ok(Tries {
+            viewer,
+            range,
+            seen: Vec::new(alloc),
+            told: Tallies::new(alloc),
+            held: None,
+            shown: Vec::new(alloc),
+            is_shown: false,
+        })
+    }
+
+    /// Replies why a line is rejected.
+    #[tactic(auto, unfolding(crate::specs::Stages::reply_of_tries, crate::specs::Stages::stage_of_tries))]
+    fn refuse(&mut self, fault: Fault)
+        ensures refused { Refused (stage_of_tries self.old) fault (reply_of_tries self.new) (stage_of_tries self.new) }
+        ensures base { LeavesBase (stage_of_tries self.old) (stage_of_tries self.new) }
+    {
+        self.viewer.refuse(fault);
+        self.is_shown = false;
+    }
+
+    /// Takes the seed for an edit that changes only the setup: the one that is held, if it is that, or a new one.
+    #[tactic(auto, unfolding(crate::specs::Stages::stage_of_tries))]
+    fn take_seed(&mut self, effect: Effect) -> Result<Held, AllocError>
+        requires { IsOfSetup effect }
+        ensures base { LeavesBase (stage_of_tries self.old) (stage_of_tries self.new) }
+        ensures kept { ((stage_of_tries self.new).told ≡ (stage_of_tries self.old).told) × ((stage_of_tries self.new).seen ≡ (stage_of_tries self.old).seen) }
+        ensures seed { IfOk result (λ held. (held.effect ≡ effect) × IsSeed (scenario_of self.old.viewer.session) effect self.old.range held.seed) }
+    {
+        if let Some(held) = self.held.take()
+            && are_same(held.effect, effect)
+        {
+            return Ok(held);
+        }
+        let seed = self.viewer.session.seed(effect, self.range)?;
+        Ok(Held { effect, seed })
+    }
+
+    /// Tells in which compares the run differs with an edit that gives the input bytes, and writes the reply.
+    #[tactic(auto, unfolding(crate::specs::Stages::stage_of_tries))]
+    fn compare(&mut self, edit: Edit) -> Result<(), AllocError>
+        requires taken { IsTaken (scenario_of self.old.viewer.session) edit }
+        requires input { GivesInput edit }
+        ensures base { LeavesBase (stage_of_tries self.old) (stage_of_tries self.new) }
+        ensures differ { OnOk result (Differ (stage_of_tries self.old) edit self.new.shown.items (stage_of_tries self.new)) }
+        ensures kept { OnErr result (((stage_of_tries self.new).told ≡ (stage_of_tries self.old).told) × ((stage_of_tries self.new).seen ≡ (stage_of_tries self.old).seen)) }
+    {
+        let effect = self.viewer.session.effect(&edit);
+        let held = self.take_seed(effect)?;
+        let compared = self
+            .viewer
+            .session
+            .compare_edit(edit, &held.seed, MOST_COMPARES)?;
+        self.held = Some(held);
+        self.shown.clear();
+        push_differs(&mut self.shown, &compared.own, &compared.other)?;
+        push_text(&mut self.shown, b"end\n")
+    }
+
+    /// Tries an edit that gives the input bytes, and writes the reply.
+    #[tactic(auto, unfolding(crate::specs::Stages::stage_of_tries))]
+    fn run(&mut self, edit: Edit) -> Result<(), AllocError>
+        requires taken { IsTaken (scenario_of self.old.viewer.session) edit }
+        requires input { GivesInput edit }
+        ensures base { LeavesBase (stage_of_tries self.old) (stage_of_tries self.new) }
+        ensures tried { OnOk result (HasTried (stage_of_tries self.old) edit self.new.shown.items (stage_of_tries self.new)) }
+        ensures kept { OnErr result (((stage_of_tries self.new).told ≡ (stage_of_tries self.old).told) × ((stage_of_tries self.new).seen ≡ (stage_of_tries self.old).seen)) }
+    {
+        let effect = self.viewer.session.effect(&edit);
+        let held = self.take_seed(effect)?;
+        let tried = self.viewer.session.try_edit(edit, &held.seed, self.range)?;
+        self.held = Some(held);
+        self.shown.clear();
+        tell(&mut self.shown, &mut self.told, &mut self.seen, tried)
+    }
+
+    /// Replies what was written, or that memory ran out.
+    #[tactic(auto, unfolding(crate::specs::Stages::reply_of_tries, crate::specs::Stages::stage_of_tries))]
+    fn finish(&mut self, done: Result<(), AllocError>)
+        ensures ok { OnOk done ((stage_of_tries self.new ≡ stage_of_tries self.old) × (reply_of_tries self.new ≡ self.old.shown.items)) }
+        ensures refused { OnErr done (Refused (stage_of_tries self.old) Fault.Memory (reply_of_tries self.new) (stage_of_tries self.new)) }
+        ensures base { LeavesBase (stage_of_tries self.old) (stage_of_tries self.new) }
+    {
+        match done {
+            Ok(()) => self.is_shown = true,
+            Err(_) => self.refuse(Fault::Memory),
+        }
+    }
+
+    /// Answers a line that tries an input.
+    fn try_line(&mut self, line: &[u8])
+        ensures { TellsLine HasTried (stage_of_tries self.old) line.now (reply_of_tries self.new) (stage_of_tries self.new) }
+    {
+        let len = self.viewer.session.input_len();
+        match edit_tried(self.viewer.session.allocator(), line, len) {
+            Ok(edit) => {
+                let done = self.run(edit);
+                self.finish(done);
+            }
+            Err(fault) => self.refuse(fault),
+        }
+    }
+
+    /// Answers a line that asks in which compares the run of an input differs.
+    fn differ_line(&mut self, line: &[u8])
+        ensures { TellsLine Differ (stage_of_tries self.old) line.now (reply_of_tries self.new) (stage_of_tries self.new) }
+    {
+        let len = self.viewer.session.input_len();
+        match edit_tried(self.viewer.session.allocator(), line, len) {
+            Ok(edit) => {
+                let done = self.compare(edit);
+                self.finish(done);
+            }
+            Err(fault) => self.refuse(fault),
+        }
+    }
+}
+
+impl Listener for Tries<'_> {
+    ghost use Rattle.replay_session.specs.Replies.{is_over};
+    ghost use Rattle.replay_session.specs.Session.{turn_of};
+    ghost use Rattle.tries.specs.LongLines.{long_alike};
+    ghost use Rattle.tries.specs.Stages.{reply_of_tries, stage_of_tries};
+    ghost use Rattle.tries.specs.Tries.{Tries as AnswersLine};
+
+    ghost answers = { λ old line new. AnswersLine (stage_of_tries old) line (reply_of_tries new) (stage_of_tries new) };
+
+    ghost reply = { reply_of_tries };
+
+    ghost over = { λ tries. is_over (turn_of tries.viewer.session) };
+
+    fn is_over(&self) -> bool {
+        self.viewer.session.is_over()
+    }
+
+    #[tactic(auto, unfolding(crate::specs::Stages::reply_of_tries, crate::specs::Stages::stage_of_tries))]
+    fn answer(&mut self, line: &[u8]) {
+        if asks(b"try", &self.viewer.session, line) {
+            self.try_line(line);
+        } else if asks(b"differs", &self.viewer.session, line) {
+            self.differ_line(line);
+        } else {
+            self.held = None;
+            self.viewer.answer(line);
+            self.is_shown = false;
+        }
+    }
+
+    #[tactic(auto, unfolding(crate::specs::Stages::reply_of_tries))]
+    fn reply(&self) -> &[u8] {
+        if self.is_shown {
+            &self.shown
+        } else {
+            self.viewer.reply()
+        }
+    }
+
+    ghost long_alike = { λ old new a b longer longer' answers.
+        long_alike (stage_of_tries old) (stage_of_tries new) a b (reply_of_tries new) longer longer' answers };
+}
