@@ -1,4 +1,4 @@
-"""The first work on an entry of the queue: which compares hang on which of its bytes, and the inputs that follow from that."""
+"""The first work on an entry of the queue: which compares depend on which of its bytes, and the inputs that follow from that."""
 from __future__ import annotations
 
 from functools import partial
@@ -8,7 +8,7 @@ from .compares import Compares, Guard, parts_ways
 from .tries import EACH, LONGEST, NEWS, Pair, Reply
 
 MOST_ASKED = 1024  # bytes of an entry that are changed, from its begin on
-BEHIND = 24  # zero bytes behind the end, which a program may read or not
+MORE = 24  # zero bytes after the end, which a program may read or not
 MOST_ROUNDS = 4  # repairs of one input
 MOST_SOLVED = 4096  # inputs of one entry
 CHANGE = 1  # the bit of a byte that is changed
@@ -16,7 +16,7 @@ AHEAD = 64  # questions that go ahead of their replies
 
 
 class Repairs:
-    """Puts right again in changed inputs of an entry what compares need: a magic number, a length, a sum."""
+    """Puts compares of an entry right again in inputs made of it, so that they come out equal: a magic number, a length, a sum."""
 
     def __init__(self, worker, entry, tries):
         self.worker, self.tries = worker, tries
@@ -88,8 +88,8 @@ class Asking:
         self.worker.settle(self.tries)
 
     def lengthen(self):
-        """Takes zero bytes behind the end to the input, where they change nothing by themselves: compares may hang on them."""
-        longer = self.content + bytes(BEHIND)
+        """Appends zero bytes to the input if they don't change which way the run takes: compares may depend on them."""
+        longer = self.content + bytes(MORE)
         if self.tries.length is None and len(longer) <= min(self.worker.most, LONGEST):
             self.worker.attempt(self.tries, longer, "compare")
             self.worker.differ(self.tries, longer, self.lengthened)
@@ -119,7 +119,7 @@ class Asking:
             self.parting.append(offset)
 
     def repaired(self, offset: int, content: bytes, pairs: List[Pair], rounds: int):
-        """Adds what the change of a byte moves behind a compare that was put right."""
+        """Adds what the change of a byte moves after a compare that was put right."""
         if rounds:
             self.compares.add(offset, content[offset] - self.content[offset], pairs)
 

@@ -147,7 +147,7 @@ class Search:
                     self.folder.path, self.folder.own, [it.text for it in self.findings], self.first_seed, self.first, os.getpid())
 
     def work(self):
-        """Runs the workers. A signal ends them; what was found is told all the same."""
+        """Runs the workers. A signal ends them. What was found by then is printed, too."""
         plan = self.plan()
         for name in sorted(os.listdir(self.folder.queue)):
             if not name.startswith("."):
@@ -179,7 +179,7 @@ class Search:
         Worker(plan, place, self.jobs, tell).work()
 
     def take(self, place: int, kind: str, *values):
-        """Takes what a worker tells."""
+        """Takes what a worker reports."""
         getattr(self, f"take_{kind}")(place, *values)
 
     def take_state(self, place, *values):
@@ -221,7 +221,7 @@ class Search:
         report = report_of(path, self.options, self.options.step)
         self.folder.write(finding, session_lines(self.seeds[0][1], finding.content, self.options.step), report)
 
-    # ---- what is told
+    # ---- what is printed
 
     def tell(self, covered):
         options = self.options
@@ -231,7 +231,7 @@ class Search:
         write("".join(f"{line}\n" for line in [*lines, *([executed_told(covered)] if covered else [])]))
 
     def interrupted(self):
-        """Tells what was found up to a signal, as far as anybody reads it."""
+        """Prints what was found up to a signal, as far as anybody reads it."""
         with contextlib.suppress(Fault, Interrupted, OSError):
             self.state.write(is_last=True)
             self.state.end()
@@ -240,7 +240,7 @@ class Search:
                 flush()
 
     def end(self, lcov_file) -> int:
-        """Tells what was found. Returns the status."""
+        """Prints what was found. Returns the status."""
         self.reached.look_at_all()
         covered = Covered(self.options.file, self.code, self.reached.sides, self.places) if self.places else None
         self.state.write(is_last=True)

@@ -1,4 +1,4 @@
-"""What compares hang on, as runs with one byte changed show, and the bytes that make them come out otherwise."""
+"""What compares depend on, as runs with one byte changed show, and the bytes that make them come out otherwise."""
 from __future__ import annotations
 
 from typing import Dict, Iterator, List, Optional, Tuple
@@ -9,7 +9,7 @@ from .tries import Pair
 
 SHIFTS = (0, 8, 16, 24)  # where a byte may be in an operand
 ALL = 0xFFFFFFFF
-NEAR = (0, 1, -1)  # equal to the other operand, one more, one less
+NEAR = (0, 1, -1)  # equal to the other operand, greater by one, smaller by one
 MOST_GUARDS = 12  # compares of an input that are kept equal
 MOST_AT_ONE = 24  # compares at one address that are solved
 FARTHEST = 2048  # bytes that an input gets longer or shorter by at once
@@ -50,7 +50,7 @@ class Compare:
                 for shift in SHIFTS if (change << shift) & ALL == moves[side]}
 
     def guards(self) -> Iterator[Guard]:
-        """How an equal compare can be made equal again. An operand that hangs on nothing but its own bytes comes first: a field that has a
+        """How an equal compare can be made equal again. An operand that depends on nothing but its own bytes comes first: a field that has a
         length or a sum."""
         if self.operands[0] != self.operands[1]:
             return
@@ -159,7 +159,7 @@ def token(value: int, parts: Dict[int, int]) -> bytes:
 
 
 def parts_ways(code, pair: Pair) -> bool:
-    """Whether the two runs go on at different places after a compare; if the instruction isn't known, they are taken to."""
+    """Whether the two runs continue at different places after a compare. If the instruction isn't known, they are taken to."""
     it = code.instruction(pair.pc)
     if it is None:
         return True

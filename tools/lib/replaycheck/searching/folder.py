@@ -21,7 +21,7 @@ MOST_SEARCHES = 1000  # in one folder
 
 
 class Finding:
-    """A finding of a search: its number, its text, the address that it is told at, and its input."""
+    """A finding of a search: its number, its text, the address at which it is reported, and its input."""
 
     def __init__(self, number: int, text: str, address: str, content: bytes):
         self.number, self.text, self.address, self.content = number, text, address, content
@@ -36,7 +36,7 @@ class Folder:
     none does. `lock` is an open file, locked as long as the search runs."""
 
     def __init__(self, path: str):
-        self.path = path
+        self.path = path.rstrip("/") or "/"
         names = ("", *map(str, range(2, MOST_SEARCHES)))
         self.own, self.lock = next(filter(None, map(self.locked, names)), (None, None))
         if self.own is None:
@@ -101,9 +101,9 @@ class Folder:
 
     def write(self, finding: Finding, lines: List[str], report: List[str]):
         """Writes a finding. Its text comes last: what has none isn't whole."""
-        told = {"input": finding.content, "session": text_of(lines), "report": text_of(report),
+        parts = {"input": finding.content, "session": text_of(lines), "report": text_of(report),
                 "text": text_of([finding.text, *([finding.address] if finding.address else [])])}
-        for suffix, content in told.items():
+        for suffix, content in parts.items():
             write_whole(self.finding(f"{finding.name}.{suffix}"), content, rights_of_new())
 
 

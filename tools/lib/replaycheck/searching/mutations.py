@@ -8,7 +8,7 @@ from .tries import LONGEST
 
 MOST_TOKENS, LONGEST_TOKEN = 512, 64
 STACKS = 5  # a stack has 1, 2, 4, 8 or 16 changes
-SPLICES = 8  # one of so many inputs is spliced first
+SPLICES = 8  # one of this number of inputs is spliced first
 VALUES = (0, 1, 2, 4, 8, 16, 32, 64, 100, 127, 128, 254, 255)  # at which programs often do something else
 FARTHEST = 35  # what is added to a number, or taken from it, at most
 MOST_MOVED, MOST_COPIED, MOST_NEW = 32, 16, 4  # bytes that a change removes or repeats, copies, or inserts

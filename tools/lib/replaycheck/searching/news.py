@@ -21,7 +21,7 @@ def parts_of(outcome: Outcome, goal: Optional[bytes]) -> List[Part]:
 
 
 class News:
-    """The findings that are known: those of seeds, of a folder that the search goes on from, and those that were told."""
+    """The findings that are known: those of seeds, those of a folder in which the search continues, and those that were reported."""
 
     def __init__(self, goal: Optional[bytes], found: List[str]):
         self.goal = goal

@@ -1,4 +1,4 @@
-"""The processes of a search: workers, and what they tell."""
+"""The processes of a search: workers, and what they report."""
 from __future__ import annotations
 
 import json
@@ -16,7 +16,7 @@ AT_ONCE = 1 << 16  # bytes of one read
 
 
 class Forked(child_processes.Child):
-    """A worker, which is a copy of this process. It ends when a signal ends this one. `stdout` is the pipe of what it tells."""
+    """A worker, which is a copy of this process. It ends when a signal ends this one. `stdout` is the pipe of its reports."""
 
     def __init__(self, work: Callable, unneeded: List[int]):
         self.status, self.unread = None, b""
@@ -61,7 +61,7 @@ class Leaving:
 
 
 def obey(work: Callable, tells: int) -> int:
-    """Does the work of a worker. What keeps it from that is told."""
+    """Does the work of a worker. What keeps it from that is reported."""
     def tell(*values):
         content = json.dumps(values).encode("ascii") + b"\n"
         try:
@@ -98,7 +98,7 @@ class Workers:
             self.selector.register(children[-1].stdout, selectors.EVENT_READ, (len(others), children[-1]))
 
     def messages(self, patience: float) -> Iterator[Tuple[int, list]]:
-        """What workers tell within some seconds: of each its number, and the message."""
+        """What workers report within some seconds: of each its number, and the message."""
         for key, _ in self.selector.select(patience):
             number, worker = key.data
             content = os.read(worker.stdout.fileno(), AT_ONCE)
@@ -118,6 +118,6 @@ class Workers:
             raise Fault(f"a worker ended with {f'signal {-status}' if status < 0 else f'status {status}'}")
 
     def stop(self):
-        """Tells the workers to end. They tell how far they are first."""
+        """Has the workers end. They report how far they are first."""
         for it in self.running:
             it.terminate()

@@ -27,7 +27,7 @@ def paths_of(name: str) -> Iterator[str]:
 
 
 def seeds(names: List[str], most: int, say) -> List[Tuple[str, bytes]]:
-    """The seeds that arguments name: each content once, with the name of its first file. `say` is told of a file that is cut."""
+    """The seeds that arguments name: each content once, with the name of its first file. `say` gets a line on each file that is cut."""
     found, known = [], set()
     for path in (path for name in names for path in paths_of(name)):
         with naming(path), open(path, "rb") as file:

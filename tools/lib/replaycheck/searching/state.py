@@ -19,7 +19,7 @@ BETWEEN = 5.0  # seconds between two writes of the files
 
 
 class Told:
-    """What a worker has told last: its runs, how many inputs of the queue it hasn't mutated, the place of the one at work, how often it
+    """What a worker has reported last: its runs, how many inputs of the queue it hasn't mutated, the place of the one at work, how often it
     has mutated each, and whether no run of all has ended."""
 
     def __init__(self, runs=0, waiting=0, at=0, cycles=0, all_running=True):
@@ -27,7 +27,7 @@ class Told:
 
 
 class State:
-    """The numbers of a search, as its workers have told them. `jobs` is the number of workers. `reached` says what was executed."""
+    """The numbers of a search, as its workers have reported them. `jobs` is the number of workers. `reached` says what was executed."""
 
     def __init__(self, jobs: int, folder: Optional[str], command: List[str], reached):
         self.folder, self.command, self.reached = folder, command, reached

@@ -100,7 +100,7 @@ class Tries:
             raise Fault("the program runs out of memory by the inputs of the queue")
 
     def set_base(self, content: bytes):
-        """Makes an input the base. Another session takes the place of one that has had its lines, or has run out of memory."""
+        """Makes an input the base. Another session takes the place of one that has no lines left, or has run out of memory."""
         if self.session is not None and (self.counted >= MOST_LINES or self.is_full):
             self.settle()
             self.close()

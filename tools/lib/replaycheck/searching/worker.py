@@ -21,7 +21,7 @@ from .shortening import Shortening
 from .tries import EACH, LONGEST, NEWS, Reply, Tries
 
 TURN = 1024  # tries of an entry before the next one's
-REPAIRED = 3  # one of so many mutated inputs is repaired
+REPAIRED = 3  # one of this number of mutated inputs is repaired
 QUIET = 20000  # tries without news after which each value of a byte is tried, each token at each place, and cuts
 SWEPT, PLACED = 4, 512  # bytes of which each value, and tries of tokens and cuts, that are tried then in a turn
 MOST_PLACED = 256  # tokens of each place
@@ -31,7 +31,7 @@ SECOND = 1.0
 
 
 class Over(Exception):
-    """The search has had its time or its tries."""
+    """The time or the tries of the search are used up."""
 
 
 @dataclass
@@ -59,7 +59,7 @@ class Plan:
 
 
 class Worker:
-    """One worker of `count`. `tell` gets what the search has to know: a kind and values."""
+    """One worker of `count`. `tell` gets what the first process has to know: a kind and values."""
 
     def __init__(self, plan: Plan, place: int, count: int, tell: Callable):
         self.plan, self.place, self.count, self.tell = plan, place, count, tell
@@ -144,7 +144,7 @@ class Worker:
     # ---- the queue
 
     def keep_fresh(self):
-        """Takes inputs with news to the queue, and tells of their findings."""
+        """Takes inputs with news to the queue, and reports their findings."""
         if self.fresh and os.getppid() != self.plan.parent:
             raise Over  # nobody takes what it finds
         while self.fresh:
