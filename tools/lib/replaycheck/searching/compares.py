@@ -50,7 +50,7 @@ class Compare:
                 for shift in SHIFTS if (change << shift) & ALL == moves[side]}
 
     def guards(self) -> Iterator[Guard]:
-        """How an equal compare can be made equal again. An operand that depends on its own bytes only comes first: a field for a length or a
+        """How an equal compare can be made equal again. An operand that depends on its own bytes only comes first: that of a length or a
         sum."""
         if self.operands[0] != self.operands[1]:
             return
