@@ -198,6 +198,6 @@ SEE_ALSO = {
     "sweep": ("explore",), "certify": ("run", "origin"), "adopt": ("run", "word"), "compare": ("session", "lines"),
     "coverage": ("run", "look", "explore"),
     "explore": ("sweep", "certify"), "gdb": ("look", "session"), "lines": ("run", "talk"), "origin": ("certify", "when", "look"),
-    "page": ("session", "explore"), "search": ("explore", "coverage", "look"), "suppress": ("run",), "talk": ("session", "lines"),
+    "page": ("session", "explore"), "search": ("explore", "coverage", "tries", "look"), "suppress": ("run",), "talk": ("session", "lines"),
     "when": ("session", "look"), "word": ("session", "lines"),
 }
