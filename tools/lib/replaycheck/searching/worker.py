@@ -18,7 +18,7 @@ from .entries import Entry, Folders, made_of, name_of, taken_from, write
 from .mutations import Mutations
 from .news import News
 from .shortening import Shortening
-from .tries import EACH, LONGEST, NEWS, Reply, Tries
+from .tries import EACH, LONGEST, NEWS, Reply, Tries, common
 
 TURN = 1024  # tries of an entry before the next one's
 REPAIRED = 3  # one of this number of mutated inputs is repaired
@@ -331,10 +331,10 @@ class Worker:
             Asking(self, entry).work()
 
     def mutate(self, tries: Tries, entry: Entry):
-        """Tries mutated inputs of an entry."""
+        """Tries mutated inputs of an entry: in the order of the first byte that is changed, as the program keeps the machine that reads it."""
         repairs, made, below = Repairs(self, entry, tries), self.mutations.mutated, self.mutations.below
-        for number in range(TURN):
-            content = made(entry.content, self.entries[below(len(self.entries))].content[:LONGEST])
+        contents = [made(entry.content, self.entries[below(len(self.entries))].content[:LONGEST]) for _ in range(TURN)]
+        for number, content in enumerate(sorted(contents, key=partial(common, entry.content))):
             if content == entry.content or content in self.known:
                 continue
             if repairs.guards and not below(REPAIRED):
