@@ -1,5 +1,6 @@
 -- What several runs have done with each instruction of a range, and what one more run does that none of them did.
-use Rattle.std.specs.Prelude.{◌≡◌, ℕ, zero, suc, ◌+◌, ◌<◌, ◌||◌, Bool, true, false, List, length, slice_index_or}
+use Rattle.std.specs.Prelude.{◌≡◌, ℕ, zero, suc, ◌+◌, ◌<◌, ◌&&◌, ◌||◌, Bool, true}
+use Rattle.std.specs.Prelude.{false, not, List, length, slice_index_or}
 use Rattle.checkpoints.specs.declared.sides.Sides.{Sides}
 
 -- what is said of an instruction that no run has reached
@@ -14,6 +15,15 @@ either a b = record {
   on_again = a.on_again || b.on_again;
   away_again = a.away_again || b.away_again;
 }
+
+-- does a row say of no side what one before it doesn't say?
+abbrev pub is_old : Bool → Bool → Bool
+is_old before now = before || not now
+
+abbrev pub adds_none : Sides → Sides → Bool
+adds_none seen run =
+    is_old seen.on run.on
+    && (is_old seen.away run.away && (is_old seen.on_again run.on_again && is_old seen.away_again run.away_again))
 
 -- a table says what two others say. It has the rows of the second
 pub record IsMerged (seen run merged : List Sides) : Type 0 where
@@ -46,3 +56,8 @@ news_of seen run = sum_rows new_in seen run (length run)
 
 abbrev pub agains_of : List Sides → List Sides → ℕ
 agains_of seen run = sum_rows again_in seen run (length run)
+
+-- none of the first rows of a run says anything new
+abbrev pub KnownBelow : List Sides → List Sides → ℕ → Type 0
+KnownBelow seen run n =
+    (i : ℕ) → i < n → adds_none (slice_index_or seen i unreached) (slice_index_or run i unreached) ≡ true

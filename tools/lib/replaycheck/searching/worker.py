@@ -331,7 +331,7 @@ class Worker:
             Asking(self, entry).work()
 
     def mutate(self, tries: Tries, entry: Entry):
-        """Tries mutated inputs of an entry: in the order of the first byte that is changed, as the program keeps the machine that reads it."""
+        """Tries mutated inputs of an entry, in the order of the first changed byte: the program keeps the machine that reads it."""
         repairs, made, below = Repairs(self, entry, tries), self.mutations.mutated, self.mutations.below
         contents = [made(entry.content, self.entries[below(len(self.entries))].content[:LONGEST]) for _ in range(TURN)]
         for number, content in enumerate(sorted(contents, key=partial(common, entry.content))):

@@ -1,8 +1,8 @@
-use Rattle.std.proofs.Common.{◌≡◌, ◌<◌, ◌∙◌, ap₂, arith, inl, inr, get_or, length, refl, set, subst}
+use Rattle.std.proofs.Common.{◌≡◌, ◌<◌, ◌∙◌, ap₂, arith, inl, inr, get_or, length, refl, set, subst, sym}
 use Rattle.std.proofs.lemmas.Bool.{cases_lt}
 use Rattle.std.proofs.lemmas.List.{get_or-set_other, get_or-set_same, length-set}
 use Rattle.tries.specs.Merging.{again_in, either, new_in, sum_rows, unreached}
-use Rattle.tries.proofs.MergeSteps.{sum-more}
+use Rattle.tries.proofs.MergeSteps.{none-again, none-new, sum-more, sum-none}
 use Rattle.tries.proofs.merging.merge.Goals as goal
 
 pub loop-place-init : goal.loop-place-init
@@ -44,3 +44,11 @@ loop-place-preserved c =
       ];
       rest = λ i d l. get_or-set_other run place i row d (λ e. omega arith) ∙ inv.rest i d (omega arith);
     }
+
+pub returns-then-is_known-clause-sides : goal.returns-then-is_known-clause-sides
+returns-then-is_known-clause-sides c =
+    sym (sum-none new_in none-new c.args.seen.now c.args.run.now _ (c.if-is_known.ensures.known refl))
+
+pub returns-then-is_known-clause-again : goal.returns-then-is_known-clause-again
+returns-then-is_known-clause-again c =
+    sym (sum-none again_in none-again c.args.seen.now c.args.run.now _ (c.if-is_known.ensures.known refl))
