@@ -1,6 +1,7 @@
 -- One more pair of compares.
-use Rattle.std.proofs.Common.{◌≡◌, ◌==◌, ℕ, ◌+◌, ◌<◌, ◌≤◌, ◌++◌, ◌∙◌, Bool, true, false, List, [], ◌∷◌, ap, ap₂, cond, drop}
-use Rattle.std.proofs.Common.{get_or, length, refl}
+use Rattle.std.proofs.Common.{◌≡◌, ◌==◌, ℕ, ◌+◌, ◌<◌, ◌≤◌, ◌++◌, ◌∙◌, Bool, true, false, List, [], ◌∷◌, ap, ap₂}
+use Rattle.std.proofs.Common.{cond, drop, get_or, length, refl}
+use Rattle.std.proofs.lemmas.Bool.Decides.{Decides-eqb}
 use Rattle.std.proofs.lemmas.List.{drop_all, drop_more}
 use Rattle.checkpoints.specs.declared.compares.Compare.{Compare}
 use Rattle.tries.specs.Tries.{differ_lines, pair_lines}
@@ -19,7 +20,7 @@ pub other-ends : (owns others : List Compare) (i : ℕ) → length others ≤ i 
 other-ends owns others i l = ap (differ_lines owns) (drop_all i others l) ∙ none-left owns
 
 -- by whether the addresses are the same
-by-pc : Bool → Compare → Compare → List ℕ → List ℕ
+abbrev by-pc : Bool → Compare → Compare → List ℕ → List ℕ
 by-pc same own other rest = cond same (pair_lines own other ++ rest) []
 
 first-pair : (own other : Compare) (owns others : List Compare)
@@ -34,17 +35,22 @@ next-pair : (owns others : List Compare) (i : ℕ) (d : Compare) → i < length 
 next-pair owns others i d l m =
     ap₂ differ_lines (drop_more owns i d l) (drop_more others i d m) ∙ first-pair _ _ _ _
 
+not-so : (b : Bool) → (b ≡ true → ⊥) → b ≡ false
+not-so true h = absurd (h refl)
+not-so false h = refl
+
 pub pair-more : (owns others : List Compare) (i : ℕ) (d : Compare) → i < length owns → i < length others
-    → ((get_or owns i d).pc == (get_or others i d).pc) ≡ true
+    → (get_or owns i d).pc ≡ (get_or others i d).pc
     → differ_lines (drop i owns) (drop i others)
     ≡ pair_lines (get_or owns i d) (get_or others i d) ++ differ_lines (drop (i + 1) owns) (drop (i + 1) others)
 pair-more owns others i d l m same =
     next-pair owns others i d l m
-    ∙ ap (λ b. by-pc b (get_or owns i d) (get_or others i d) (differ_lines (drop (i + 1) owns) (drop (i + 1) others))) same
+    ∙ ap (λ b. by-pc b (get_or owns i d) (get_or others i d) (differ_lines (drop (i + 1) owns) (drop (i + 1) others)))
+    ((Decides-eqb (get_or owns i d).pc (get_or others i d).pc).1 same)
 
 pub pair-stops : (owns others : List Compare) (i : ℕ) (d : Compare) → i < length owns → i < length others
-    → ((get_or owns i d).pc == (get_or others i d).pc) ≡ false → differ_lines (drop i owns) (drop i others) ≡ []
+    → ((get_or owns i d).pc ≡ (get_or others i d).pc → ⊥) → differ_lines (drop i owns) (drop i others) ≡ []
 pair-stops owns others i d l m other =
     next-pair owns others i d l m
     ∙ ap (λ b. by-pc b (get_or owns i d) (get_or others i d) (differ_lines (drop (i + 1) owns) (drop (i + 1) others)))
-    other
+    (not-so _ (λ same. other ((Decides-eqb (get_or owns i d).pc (get_or others i d).pc).0 same)))

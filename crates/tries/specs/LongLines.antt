@@ -1,5 +1,5 @@
 -- Lines that are too long are all answered alike: a lemma for the server of lines, which keeps a front of such a line.
-use Rattle.std.proofs.Common.{◌≡◌, ◌<◌, ◌&&◌, ℕ, List, Bool, true, false, refl, subst, sym, length}
+use Rattle.std.proofs.Common.{◌≡◌, ◌<◌, ℕ, List, Bool, false, subst, sym, length}
 use Rattle.std.proofs.lemmas.Bool.{lt-leb}
 use Rattle.std.specs.Prelude.{codes, not}
 use Rattle.std.specs.Bool.{MatchBool}

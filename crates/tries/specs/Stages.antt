@@ -1,7 +1,6 @@
 -- What a session of tries has left: its stage, and the text of its last reply.
 use Rattle.std.specs.Prelude.{List, ℕ, if◌then◌else◌}
 use Rattle.looks.specs.Views.{reply_of}
-use Rattle.looks.specs.declared.viewer.Viewer.{Viewer}
 use Rattle.replay_session.specs.Stages.{stage_of}
 use Rattle.tallies.specs.Tallied.{entries_of}
 use Rattle.tries.specs.Tries.{TriesStage}

@@ -33,10 +33,11 @@ class Unedited:
         return int(self.run.look("input")[0].split()[1])
 
 
-def default_step(end):
-    """Returns the step of a sweep for which none was asked, by the end of the unedited run, and a line that says why."""
+def default_step(end, run="the unedited run"):
+    """Returns the step of a sweep for which none was asked, by the end of its unedited run, and a line that says why. `run` is what that
+    run is called."""
     if end is None:
-        return USUAL_STEP, f"step {USUAL_STEP} by default: the unedited run doesn't end by step {LAST_STEP}"
+        return USUAL_STEP, f"step {USUAL_STEP} by default: {run} doesn't end by step {LAST_STEP}"
     step = min(LAST_STEP, max(LEAST, TIMES * end))
     bound = "" if step == TIMES * end else f", at least {LEAST}" if step == LEAST else f", at most {LAST_STEP}"
-    return step, f"step {step} by default: {TIMES} times the {end} steps of the unedited run{bound}"
+    return step, f"step {step} by default: {TIMES} times the {end} steps of {run}{bound}"

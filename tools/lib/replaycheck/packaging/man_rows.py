@@ -145,6 +145,12 @@ station.c        75/85  88.2%   43/62 69.4%    8/8 100.0%
     "page": (
         Example("A copy, to send or to serve:", "replaycheck page --output site | tail -n 1", "site/page: to serve\n"),
         Example("What is in it:", "ls site", "page\nreplaycheck.html\n")),
+    "search": (
+        Example("Inputs that lead to errors, from no input at all:",
+                "replaycheck search station.elf --jobs 1 --runs 20000 \\\n--out found >summary.txt 2>progress.txt", status=1),
+        Example("How many errors, leaks and stops that is:", "grep -c 'bytes is' summary.txt", "6\n"),
+        Example("The report of the first of them:",
+                "replaycheck run station.elf --input found/findings/01.input |\ngrep '^error'", "error 1: Invalid write of size 1\n")),
     "suppress": (
         Example("A suppression for the error of a report:", "replaycheck run ../use-after-free.elf | replaycheck suppress", """\
 {
@@ -192,6 +198,6 @@ SEE_ALSO = {
     "sweep": ("explore",), "certify": ("run", "origin"), "adopt": ("run", "word"), "compare": ("session", "lines"),
     "coverage": ("run", "look", "explore"),
     "explore": ("sweep", "certify"), "gdb": ("look", "session"), "lines": ("run", "talk"), "origin": ("certify", "when", "look"),
-    "page": ("session", "explore"), "suppress": ("run",), "talk": ("session", "lines"), "when": ("session", "look"),
-    "word": ("session", "lines"),
+    "page": ("session", "explore"), "search": ("explore", "coverage", "tries", "look"), "suppress": ("run",), "talk": ("session", "lines"),
+    "when": ("session", "look"), "word": ("session", "lines"),
 }

@@ -1,4 +1,4 @@
-use Rattle.std.proofs.Common.{◌≡◌, ℕ, ◌+◌, ◌*◌, ◌<◌, ◌≤◌, length, get_or}
+use Rattle.std.proofs.Common.{◌≡◌, ℕ, ◌*◌, ◌<◌, ◌≤◌, length, get_or}
 use Rattle.checkpoints.specs.declared.sides.Sides.{Sides}
 use Rattle.tries.specs.Merging.{again_in, either, new_in, sum_rows, unreached}
 use Rattle.tries.proofs.merging.merge.Given as goal

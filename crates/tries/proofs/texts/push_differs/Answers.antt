@@ -1,5 +1,5 @@
-use Rattle.std.proofs.Common.{◌≡◌, ◌+◌, ◌<◌, ◌≤◌, ◌++◌, ◌∙◌, [], List, ap, append_assoc, append_nil, arith, drop, get_or, length, sym}
-use Rattle.tries.specs.Tries.{differ_lines, pair_lines}
+use Rattle.std.proofs.Common.{◌+◌, ◌++◌, ◌∙◌, ap, append_assoc, append-nil, arith, drop, sym}
+use Rattle.tries.specs.Tries.{differ_lines}
 use Rattle.tries.proofs.DifferSteps.{other-ends, own-ends, pair-more, pair-stops}
 use Rattle.tries.proofs.texts.push_differs.Goals as goal
 
@@ -17,20 +17,20 @@ loop-i-preserved c =
 pub returns-else-own-i : goal.returns-else-own-i
 returns-else-own-i c =
     let out = c.loop-i.out.items in
-    sym (append_nil out)
+    sym (append-nil out)
     ∙ ap (λ ys. out ++ ys) (sym (pair-stops c.args.own.now c.args.other.now c.loop-i.i _ (omega arith) (omega arith)
     c.if-own-i.false)) ∙ c.loop-i.invariant
 
 pub returns-else-i-other : goal.returns-else-i-other
 returns-else-i-other c =
     let out = c.loop-i.out.items in
-    sym (append_nil out)
+    sym (append-nil out)
     ∙ ap (λ ys. out ++ ys) (sym (other-ends (drop c.loop-i.i c.args.own.now) c.args.other.now c.loop-i.i (omega arith)))
     ∙ c.loop-i.invariant
 
 pub returns-after-loop-i : goal.returns-after-loop-i
 returns-after-loop-i c =
     let out = c.loop-i.out.items in
-    sym (append_nil out)
+    sym (append-nil out)
     ∙ ap (λ ys. out ++ ys) (sym (own-ends c.args.own.now (drop c.loop-i.i c.args.other.now) c.loop-i.i (omega arith)))
     ∙ c.loop-i.invariant

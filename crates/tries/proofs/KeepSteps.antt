@@ -1,0 +1,48 @@
+-- What a session of tries holds from line to line, and leaves.
+use Rattle.std.proofs.Common.{◌≡◌, ◌⊎◌, ◌∙◌, List, ℕ, Some, subst, sym, inl, inr}
+use Rattle.std.specs.Prelude.{Result, Ok, Err, OnErr, OnOk}
+use Rattle.checkpoints.specs.Effects.{IsOfSetup}
+use Rattle.checkpoints.specs.declared.effect.Effect.{Effect}
+use Rattle.commands.specs.declared.fault.Fault.TheVariants.{Memory}
+use Rattle.looks.specs.Views.{Leaves}
+use Rattle.replay_session.specs.Stages.{Stage}
+use Rattle.replay_session.specs.Trying.{IsSeed}
+use Rattle.run_values.specs.declared.span.Span.{Span}
+use Rattle.scenario.specs.Scenario.{Scenario}
+use Rattle.tries.specs.Holding.{IsHeld}
+use Rattle.tries.specs.Tries.{LeavesBase, Refused, TriesStage}
+use Rattle.tries.specs.declared.trying.Held.{Held}
+
+-- a seed of a scenario's run is held for the same scenario
+pub held-is : (now sc : Scenario) (range at : Span) (effect : Effect) (held : Held) → now ≡ sc → at ≡ range
+    → held.effect ≡ effect → IsOfSetup effect → IsSeed sc effect range held.seed → IsHeld now at (Some held)
+held-is now sc range at effect held same there is of seed = (
+  subst IsOfSetup (sym is) of,
+  subst (λ s. IsSeed s held.effect at held.seed) (sym same)
+      (subst (λ r. IsSeed sc held.effect r held.seed) (sym there)
+      (subst (λ e. IsSeed sc e range held.seed) (sym is) seed)),
+)
+
+leaves-on : (a b c : Stage) → Leaves a b → Leaves b c → Leaves a c
+leaves-on a b c one two = record { turn = two.turn ∙ one.turn; short = two.short ∙ one.short }
+
+pub base-on : (a b c : TriesStage) → LeavesBase a b → LeavesBase b c → LeavesBase a c
+base-on a b c one two = record {
+  session = leaves-on a.session b.session c.session one.session two.session;
+  range = two.range ∙ one.range;
+}
+
+-- what was told, or that memory ran out
+pub told-so : {X E : Type 0} (done : Result X E) (old mid new : TriesStage) (shown reply : List ℕ)
+    (T : List ℕ → TriesStage → Type 0)
+    → OnOk done (T shown mid) → OnErr done ((mid.told ≡ old.told) × (mid.seen ≡ old.seen))
+    → OnOk done ((new ≡ mid) × (reply ≡ shown)) → OnErr done (Refused mid Memory reply new)
+    → T reply new ⊎ Refused old Memory reply new
+told-so (Ok x) old mid new shown reply T told kept same refused =
+    inl (subst (λ s. T reply s) (sym same.0) (subst (λ r. T r mid) (sym same.1) told))
+told-so (Err e) old mid new shown reply T told kept same refused =
+    inr (record {
+      replies = refused.replies;
+      told = refused.told ∙ kept.0;
+      seen = refused.seen ∙ kept.1;
+    })

@@ -1,0 +1,37 @@
+use Rattle.std.proofs.Common.{◌∙◌, ap, subst, sym}
+use Rattle.checkpoints.specs.Effects.{IsOfSetup}
+use Rattle.replay_session.proofs.TrySteps.{of-setup}
+use Rattle.replay_session.specs.Session.{scenario_of}
+use Rattle.replay_session.specs.Turns.{Turn}
+use Rattle.tries.specs.Stages.{stage_of_tries}
+use Rattle.tries.proofs.KeepSteps.{held-is}
+use Rattle.tries.proofs.trying.Tries.compare.Goals as goal
+
+pub take_seed-requires : goal.take_seed-requires
+take_seed-requires c =
+    subst IsOfSetup (sym c.effect-effect.ensures)
+    (of-setup (scenario_of c.args.self.now.viewer.session) c.args.edit c.requires.input)
+
+pub invariant_of-self-2 : goal.invariant_of-self-2
+unfolding stage_of_tries
+invariant_of-self-2 c =
+    let seed = c.in_ok-held.ensures.seed in
+    record {
+      seeded = held-is _ _ c.args.self.now.range _ c.effect-effect.result c.in_ok-held.held
+          (ap (λ (turn : Turn). turn.scenario) (c.compare_edit.ensures.turn ∙ c.take_seed.ensures.base.session.turn))
+          c.take_seed.ensures.base.range seed.0
+          (subst IsOfSetup (sym c.effect-effect.ensures)
+          (of-setup (scenario_of c.args.self.now.viewer.session) c.args.edit c.requires.input)) seed.1;
+    }
+
+pub invariant_of-self-in-Break-branch-3 : goal.invariant_of-self-in-Break-branch-3
+unfolding stage_of_tries
+invariant_of-self-in-Break-branch-3 c =
+    let seed = c.in_ok-held.ensures.seed in
+    record {
+      seeded = held-is _ _ c.args.self.now.range _ c.effect-effect.result c.in_ok-held.held
+          (ap (λ (turn : Turn). turn.scenario) (c.compare_edit.ensures.turn ∙ c.take_seed.ensures.base.session.turn))
+          c.take_seed.ensures.base.range seed.0
+          (subst IsOfSetup (sym c.effect-effect.ensures)
+          (of-setup (scenario_of c.args.self.now.viewer.session) c.args.edit c.requires.input)) seed.1;
+    }

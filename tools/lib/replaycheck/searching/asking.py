@@ -1,0 +1,129 @@
+"""The first work on an entry of the queue: which compares depend on which of its bytes, and the inputs that follow from that."""
+from __future__ import annotations
+
+from functools import partial
+from typing import List
+
+from .compares import Compares, Guard, parts_ways
+from .tries import EACH, LONGEST, NEWS, Pair, Reply
+
+MOST_ASKED = 1024  # bytes of an entry that are changed, from its begin on
+MORE = 24  # zero bytes after the end, which a program may read or not
+MOST_ROUNDS = 4  # repairs of one input
+MOST_SOLVED = 4096  # inputs of one entry
+CHANGE = 1  # the bit of a byte that is changed
+AHEAD = 64  # questions that go ahead of their replies
+
+
+class Repairs:
+    """Puts compares of an entry right again in inputs made of it, so that they come out equal: a magic number, a length, a sum."""
+
+    def __init__(self, worker, entry, tries):
+        self.worker, self.tries = worker, tries
+        self.guards: List[Guard] = entry.guards
+        self.steps = frozenset(it.step for it in self.guards)
+
+    def begin(self, content: bytes, how: str, unrepaired="", then=None):
+        """Tries an input once it is repaired. One that needs no repair is tried if `unrepaired` says how it was made. `then` gets the input
+        with each reply, if it is there."""
+        self.ask(content, partial(self.tried, how, unrepaired, then))
+
+    def ask(self, content: bytes, then, rounds=0):
+        """Repairs an input. `then` gets it with the compares that differ, and how many repairs it needed."""
+        self.worker.differ(self.tries, content, partial(self.replied, then, rounds), self.steps)
+
+    def replied(self, then, rounds: int, content: bytes, pairs: List[Pair]):
+        if rounds < MOST_ROUNDS:
+            made = self.repaired(content, pairs)
+            if made is not None:
+                self.ask(made, then, rounds + 1)
+                return
+        then(content, pairs, rounds)
+
+    def repaired(self, content: bytes, pairs: List[Pair]):
+        """The input with the first compare put right that has to be."""
+        found = {it.step: it for it in pairs}
+        for guard in self.guards:
+            pair = found.get(guard.step)
+            made = guard.repaired(content, pair) if pair and pair.others[0] != pair.others[1] else None
+            if made is not None and made != content and len(made) <= self.worker.most:
+                return made
+        return None
+
+    def tried(self, how: str, unrepaired: str, then, content: bytes, _, rounds: int):
+        if rounds or unrepaired:
+            self.worker.attempt(self.tries, content, how if rounds else unrepaired, then, EACH if then else NEWS)
+
+
+class Asking:
+    """Asks for the compares of an entry, and tries what follows."""
+
+    def __init__(self, worker, entry):
+        self.worker, self.entry = worker, entry
+        self.tries = worker.tries_for(entry.content)
+        self.content, self.has_same_way = entry.content, False
+        self.parting: List[int] = []  # the bytes whose change leads elsewhere
+
+    def work(self):
+        self.tries.set_base(self.entry.content)
+        self.lengthen()
+        self.tries.set_base(self.content)
+        self.compares = Compares(self.content)
+        self.change_each()
+        self.entry.guards = self.compares.guards()
+        repairs = Repairs(self.worker, self.entry, self.tries)
+        if repairs.guards:
+            for offset in self.parting:
+                repairs.ask(self.changed(offset), partial(self.repaired, offset))
+                self.worker.settle(self.tries, AHEAD)
+            self.worker.settle(self.tries)
+        for it in self.compares.tokens():
+            self.worker.mutations.add(it)
+        for number, made in enumerate(self.compares.solved(self.worker.most)):
+            if number == MOST_SOLVED:
+                break
+            if self.tries.length is None or len(made) == self.tries.length:
+                self.worker.attempt(self.tries, made, "compare", partial(self.solved, repairs), EACH)
+                self.worker.settle(self.tries, AHEAD)
+        self.worker.settle(self.tries)
+
+    def lengthen(self):
+        """Appends zero bytes to the input if they don't change which way the run takes: compares may depend on them."""
+        longer = self.content + bytes(MORE)
+        if self.tries.length is None and len(longer) <= min(self.worker.most, LONGEST):
+            self.worker.attempt(self.tries, longer, "compare")
+            self.worker.differ(self.tries, longer, self.lengthened)
+            self.worker.settle(self.tries)
+
+    def lengthened(self, content: bytes, pairs: List[Pair]):
+        if not any(parts_ways(self.worker.code, it) for it in pairs):
+            self.content = content
+
+    def changed(self, offset: int) -> bytes:
+        made = bytearray(self.content)
+        made[offset] ^= CHANGE
+        return bytes(made)
+
+    def change_each(self):
+        """Changes a bit of each byte, and the length."""
+        for offset in range(min(len(self.content), MOST_ASKED)):
+            self.worker.differ(self.tries, self.changed(offset), partial(self.replied, offset))
+            self.worker.settle(self.tries, AHEAD)
+        if self.tries.length is None and len(self.content) < min(self.worker.most, LONGEST):
+            self.worker.differ(self.tries, self.content + (self.content[-1:] or b"\0"), lambda _, pairs: self.compares.add_longer(pairs))
+        self.worker.settle(self.tries)
+
+    def replied(self, offset: int, content: bytes, pairs: List[Pair]):
+        self.compares.add(offset, content[offset] - self.content[offset], pairs)
+        if any(parts_ways(self.worker.code, it) for it in pairs):
+            self.parting.append(offset)
+
+    def repaired(self, offset: int, content: bytes, pairs: List[Pair], rounds: int):
+        """Adds what the change of a byte moves after a compare that was put right."""
+        if rounds:
+            self.compares.add(offset, content[offset] - self.content[offset], pairs)
+
+    def solved(self, repairs: Repairs, content: bytes, reply: Reply):
+        """A solved input that leads to nothing new may need a repair."""
+        if not reply.is_news and repairs.guards:
+            repairs.begin(content, "repair")

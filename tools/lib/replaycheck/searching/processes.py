@@ -1,0 +1,123 @@
+"""The processes of a search: workers, and what they report."""
+from __future__ import annotations
+
+import json
+import os
+import selectors
+from typing import Callable, Iterator, List, Tuple
+
+from replaycheck import children as child_processes
+from replaycheck.endings import Fault, Interrupted, Starting, children, end_children, signal, undisturbed
+from replaycheck.exploring.lines import shown_name
+
+from .worker import Over
+
+AT_ONCE = 1 << 16  # bytes of one read
+
+
+class Forked(child_processes.Child):
+    """A worker, which is a copy of this process. It ends when a signal ends this one. `stdout` is the pipe of its reports."""
+
+    def __init__(self, work: Callable, unneeded: List[int]):
+        self.status, self.unread = None, b""
+        told, tells = os.pipe()
+        self.pid = os.fork()
+        if not self.pid:
+            status = 1
+            try:
+                for number in (told, *unneeded):
+                    os.close(number)
+                children.clear()
+                Leaving().begin()
+                status = obey(work, tells)
+            finally:
+                os._exit(status)
+        os.close(tells)
+        self.stdout = open(told, "rb", buffering=0)
+
+
+class Leaving:
+    """How a worker obeys signals: it ends where the first process of the search ends it, once. What a terminal sends to all processes is
+    for the first one."""
+
+    is_on = False
+
+    def begin(self):
+        for number in (signal.SIGINT, signal.SIGHUP):
+            signal.signal(number, signal.SIG_IGN)
+        signal.signal(signal.SIGTERM, self.leave)
+        if Starting.come is not None:  # since before it was a process of its own
+            raise Interrupted(Starting.come)
+        Starting.is_on = False
+
+    def leave(self, number, _):
+        if self.is_on:
+            return
+        self.is_on = True
+        if Starting.is_on:
+            Starting.come = number
+        else:
+            raise Interrupted(number)
+
+
+def obey(work: Callable, tells: int) -> int:
+    """Does the work of a worker. What keeps it from that is reported."""
+    def tell(*values):
+        content = json.dumps(values).encode("ascii") + b"\n"
+        try:
+            while content:
+                content = content[os.write(tells, content):]
+        except BrokenPipeError:
+            raise Over from None
+    try:
+        try:
+            work(tell)
+        except Fault as fault:
+            tell("fault", str(fault), fault.said)
+        except OSError as fault:
+            named = f"{shown_name(os.fspath(fault.filename))}: " if fault.filename else ""
+            tell("fault", f"{named}{fault.strerror or fault}", "")
+        except MemoryError:
+            tell("fault", "out of memory", "")
+    except (Interrupted, Over):
+        pass
+    end_children()
+    return 0
+
+
+class Workers:
+    """Workers that run side by side. `works` has what each does, given a function that tells this process something."""
+
+    def __init__(self, works: List[Callable], unneeded: List[int]):
+        self.selector = selectors.DefaultSelector()
+        self.running: List[Forked] = []
+        for work in works:
+            others = [it.stdout.fileno() for it in self.running]
+            undisturbed(lambda: children.append(Forked(work, [*unneeded, *others])))
+            self.running.append(children[-1])
+            self.selector.register(children[-1].stdout, selectors.EVENT_READ, (len(others), children[-1]))
+
+    def messages(self, patience: float) -> Iterator[Tuple[int, list]]:
+        """What workers report within some seconds: of each its number, and the message."""
+        for key, _ in self.selector.select(patience):
+            number, worker = key.data
+            content = os.read(worker.stdout.fileno(), AT_ONCE)
+            if not content:
+                self.end(worker)
+                continue
+            *lines, worker.unread = (worker.unread + content).split(b"\n")
+            yield from ((number, json.loads(line)) for line in lines)
+
+    def end(self, worker: Forked):
+        self.selector.unregister(worker.stdout)
+        worker.stdout.close()
+        self.running.remove(worker)
+        status = worker.wait()
+        children.remove(worker)
+        if status:
+            raise Fault(f"a worker ended with {f'signal {-status}' if status < 0 else f'status {status}'}")
+
+    def stop(self):
+        """Has the workers end. They report how far they are first."""
+        for it in self.running:
+            it.terminate()

@@ -1,0 +1,98 @@
+"""What test-search searches in: programs in C, and command lines that are rejected."""
+
+# A program by itself: `call` is a call of the environment, and `read_all` reads the input. Each one below has a `main`, by whose value it
+# exits.
+START = """static long call(long number, long a, long b, long c)
+{
+    register long a0 __asm__("a0") = a, a1 __asm__("a1") = b, a2 __asm__("a2") = c, a7 __asm__("a7") = number;
+    __asm__ volatile("ecall" : "+r"(a0) : "r"(a1), "r"(a2), "r"(a7) : "memory");
+    return a0;
+}
+static unsigned char given[8192];
+static int read_all(void)
+{
+    int count = 0, more;
+    while ((more = call(63, 0, (long)given + count, sizeof given - count)) > 0)
+        count += more;
+    return count;
+}
+static int main(void);
+void _start(void) { call(93, main(), 0, 0); }
+"""
+# A packet: a word, a length, a sum, and records, one kind of which reads where nothing is.
+PACKET = START + """
+static unsigned at16(int at) { return given[at] << 8 | given[at + 1]; }
+static int main(void)
+{
+    int at, count = read_all();
+    unsigned sum = 0;
+    if (count < 8 || (given[0] | given[1] << 8 | given[2] << 16 | (unsigned)given[3] << 24) != 0x7a3c91e5 || at16(4) != count - 8)
+        return 2;
+    for (at = 8; at < count; at++)
+        sum += given[at];
+    if ((sum & 0xffff) != at16(6))
+        return 3;
+    for (at = 8; at + 4 <= count;) {
+        unsigned kind = at16(at), size = at16(at + 2);
+        at += 4;
+        if (size > count - at)
+            return 4;
+        if (kind == 0x41b7 && size >= 2)
+            return *(volatile int *)(0x1000 + given[at]);
+        at += size;
+    }
+    return 0;
+}
+"""
+HANGS = START + "static int main(void) { read_all(); for (;;) given[0]++; }\n"
+NEVER_READS = START + "static int main(void) { return 3; }\n"
+# Inputs for which a line has no room.
+FAR = START + """
+static int main(void)
+{
+    if (read_all() != 5000)
+        return 1;
+    return given[700] == 0x5a && given[701] == 0xa5 ? *(volatile int *)16 : 0;
+}
+"""
+PROGRAMS = {"packet": PACKET, "hangs": HANGS, "never": NEVER_READS, "far": FAR}
+
+# What a search of the station finds from eight zero bytes: how each text begins, and a function of its trace.
+STATION = (("Invalid write of size 1", "set_name"), ("Invalid read of size 1", "show"), ("Conditional jump", "show"),
+           ("Invalid read of size 2", "add_level"), ("Invalid read of size 2", "show"), ("definitely lost", "add_limits"))
+
+# A label, the arguments after the file, and what standard error says.
+REJECTED = (
+    ("no number of runs", ["--runs=0"], "--runs: '0' is not a number from 1 to"),
+    ("no time", ["--time=x"], "--time: 'x' is not a number from 1 to"),
+    ("too long inputs", ["--max-len=65537"], "--max-len: '65537' is not a number from 1 to 65536"),
+    ("no length", ["--max-len=0"], "--max-len: '0' is not a number from 1 to 65536"),
+    ("a step too late", ["--step=4194305"], "--step: '4194305' is not a number from 0 to 4194304"),
+    ("a seed that isn't there", ["--input=missing"], "missing: No such file or directory"),
+    ("a folder without a file", ["--input=empty-folder"], "--input: no file in empty-folder"),
+    ("tokens that aren't there", ["--tokens=missing"], "missing: No such file or directory"),
+    ("no token", ["--tokens=no-token"], 'line 2: no token as name="text" of 1 to 64 bytes: name=text'),
+    ("another escape", ["--tokens=other-escape"], r'line 1: no token as name="text" of 1 to 64 bytes: "\q"'),
+    ("an output over the program", ["--lcov=station.elf"], "--lcov station.elf: it would overwrite the program"),
+    ("a folder that is a file", ["--out=zeros"], "zeros: "),
+    ("an empty goal", ["--goal="], "an option without a value"),
+    ("an unknown option", ["--jbos=2"], "unrecognized arguments: --jbos=2"),
+    ("suppressions that aren't any", ["--supp=no-token"], "suppressions refused 13"),
+)
+
+# What compares say and what follows: a label, an input, what a change of the byte at an offset does to a compare (step, address, the two
+# operands, and the operands of the other run; the offset None is a byte more at the end), and some inputs that are solved for.
+SOLVED = (
+    ("a word, the lowest byte first", "0000", {0: "7 1 0 1234 1 1234", 1: "7 1 0 1234 100 1234"}, ["3412", "3512", "3312"]),
+    ("a word, the highest byte first", "0000", {0: "7 1 0 1234 100 1234", 1: "7 1 0 1234 1 1234"}, ["1234", "1235", "1233"]),
+    ("the other operand", "0000", {1: "7 1 41 0 41 1"}, ["0041", "0042", "0040"]),
+    ("a byte that gets smaller", "0100", {0: "7 1 1 20 0 20"}, ["2000"]),
+    ("something is added to it", "0500", {0: "7 1 35 41 34 41"}, ["1100"]),
+    ("a carry", "ff00", {0: "7 1 1ff 200 1fe 200", 1: "7 1 1ff 200 2ff 200"}, ["0001", "0101"]),
+    ("a byte that has no room", "0000", {0: "7 1 0 200 1 200"}, []),
+    ("a length", "0000", {None: "7 1 2 5 3 5"}, ["0000000000", "000000000000", "00000000"]),
+    ("a length in other units", "0000", {None: "7 1 8 10 c 10"}, ["00000000"]),
+    ("the last compare first", "0000", {0: "7 1 0 41 1 41", 1: "9 2 0 42 1 42"}, ["0042", "0043", "0041", "4100"]))
+# Tokens: the text of a line, and its bytes, or None if it is rejected.
+TOKENS = ((b'"a"', b"a"), (b'name="a b"', b"a b"), (b'n@3="\\x00\\xff"', b"\0\xff"), (b'"\\\\\\""', b'\\"'), (b'"a" # no', None),
+          (b'""', None), (b'"\\x0"', None), (b'"a', None), (b'a', None), (b'"' + b"a" * 65 + b'"', None))
