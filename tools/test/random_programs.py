@@ -1,4 +1,4 @@
-"""Random programs, for compare-with-twin, test-sweep-table, test-look and test-gdb."""
+"""Random programs, for compare-with-twin, test-sweep-table, test-look, test-tries and test-gdb."""
 import random
 from typing import NamedTuple
 
