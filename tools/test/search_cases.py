@@ -44,6 +44,22 @@ static int main(void)
     return 0;
 }
 """
+# A request that writes registers from 100 on. Its number of registers is compared with the greatest one, with its number of bytes and
+# with the end of the registers. The first input that gets past the first two has the greatest number, which is too great for the third.
+REGISTERS = START + """
+static int at16(int at) { return given[at] << 8 | given[at + 1]; }
+static int main(void)
+{
+    if (read_all() < 8 || given[0] != 23)
+        return 1;
+    int number = at16(1), bytes = given[3], first = at16(4) - 100;
+    if (number < 1 || number > 121 || bytes != number * 2)
+        return 2;
+    if (first + number > 10)
+        return 3;
+    return first < 0 ? *(volatile int *)16 : 0;
+}
+"""
 HANGS = START + "static int main(void) { read_all(); for (;;) given[0]++; }\n"
 NEVER_READS = START + "static int main(void) { return 3; }\n"
 # Inputs for which a line has no room.
@@ -55,7 +71,7 @@ static int main(void)
     return given[700] == 0x5a && given[701] == 0xa5 ? *(volatile int *)16 : 0;
 }
 """
-PROGRAMS = {"packet": PACKET, "hangs": HANGS, "never": NEVER_READS, "far": FAR}
+PROGRAMS = {"packet": PACKET, "registers": REGISTERS, "hangs": HANGS, "never": NEVER_READS, "far": FAR}
 
 # What a search of the station finds from eight zero bytes: how each text begins, and a function of its trace.
 STATION = (("Invalid write of size 1", "set_name"), ("Invalid read of size 1", "show"), ("Conditional jump", "show"),

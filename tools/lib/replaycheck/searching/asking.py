@@ -2,7 +2,7 @@
 from __future__ import annotations
 
 from functools import partial
-from typing import List
+from typing import FrozenSet, List
 
 from .compares import Compares, Guard, parts_ways
 from .tries import EACH, LONGEST, NEWS, Pair, Reply
@@ -13,38 +13,40 @@ MOST_ROUNDS = 4  # repairs of one input
 MOST_SOLVED = 4096  # inputs of one entry
 CHANGE = 1  # the bit of a byte that is changed
 AHEAD = 64  # questions that go ahead of their replies
+Kept = FrozenSet[int]
 
 
 class Repairs:
-    """Puts compares of an entry right again in inputs made of it, so that they come out equal: a magic number, a length, a sum."""
+    """Puts compares of an entry right again in inputs made of it, so that they come out equal: a magic number, a length, a sum. `kept` are
+    offsets of bytes that a repair leaves as they are: it would only take back what was changed."""
 
     def __init__(self, worker, entry, tries):
         self.worker, self.tries = worker, tries
         self.guards: List[Guard] = entry.guards
         self.steps = frozenset(it.step for it in self.guards)
 
-    def begin(self, content: bytes, how: str, unrepaired="", then=None):
+    def begin(self, content: bytes, how: str, unrepaired="", then=None, kept: Kept = frozenset()):
         """Tries an input once it is repaired. One that needs no repair is tried if `unrepaired` says how it was made. `then` gets the input
         with each reply, if it is there."""
-        self.ask(content, partial(self.tried, how, unrepaired, then))
+        self.ask(content, partial(self.tried, how, unrepaired, then), kept)
 
-    def ask(self, content: bytes, then, rounds=0):
+    def ask(self, content: bytes, then, kept: Kept, rounds=0):
         """Repairs an input. `then` gets it with the compares that differ, and how many repairs it needed."""
-        self.worker.differ(self.tries, content, partial(self.replied, then, rounds), self.steps)
+        self.worker.differ(self.tries, content, partial(self.replied, then, kept, rounds), self.steps)
 
-    def replied(self, then, rounds: int, content: bytes, pairs: List[Pair]):
+    def replied(self, then, kept: Kept, rounds: int, content: bytes, pairs: List[Pair]):
         if rounds < MOST_ROUNDS:
-            made = self.repaired(content, pairs)
+            made = self.repaired(content, pairs, kept)
             if made is not None:
-                self.ask(made, then, rounds + 1)
+                self.ask(made, then, kept, rounds + 1)
                 return
         then(content, pairs, rounds)
 
-    def repaired(self, content: bytes, pairs: List[Pair]):
+    def repaired(self, content: bytes, pairs: List[Pair], kept: Kept):
         """The input with the first compare put right that has to be."""
         found = {it.step: it for it in pairs}
         for guard in self.guards:
-            pair = found.get(guard.step)
+            pair = found.get(guard.step) if kept.isdisjoint(guard.parts.values()) else None
             made = guard.repaired(content, pair) if pair and pair.others[0] != pair.others[1] else None
             if made is not None and made != content and len(made) <= self.worker.most:
                 return made
@@ -74,7 +76,7 @@ class Asking:
         repairs = Repairs(self.worker, self.entry, self.tries)
         if repairs.guards:
             for offset in self.parting:
-                repairs.ask(self.changed(offset), partial(self.repaired, offset))
+                repairs.ask(self.changed(offset), partial(self.repaired, offset), frozenset([offset]))
                 self.worker.settle(self.tries, AHEAD)
             self.worker.settle(self.tries)
         for it in self.compares.tokens():
@@ -126,4 +128,5 @@ class Asking:
     def solved(self, repairs: Repairs, content: bytes, reply: Reply):
         """A solved input that leads to nothing new may need a repair."""
         if not reply.is_news and repairs.guards:
-            repairs.begin(content, "repair")
+            kept = frozenset(at for at, (one, other) in enumerate(zip(content, self.content)) if one != other)
+            repairs.begin(content, "repair", kept=kept)
