@@ -1,4 +1,5 @@
 """Files that are written whole or not at all."""
+import contextlib
 import os
 import stat
 import tempfile
@@ -41,5 +42,6 @@ def write_whole(path, content, rights):
         os.chmod(beside, rights)
         os.replace(beside, target)
     except BaseException:
-        os.unlink(beside)
+        with contextlib.suppress(FileNotFoundError):  # an interrupt may come once the file has its name
+            os.unlink(beside)
         raise
