@@ -5,6 +5,7 @@ import os
 import re
 from typing import Dict, Iterator, List, Optional, Set, Tuple
 
+from replaycheck.endings import undisturbed
 from replaycheck.whole_files import rights_of_new, write_whole
 
 QUEUE = "queue"
@@ -69,7 +70,8 @@ def read(path: str, most: int) -> Optional[bytes]:
 
 
 def write(folder: str, name: str, content: bytes):
-    write_whole(os.path.join(folder, name), content, rights_of_new())
+    """Writes a file of a search. A signal waits for that, so that nothing else is left."""
+    undisturbed(lambda: write_whole(os.path.join(folder, name), content, rights_of_new()))
 
 
 class Folders:

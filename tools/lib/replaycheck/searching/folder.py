@@ -9,7 +9,6 @@ from typing import Iterator, List, Tuple
 from replaycheck.endings import Fault
 from replaycheck.exploring.lines import shown_name
 from replaycheck.sessions import Session
-from replaycheck.whole_files import rights_of_new, write_whole
 
 from .entries import QUEUE, files_in, name_of_seed, read, write
 from .tries import LONGEST, span
@@ -104,7 +103,7 @@ class Folder:
         parts = {"input": finding.content, "session": text_of(lines), "report": text_of(report),
                 "text": text_of([finding.text, *([finding.address] if finding.address else [])])}
         for suffix, content in parts.items():
-            write_whole(self.finding(f"{finding.name}.{suffix}"), content, rights_of_new())
+            write(os.path.join(self.own, FINDINGS), f"{finding.name}.{suffix}", content)
 
 
 def text_of(lines: List[str]) -> bytes:

@@ -8,7 +8,8 @@ import time
 from typing import Dict, List, Optional
 
 from replaycheck.exploring.summary import counted
-from replaycheck.whole_files import rights_of_new, write_whole
+
+from .entries import write as write_file
 
 STATS, PLOT = "fuzzer_stats", "plot_data"
 PLOT_HEAD = ("# relative_time, cycles_done, cur_item, corpus_count, pending_total, pending_favs, map_size, saved_crashes, saved_hangs, "
@@ -113,7 +114,7 @@ class State:
         if self.folder is None or not is_last and now - self.written_at < BETWEEN:
             return
         self.written_at = now
-        write_whole(os.path.join(self.folder, STATS), self.stats().encode("utf-8", "surrogateescape"), rights_of_new())
+        write_file(self.folder, STATS, self.stats().encode("utf-8", "surrogateescape"))
         path = os.path.join(self.folder, PLOT)
         is_new = not os.path.exists(path)
         with open(path, "a", encoding="ascii") as file:
