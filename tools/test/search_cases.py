@@ -44,6 +44,34 @@ static int main(void)
     return 0;
 }
 """
+# The same front, and two records that depend on each other: the second one knows a secret, and counts only after the first one.
+SECRET = START + """
+static unsigned at16(int at) { return given[at] << 8 | given[at + 1]; }
+static unsigned at32(int at) { return given[at] | given[at + 1] << 8 | given[at + 2] << 16 | (unsigned)given[at + 3] << 24; }
+static int main(void)
+{
+    int at, has_name = 0, count = read_all();
+    unsigned sum = 0;
+    if (count < 8 || at32(0) != 0x6b21f09d || at16(4) != count - 8)
+        return 2;
+    for (at = 8; at < count; at++)
+        sum += given[at];
+    if ((sum & 0xffff) != at16(6))
+        return 3;
+    for (at = 8; at + 4 <= count;) {
+        unsigned kind = at16(at), size = at16(at + 2);
+        at += 4;
+        if (size > count - at)
+            return 4;
+        if (kind == 0x3e95)
+            has_name = 1;
+        else if (kind == 0x5c02 && size >= 4 && has_name && at32(at) == 0xd15ea5e7)
+            return *(volatile int *)16;
+        at += size;
+    }
+    return 0;
+}
+"""
 # A request that writes registers from 100 on. Its number of registers is compared with the greatest one, with its number of bytes and
 # with the end of the registers. The first input that gets past the first two has the greatest number, which is too great for the third.
 REGISTERS = START + """
@@ -71,7 +99,7 @@ static int main(void)
     return given[700] == 0x5a && given[701] == 0xa5 ? *(volatile int *)16 : 0;
 }
 """
-PROGRAMS = {"packet": PACKET, "registers": REGISTERS, "hangs": HANGS, "never": NEVER_READS, "far": FAR}
+PROGRAMS = {"packet": PACKET, "secret": SECRET, "registers": REGISTERS, "hangs": HANGS, "never": NEVER_READS, "far": FAR}
 
 # What a search of the station finds from eight zero bytes: how each text begins, and a function of its trace.
 STATION = (("Invalid write of size 1", "set_name"), ("Invalid read of size 1", "show"), ("Conditional jump", "show"),
