@@ -3,21 +3,23 @@ import { $, element, say } from './dom.js';
 import { grouped, hexByte, letter, many } from './numbers.js';
 
 const BESIDE = 8;  // rows that are made above and below the view
-const WIDE = 16, NARROW = 8;  // bytes of a row
+const EACH = 8;  // bytes by which rows differ, where they aren't all in one row
+const LEAST = 17, MOST = 40;  // pixels of a byte in the only row
 const TALL = 21;  // pixels of a row, until one is measured
 const HEX = /^[0-9a-fA-F]$/;
 
 export class Bytes {
-  // `edit` takes the scenario after an edit, and its series; `tell` gives what is said of a byte.
-  constructor({ edit, tell }) {
-    Object.assign(this, { edit, tell, here: 0, read: 0, scenario: null, wide: WIDE, tall: TALL });
+  // `edit` takes the scenario after an edit, and its series; `tell` gives what is said of a byte; `moved` is called when bytes have other
+  // places.
+  constructor({ edit, tell, moved }) {
+    Object.assign(this, { edit, tell, moved, here: 0, read: 0, scenario: null, wide: EACH, tall: TALL, isOneRow: false });
     this.grid = $('bytes');
     this.rows = element('div', { role: 'rowgroup' });
     this.grid.append(this.rows);
     this.grid.addEventListener('scroll', () => this.render());
     this.grid.addEventListener('keydown', (event) => this.key(event));
-    this.grid.addEventListener('pointerdown', (event) => this.point(event, true));
-    this.grid.addEventListener('pointermove', (event) => this.point(event, false));
+    this.grid.addEventListener('pointerdown', (event) => this.touch(event, true));
+    this.grid.addEventListener('pointermove', (event) => this.touch(event, false));
     this.grid.addEventListener('pointerleave', () => this.tellOf(this.here));
     $('value').addEventListener('input', () => this.set(Number($('value').value)));
     $('value').addEventListener('change', () => this.beginSeries());
@@ -31,28 +33,55 @@ export class Bytes {
     this.digit = null;
   }
 
-  // As many bytes in a row as there is room for.
+  // All bytes in one row if there is room for it, with their letters below, or else as many in each as there is room for.
   fit() {
-    const [row] = this.rows.children;
-    if (!row) return;
+    const [row] = this.rows.children, { length } = this.scenario ?? { length: 0 };
+    if (!row || !this.grid.clientWidth) return;
+    const room = this.grid.clientWidth - row.firstElementChild.getBoundingClientRect().width, was = [this.wide, this.isOneRow, this.each];
+    this.isOneRow = length * LEAST <= room;
+    this.each = this.isOneRow ? Math.min(MOST, room / length) : null;
+    this.grid.classList.toggle('one-row', this.isOneRow);
+    this.grid.style.setProperty('--byte', this.isOneRow ? `${this.each}px` : '');
+    this.wide = this.isOneRow ? length : this.fitting(row, room);
     this.tall = row.getBoundingClientRect().height || TALL;
-    const [offset, cell, letters] = [row.firstElementChild, row.children[1], row.lastElementChild]
-      .map((it) => it.getBoundingClientRect().width);
-    const each = cell + letters / (row.children.length - 2);
-    const wide = offset + WIDE * each <= this.grid.clientWidth ? WIDE : NARROW;
-    if (wide === this.wide) return;
-    this.wide = wide;
+    if (was.join() === [this.wide, this.isOneRow, this.each].join()) return;
     this.pick(this.here);
+    this.moved();
+  }
+
+  // How many bytes a row has room for, with their letters beside them if there is room for these too.
+  fitting(row, room) {
+    this.grid.classList.remove('bare');
+    const [byte, letter] = [row.children[1], row.lastElementChild.firstElementChild].map((it) => it.getBoundingClientRect().width);
+    const groups = Math.floor((room - byte / 2) / (byte + letter) / EACH);
+    this.grid.classList.toggle('bare', !groups);
+    return EACH * Math.max(1, groups);
+  }
+
+  // Where a number of bytes begins and ends, in pixels from the left of the grid, null unless they are all bytes and in one row.
+  ends(count) {
+    const cells = this.rows.firstElementChild?.querySelectorAll('[role=gridcell]') ?? [];
+    if (!this.isOneRow || cells.length !== count) return null;
+    const { left } = this.grid.getBoundingClientRect();
+    return [cells[0].getBoundingClientRect().left - left, cells[count - 1].getBoundingClientRect().right - left];
+  }
+
+  // Shows which byte another part points at.
+  point(at) {
+    this.pointed = at;
+    this.rows.querySelector('.pointed')?.classList.remove('pointed');
+    this.rows.querySelector(`#byte-${at}`)?.classList.add('pointed');
   }
 
   show(scenario, read) {
     if (scenario === this.scenario && read === this.read) return;
     Object.assign(this, { scenario, read });
     this.here = Math.max(0, Math.min(this.here, scenario.length - 1));
-    this.render();
-    this.tellOf(this.here);
     const has = scenario.length > 0;
-    for (const it of ['input-help', 'bytes', 'value-row']) $(it).hidden = !has;
+    for (const it of ['bytes', 'value-row']) $(it).hidden = !has;
+    this.render();
+    this.fit();
+    this.tellOf(this.here);
     $('cut').disabled = !has;
     say('input-told', `${grouped(read)} of ${many(scenario.length, 'byte')} read`);
   }
@@ -74,20 +103,20 @@ export class Bytes {
     const begin = number * this.wide, end = Math.min(begin + this.wide, this.scenario.length);
     const cells = [];
     for (let at = begin; at < end; at++) cells.push(this.cell(at));
-    const letters = cells.map((_, i) => letter(this.scenario.byte(begin + i))).join('');
+    const letters = cells.map((_, i) => element('span', {}, letter(this.scenario.byte(begin + i))));
     return element('div', { role: 'row', 'aria-rowindex': number + 1 },
       element('span', { className: 'offset', role: 'rowheader' }, begin.toString(16).padStart(5, '0')), ...cells,
-      element('span', { className: 'letters', 'aria-hidden': 'true' }, letters));
+      element('span', { className: 'letters', 'aria-hidden': 'true' }, ...letters));
   }
 
   cell(at) {
     const value = this.scenario.byte(at), isEdited = this.scenario.isEdited(at);
-    const names = [at >= this.read && 'unread', isEdited && 'edited', at === this.here && 'here'];
+    const names = [at >= this.read && 'unread', isEdited && 'edited', at === this.here && 'here', at === this.pointed && 'pointed'];
     const was = isEdited && at < this.scenario.base.length ? `, was ${hexByte(this.scenario.base[at])}` : '';
     const told = `byte ${at}: ${hexByte(value)}${was}${at >= this.read ? ', not read' : ''}`;
     const cell = element('span', { role: 'gridcell', id: `byte-${at}`, className: names.filter(Boolean).join(' '),
       'aria-label': told, 'aria-selected': at === this.here }, value.toString(16).padStart(2, '0'));
-    cell.dataset.at = at;
+    Object.assign(cell.dataset, { at, letter: letter(value) });
     return cell;
   }
 
@@ -103,7 +132,7 @@ export class Bytes {
     this.tellOf(this.here);
   }
 
-  point(event, isPressed) {
+  touch(event, isPressed) {
     const at = event.target.dataset?.at;
     if (at === undefined) return;
     if (isPressed) this.pick(Number(at));

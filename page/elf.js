@@ -16,7 +16,7 @@ export class Elf {
     this.functions = [];
     this.functionNames = new Set();
     this.labelNames = new Set();
-    this.left = MOST_NAMED;
+    Object.assign(this, { left: MOST_NAMED, flags: 0 });
     try {
       this.read();
     } catch (fault) {
@@ -41,6 +41,7 @@ export class Elf {
   read() {
     if (this.word(0) !== MAGIC || this.bytes.length < HEADER) return;
     const [segments, sections] = [this.word(28), this.word(32)];
+    this.flags = this.word(36);
     const [segmentSize, segmentCount, sectionSize, sectionCount, names] = [42, 44, 46, 48, 50].map((at) => this.half(at));
     for (let i = 0; i < segmentCount; i++) this.readSegment(segments + i * segmentSize);
     for (let i = 0; i < sectionCount; i++) {
@@ -55,8 +56,8 @@ export class Elf {
   }
 
   readSegment(at) {
-    const [kind, offset, address, , inFile, size] = [0, 1, 2, 3, 4, 5].map((field) => this.word(at + 4 * field));
-    if (kind === LOADED) this.segments.push({ offset, address, inFile, size });
+    const [kind, offset, address, physical, inFile, size] = [0, 1, 2, 3, 4, 5].map((field) => this.word(at + 4 * field));
+    if (kind === LOADED) this.segments.push({ offset, address, physical, inFile, size });
   }
 
   readSymbols(table) {

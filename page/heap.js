@@ -18,7 +18,7 @@ export function unseenIn(elf, isa) {
   others.push(...HEAP_NAMES.filter((it) => elf.labelNames.has(it)).map((it) => `${it} (a label, not typed as a function)`));
   if (!others.length) return '';
   const names = others.slice(0, MOST_NAMED).join(', ') + (others.length > MOST_NAMED ? ', ..' : '');
-  return `The file has no function malloc, free, calloc or realloc, but ${names}. \`replaycheck adopt\` maps such names.`;
+  return `The file has no function malloc, free, calloc or realloc, but ${names}. \`replaycheck adopt FILE -o OUT\` maps such names.`;
 }
 
 // The same of a run up to a step: one that makes a block has a heap that is seen.

@@ -1,8 +1,10 @@
 // The page: holds the scenario and the step, asks sessions for reports, and has the parts of the page show them.
+import { regionAdvice } from './boards.js';
 import { Bytes } from './bytes.js';
 import { Code } from './code.js';
-import { $, say } from './dom.js';
+import { $, element, say } from './dom.js';
 import { Edits } from './edits.js';
+import { Elf } from './elf.js';
 import { ERROR_KINDS, LAST_STEP, LEAK_KINDS, MODULE_SUM } from './facts.js';
 import { History } from './history.js';
 import { isaIn, isaLines, unitOf } from './isa.js';
@@ -13,11 +15,13 @@ import { Opening } from './opening.js';
 import { loadModule, makeWorker } from './resources.js';
 import { parseReport } from './report.js';
 import { Reports } from './reports.js';
+import { Roving } from './roving.js';
 import { NoEdit } from './scenario.js';
-import { notLoaded, sentence } from './sentences.js';
+import { meetsRegion, notLoaded, sentence } from './sentences.js';
 import { Refused } from './sessions.js';
 import { Search, Steps } from './steps.js';
 import { SweepPart } from './sweep-part.js';
+import { Verdict } from './verdict.js';
 
 const words = new URLSearchParams(location.search);
 const LIMIT = Number(words.get('memory')) || 1 << 30;  // bytes that a session may take
@@ -25,7 +29,10 @@ const WORKERS = Number(words.get('workers')) || navigator.hardwareConcurrency ||
 const SHORT_RUN = 100000;  // steps of a run whose edits are all made as it is opened
 const QUIET = 300;  // milliseconds after an edit, before landmarks are searched and the link is changed
 const LONG = 600;  // milliseconds after which work is told, with a button that stops it
-const PARTS = ['step', 'input', 'report', 'edits', 'code', 'machine', 'picture'];
+const PARTS = ['step', 'input', 'report', 'edits', 'code', 'machine'];
+// Parts that are one stop of the Tab key each, and what a row is in them.
+const ROVING = [['examples', 'nav'], ['landmarks', 'div'], ['legend-rows'], ['chips', 'li'], ['report', 'li, p'], ['code-rows'],
+  ['registers', 'li'], ['bits', '#bits'], ['memory-rows']];
 const CHANGES_NOTHING = /^(?:#.*|report|worked|)$/;  // lines of a text that are no edits
 const BEYOND_STEPS = 5;  // the number with which a session refuses a step
 
@@ -39,24 +46,28 @@ class App {
     const refuse = (text, how) => this.notice(text, how);
     const make = (...edit) => this.make(...edit);
     this.opening = new Opening({ open: (files, how) => this.open(files, how), refuse });
-    this.bytes = new Bytes({ edit, tell: (at) => this.byteTold(at) });
+    this.bytes = new Bytes({ edit, tell: (at) => this.byteTold(at), moved: () => this.sweeps?.picture.draw() });
     const alter = (line) => this.edit(this.scenario.after(line));
     this.code = new Code({ edit, alter, refuse });
     this.machine = new Machine({ look: (lines) => this.opened.session.replies(this.shown.scenario, this.shown.step, lines),
       again: () => this.showMachine(), alter, refuse, showPc: (pc, step) => this.code.showPc(pc, step),
       visit: (address) => this.code.visit(address) });
     this.reports = new Reports({ lineOf: (address) => this.opened.lineOf(address), visit: (address) => this.code.visit(address),
-      suppress: (text) => this.edit(this.scenario.withSuppression(text)), kinds: { errors: ERROR_KINDS, leaks: LEAK_KINDS },
-      isa: () => this.opened.isa });
+      suppress: (text) => this.edit(this.scenario.withSuppression(text)), kinds: { errors: ERROR_KINDS, leaks: LEAK_KINDS } });
+    this.verdict = new Verdict({ lineOf: (address) => this.opened.lineOf(address), isa: () => this.opened.isa, go: (step) => this.go(step),
+      showPicture: () => { $('picture').scrollIntoView({ block: 'center' }); $('picture').focus({ preventScroll: true }); } });
     this.steps = new Steps({ go: (step) => this.go(step), most: LAST_STEP });
     this.edits = new Edits({ edit, clear: () => this.edit(this.opened.plain), use: (text) => this.use(text), refuse,
       tell: (text) => this.notice(text, 'good'),
       link: async () => new URL(await this.opening.link(this.lines), location.href).href,
       text: () => [...isaLines(this.opened.isa), ...this.lines, ''].join('\n') });
     const state = () => ({ program: this.opened.program, lineOf: this.opened.lineOf, scenario: this.scenario, step: this.step,
-      range: this.code.range, instructionsIn: (...ends) => this.code.instructionsIn(...ends), isEnd: this.step === this.opened.follow });
+      plain: this.opened.plain, range: this.code.range, name: this.code.shown?.name,
+      instructionsIn: (...ends) => this.code.instructionsIn(...ends), isEnd: this.step === this.opened.follow });
     this.sweeps = new SweepPart({ state, make, refuse, fail: (fault) => this.notice(sentence(fault, LIMIT)),
-      told: () => this.bytes.tellOf(this.bytes.here), makeWorker, workers: WORKERS });
+      told: () => this.showCounts(), makeWorker, workers: WORKERS, ends: (count) => this.bytes.ends(count),
+      pointed: (at) => this.bytes.point(at) });
+    for (const it of ROVING) new Roving(...it);
     this.listen();
     say('sum', `The program’s module: SHA-256 ${MODULE_SUM}`);
     $('unstarted').remove();
@@ -67,6 +78,7 @@ class App {
     $('redo').addEventListener('click', () => this.travel(1));
     $('stop-report').addEventListener('click', () => { for (const it of [this.opened, this.judged]) it?.stop(); });
     addEventListener('hashchange', () => this.opening.follow(location.hash));
+    addEventListener('pagehide', () => this.keep());
     addEventListener('keydown', (event) => {
       const isText = /^(?:INPUT|TEXTAREA)$/.test(event.target.tagName) && !/^(?:range|checkbox)$/.test(event.target.type);
       const key = event.key.toLowerCase();
@@ -113,9 +125,15 @@ class App {
       if (wanted === this.wanted) return opened;
       opened.close();
     } catch (fault) {
-      if (wanted === this.wanted) this.unusable(fault instanceof NotLoaded ? fault.message : sentence(fault, LIMIT));
+      if (wanted === this.wanted) this.unusable(fault instanceof NotLoaded ? fault.message : this.rejected(fault, files.program));
     }
     return null;
+  }
+
+  // What to say of a file that is rejected, with the command that cures it.
+  rejected(fault, { bytes, name }) {
+    const told = sentence(fault, LIMIT);
+    return meetsRegion(fault) ? `${told} ${regionAdvice(new Elf(bytes), name)}` : told;
   }
 
   unusable(text) {
@@ -161,9 +179,7 @@ class App {
     this.history = history;
     this.showTravel();
     this.notice(text);
-    say('verdict', 'No report.');
-    for (const it of ['before', 'time']) say(it, '');
-    $('verdict').className = '';
+    this.verdict.clear('No report.');
     this.showParts(false);
   }
 
@@ -173,6 +189,16 @@ class App {
     $('main').inert = false;
     $('example-told').hidden = !are || !this.opening.example;
     $('heap-told').hidden = !are || !this.opened.heap;
+    $('board-told').hidden = !are || !this.opened.board;
+  }
+
+  // Shows what stands between a board's file and a checked run: a sentence, the instruction sets that are offered, and a command.
+  showBoard() {
+    const { text, sets, command } = this.opened.board ?? { text: '', sets: [], command: '' };
+    say('board-text', text);
+    $('board-sets').replaceChildren(...sets.map((it) => element('button', { onclick: () => this.opening.again(it) }, it)));
+    say('board-more', sets.length || !text.endsWith(':') ? 'This command says all that is in the way:' : '');
+    say('board-command', command);
   }
 
   async begin(scenario, lines = []) {
@@ -181,6 +207,7 @@ class App {
     say('example-told', this.opening.example?.about ?? '');
     if (this.opening.example) $('goal').value = this.opening.example.goal ?? '';
     say('heap-told', opened.heap);
+    this.showBoard();
     this.showParts(true);
     const title = [files.program, files.input].filter(Boolean).map((it) => it.name).join(' with ');
     document.title = `${title} — replaycheck`;
@@ -188,6 +215,8 @@ class App {
     this.code.open(opened, scenario);
     this.machine.open();
     if (lines.length) this.use(lines.join('\n'));
+    const [edited] = [...this.scenario.changes.keys()].sort((a, b) => a - b);
+    if (edited !== undefined) this.bytes.pick(edited);
     const were = left === 1 ? 'was' : 'were';
     if (left) this.notice(`${many(left, 'edit')} didn’t fit and ${were} left out. Undo brings back what was open.`);
     await this.refresh();
@@ -214,6 +243,7 @@ class App {
 
   edit(scenario, series) {
     this.notice('');
+    this.opening.edited();
     this.history.add(scenario, series);
     this.show(scenario);
   }
@@ -231,8 +261,14 @@ class App {
     this.code.show(scenario);
     this.edits.show(scenario, Math.min(this.step, this.steps.last));
     this.sweeps.showOf();
-    this.bytes.tellOf(this.bytes.here);
+    this.showCounts();
     this.showTravel();
+  }
+
+  // Shows what is known of the edits of the run.
+  showCounts() {
+    this.bytes.tellOf(this.bytes.here);
+    if (this.shown) this.verdict.count(this.sweeps.counted, this.sweeps.countedBefore(this.step));
   }
 
   showTravel() {
@@ -360,10 +396,13 @@ class App {
     const { step, report, unedited, time } = this.shown;
     const isLast = step === this.opened.follow, runsOn = report.state.startsWith('running');
     const at = `at step ${grouped(report.step)}`, where = isLast ? (runsOn ? `${at}, still running` : 'at the end of the run') : at;
-    this.reports.show(report, unedited, { time, where, isLast });
+    this.reports.show(report, unedited, where);
+    this.verdict.show(report, unedited, { fresh: this.reports.groups.filter((it) => it.how === 'new'), time, isLast });
+    this.verdict.certify('');
     this.showScenario();
     this.lookAtNew();
     this.showMachine();
+    if (this.opened.last <= SHORT_RUN) this.certify();
     clearTimeout(this.timer);
     this.timer = setTimeout(() => this.settle(), QUIET);
   }
@@ -376,6 +415,17 @@ class App {
     } catch (fault) {
       const isWanted = shown === this.shown && shown.scenario === this.scenario && shown.step === this.step;
       if (turn === this.turn && isWanted) this.notice(sentence(fault, LIMIT));
+    }
+  }
+
+  // Asks the program whether uninitialised memory has an influence on what is shown.
+  async certify() {
+    const { shown, opened } = this;
+    try {
+      const [line] = await opened.session.replies(shown.scenario, shown.step, ['look certify']);
+      if (shown === this.shown && shown.scenario === this.scenario && shown.step === this.step) this.verdict.certify(line.trimEnd());
+    } catch {
+      // Memory that runs out, or a run that is no longer wanted: then nothing is said of it.
     }
   }
 
@@ -392,7 +442,10 @@ class App {
     const { scenario, opened, turn } = this;
     const link = await this.opening.link(this.lines);
     if (turn !== this.turn) return;
-    history.replaceState(null, '', link);
+    if (!this.opening.wanted) {
+      history.replaceState(null, '', link);
+      this.keep();
+    }
     if (opened.last <= SHORT_RUN && !words.has('still')) this.sweeps.follow();
     if (this.marked === scenario) return;
     this.marked = scenario;
@@ -408,6 +461,11 @@ class App {
     }
   }
 
+  // Keeps the scenario for the next visit, once something is open that no link or storage waits for.
+  keep() {
+    if (this.opened && this.shown && !this.opening.wanted) this.opening.keep(this.lines);
+  }
+
   // What is told of a byte.
   byteTold(at) {
     const value = this.scenario.byte(at), was = this.scenario.base[at];
@@ -419,3 +477,4 @@ class App {
 const app = new App();
 globalThis.replaycheck = app;  // for tests
 if (location.hash.length > 1) app.opening.follow(location.hash);
+else if (!words.has('empty')) app.opening.first();

@@ -1,6 +1,7 @@
 // What is opened: files by their roles, the program over them, its sessions, and the reports of its unedited run.
 import { LAST_STEP } from './facts.js';
 import { Elf } from './elf.js';
+import { boardAdvice } from './boards.js';
 import { unseenHeap } from './heap.js';
 import { sourceLines } from './lines.js';
 import { parseReport } from './report.js';
@@ -35,6 +36,7 @@ export class Opened {
     this.last = await endOf(async (step) => isRunning(await this.reportBefore(step)), LAST_STEP);
     this.follow = Math.min(LAST_STEP, 4 * this.last + BEYOND);
     this.heap = await unseenHeap(this.program, this.last);
+    this.board = boardAdvice({ elf: this.elf, isa: this.isa, name: this.files.program.name }, await this.reportBefore(this.last));
     return this;
   }
 

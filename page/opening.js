@@ -3,12 +3,15 @@ import { $, element } from './dom.js';
 import { EXAMPLES } from './examples.js';
 import { ISAS } from './facts.js';
 import { USUAL } from './isa.js';
+import { Kept } from './kept.js';
+import { packed, unpacked } from './links.js';
 import { listed, many, size } from './numbers.js';
 
 const ELF = [0x7f, 0x45, 0x4c, 0x46];
 const ROLES = ['program', 'input', 'supp'];
 const SUM_DIGITS = 16;
 const LARGEST = 1 << 26;  // bytes, far more than the program takes of any file
+const FIRST = { name: 'station', lines: ['input 1 8'] };  // what a page begins with: an example with an edit
 
 const bytesOf = (text) => Uint8Array.from(atob(text), (it) => it.charCodeAt(0));
 const isElf = (bytes) => ELF.every((it, index) => bytes[index] === it);
@@ -28,16 +31,15 @@ const hasFiles = (event) => event.dataTransfer?.types.includes('Files');
 export class Opening {
   // `open` takes files by their roles, each with a name and bytes, and gives whether they were opened; `refuse` a sentence.
   constructor({ open, refuse }) {
-    Object.assign(this, { open, refuse, files: {}, example: null, isa: USUAL });
+    Object.assign(this, { open, refuse, files: {}, example: null, isa: USUAL, wanted: null, kept: new Kept() });
+    this.isForgotten = false;
     for (const role of ROLES) {
       $(`open-${role}`).addEventListener('change', (event) => this.chosen(role, event.target));
     }
     $('isa').append(...ISAS.map((it) => element('option', { value: it }, it)));
     $('isa').addEventListener('change', () => this.again($('isa').value));
-    $('example').append(...EXAMPLES.map((it) => element('option', { value: it.name }, it.name)));
-    $('example').addEventListener('change', () => $('example').value && this.choose($('example').value));
-    $('examples').append(...EXAMPLES.map((it) => element('button', { onclick: () => this.choose(it.name) },
-      element('strong', {}, it.name), element('span', {}, it.about))));
+    $('examples').append(...EXAMPLES.map(({ name, about }) => element('button', { title: about, onclick: () => this.choose(name) }, name)));
+    for (const id of ['forget', 'start-over']) $(id).addEventListener('click', () => this.forget(id === 'start-over'));
     const over = (is) => document.body.classList.toggle('over', is);
     addEventListener('dragover', (event) => { if (hasFiles(event)) { event.preventDefault(); over(true); } });
     addEventListener('dragleave', (event) => { if (!event.relatedTarget) over(false); });
@@ -86,12 +88,29 @@ export class Opening {
     this.refuse(`${names} will be used with the next program. Open one: an ELF file for RV32IM, as the linker writes it.`, 'good');
   }
 
+  // Opens what a page begins with: what was kept, or an example.
+  async first() {
+    const { text } = this.kept, name = new URLSearchParams(text ?? '').get('example');
+    if (!text || (name !== null && !EXAMPLES.some((it) => it.name === name))) return this.choose(FIRST.name, FIRST.lines);
+    await this.follow(`#${text}`, 'You left off with');
+    $('kept-told').hidden = false;
+    return undefined;
+  }
+
+  // Throws away what is kept, and begins with the example where one wants to start over.
+  forget(isAnew) {
+    this.kept.keep(null);
+    this.isForgotten = true;
+    $('kept-told').hidden = true;
+    if (isAnew) this.choose(FIRST.name, FIRST.lines);
+    else this.refuse('Nothing is kept in this browser now. The next edit is kept again.', 'good');
+  }
+
   async choose(name, lines, isa = null) {
     const example = EXAMPLES.find((it) => it.name === name);
     const files = { program: { name: example.program, bytes: bytesOf(example.programBytes) } };
     if (example.inputBytes !== undefined) files.input = { name: example.input, bytes: bytesOf(example.inputBytes) };
     await this.begin(files, { lines, example, isa: isa ?? example.isa ?? USUAL });
-    $('example').value = this.example?.name ?? '';
   }
 
   // Opens the files that are there for another instruction set, and uses lines; without a program, that waits for one.
@@ -109,54 +128,82 @@ export class Opening {
   }
 
   async begin(files, { lines, example = null, isa = this.isa }) {
+    if (example) this.wanted = null;
     const isWanted = this.wanted && files[this.wanted.last];
     const used = lines ?? (isWanted ? this.wanted.lines : undefined);
     const notice = this.wanted && used ? await this.differing(files) : '';
     if (!await this.open(files, { lines: used, example, isa: isWanted ? this.wanted.isa : isa })) return;
     if (used) this.wanted = null;
     if (notice && files === this.files) this.refuse(notice);
+    if (this.wanted) this.refuse(`Still missing is ${this.missing(files)}`);
   }
 
   // Notes what is open now.
   hold(files, example, isa) {
-    Object.assign(this, { files, example, isa });
+    Object.assign(this, { files, example, isa, isForgotten: false });
     $('isa').value = isa;
-    $('example').value = example?.name ?? '';
+    for (const it of $('examples').children) it.setAttribute('aria-pressed', it.textContent === example?.name);
   }
 
   // ---- links
 
   async link(lines) {
+    for (const it of Object.values(this.example ? {} : this.files)) it.sum ??= await sumOf(it.bytes);
+    return packed(`#${this.wordsOf(lines, true)}`);
+  }
+
+  // An edit is made: what a link waited for isn't wanted any more, and what is open is kept.
+  edited() { Object.assign(this, { wanted: null, isForgotten: false }); }
+
+  // Keeps what is open, unless it is what a page begins with, or was just thrown away.
+  keep(lines) {
+    if (this.isForgotten) return;
+    const isFirst = this.example?.name === FIRST.name && lines.join() === FIRST.lines.join();
+    this.kept.keep(isFirst ? null : this.wordsOf(lines, false));
+  }
+
+  // What is open as the words of a link: an example, or the names of files, with checksums where that is wanted; and the lines.
+  wordsOf(lines, hasSums) {
     const words = new URLSearchParams();
     if (this.example) words.set('example', this.example.name);
     else {
       for (const [role, it] of Object.entries(this.files)) {
         words.set(role, it.name);
-        words.set(`${role}-sum`, it.sum ??= await sumOf(it.bytes));
+        if (hasSums) words.set(`${role}-sum`, it.sum);
       }
     }
     if (this.isa !== (this.example?.isa ?? USUAL)) words.set('isa', this.isa);
     if (lines.length) words.set('lines', lines.join('\n'));
-    return `#${words}`;
+    return `${words}`;
   }
 
   // Opens what a link names, or asks for its files.
-  async follow(hash) {
+  async follow(link, about = 'This link is about') {
+    const hash = await unpacked(link);
+    if (hash === null) return this.refuse('This link is damaged: a part of it is missing, or something else is in it.');
     const words = new URLSearchParams(hash.slice(1));
     const lines = (words.get('lines') ?? '').split('\n').filter(Boolean);
     const example = words.get('example'), isa = words.get('isa');
-    if (isa !== null && !this.check(isa)) return;
+    if (isa !== null && !this.check(isa)) return undefined;
     if (example) {
       if (EXAMPLES.some((it) => it.name === example)) await this.choose(example, lines, isa);
       else this.refuse(`There is no example “${example}” here.`);
     } else if (words.get('program')) {
       const roles = ROLES.filter((it) => words.has(it));
-      this.wanted = { lines, isa: isa ?? USUAL, roles, last: roles.at(-1), sums: roles.map((it) => words.get(`${it}-sum`)) };
-      const names = roles.map((it) => `“${words.get(it)}”`).join(' with ');
-      const what = roles.length > 1 ? 'these files' : 'this file';
-      const then = lines.length ? `, and its ${many(lines.length, 'line')} ${lines.length === 1 ? 'is' : 'are'} used` : '';
-      this.refuse(`This link is about ${names}. Open ${what}${then}.`);
+      const names = Object.fromEntries(roles.map((it) => [it, words.get(it)]));
+      this.wanted = { lines, isa: isa ?? USUAL, roles, names, last: roles.at(-1), sums: roles.map((it) => words.get(`${it}-sum`)) };
+      this.refuse(`${about} ${this.missing()}`);
     }
+    return undefined;
+  }
+
+  // Which files a link wants that aren't among those there are, and what is done then.
+  missing(files = {}) {
+    const { roles, names, lines } = this.wanted, left = roles.filter((it) => !files[it]);
+    const told = listed(left.map((it) => `“${names[it]}”`), 'and');
+    const [these, them] = left.length > 1 ? ['these files', 'them'] : ['this file', 'it'];
+    const then = lines.length ? `, and ${many(lines.length, 'line')} of the scenario ${lines.length === 1 ? 'is' : 'are'} used` : '';
+    return `${told}. Drop ${these} here, or open ${them}${then}.`;
   }
 
   // What to say where a file isn't the one that a link was made with.

@@ -1,9 +1,12 @@
-// The picture of a sweep: a column for each place, or for several where they are many, a row for each value, a colour for each
-// outcome.
+// The picture of a sweep: a column for each place, or for several where they are many, a row for each value, a colour for each kind of
+// outcome. Its columns are below the bytes, if these are in one row.
+import { hatch, inkOn } from './colours.js';
 import { $, say } from './dom.js';
 import { Legend } from './legend.js';
+import { Lens } from './lens.js';
 import { hexByte, hexWord, hexadecimal, many } from './numbers.js';
 import { Outcomes } from './outcomes.js';
+import { editLine } from './scenario.js';
 import { indexOf, lengthAt, placeAt, placesOf, valuesOf } from './sweeping.js';
 
 const MOST_COLUMNS = 1000, LEAST_MARK = 3;
@@ -11,20 +14,30 @@ const EDGES = [0, 1, 0x7f, 0x80, 0xff];
 const EDGE_NAMES = ['0', '1', '0x7f', '0x80', '0xff', '+1', '−1'];
 const DRAW_EVERY = 150;  // milliseconds
 const MOST_TOLD = 3;
-const LEFT = 46, BELOW = 20;  // pixels beside and below the cells, for what the axes say
+const LEFT = 46, BELOW = 18;  // pixels beside and below the cells, for what the axes say
+const FAINT = 0.18;  // how much is left of an outcome's colour while one points at another one
+const LEAST_LABEL = 11;  // pixels of a cell that has room for a number
 const LEAST_APART = 90;  // pixels between two places that are named
 const DARK = matchMedia('(prefers-color-scheme: dark)');
 
 const within = (at, count) => Math.max(0, Math.min(count - 1, at));
 
 export class Picture {
-  // `make` makes an edit: a kind, a place and a value; `otherRun` tells which run the picture is of, where another one is shown.
-  constructor({ make, otherRun }) {
-    Object.assign(this, { make, otherRun, canvas: $('picture') });
+  // `make` makes an edit: a kind, a place and a value; `otherRun` tells which run the picture is of, where another one is shown; `ends`
+  // gives where the bytes begin and end, in pixels from the left, if there is this number of them and they are in one row; `pointed` takes the
+  // byte that one points at.
+  constructor({ make, otherRun, ends, pointed }) {
+    Object.assign(this, { make, otherRun, ends, pointed, canvas: $('picture') });
     this.legend = new Legend({ make, changed: () => this.draw() });
     this.canvas.addEventListener('pointermove', (event) => this.point(event));
-    this.canvas.addEventListener('click', (event) => { this.point(event); this.choose(); });
+    this.canvas.addEventListener('click', (event) => {
+      this.point(event);
+      if (!this.lens.isTouched(event)) this.choose();
+    });
+    this.lens = new Lens(this);
+    $('picture-make').addEventListener('click', () => this.choose());
     this.canvas.addEventListener('keydown', (event) => this.key(event));
+    for (const it of ['pointerleave', 'blur']) this.canvas.addEventListener(it, () => this.pointed(null));
     for (const it of ['focus', 'blur']) this.canvas.addEventListener(it, () => this.draw());
     new ResizeObserver(() => this.draw()).observe(this.canvas);
     DARK.addEventListener('change', () => this.show());
@@ -36,7 +49,7 @@ export class Picture {
     Object.assign(this, { swept: null, cells: [], here: { column: 0, row: 0 }, timer: null });
     this.legend.clear();
     say('picture-told', '');
-    $('picture-parts').hidden = true;
+    $('picture-parts').hidden = $('picture-make').hidden = true;
   }
 
   // Begins with a sweep. `before` gives the value at a place of the run that is swept; `goal` is the text of a goal, or empty.
@@ -60,6 +73,8 @@ export class Picture {
     this.empty();
     this.more(true);
   }
+
+  get isDark() { return DARK.matches; }
 
   get isOfBytes() { return this.swept.asked.kind === 'bytes'; }
 
@@ -100,7 +115,7 @@ export class Picture {
     this.timer = null;
     if (!this.swept?.outcomes.length) return;
     this.draw();
-    this.legend.show(this.outcomes, this.colours);
+    this.legend.show(this.outcomes, this.looks);
     this.tell();
   }
 
@@ -109,22 +124,26 @@ export class Picture {
     this.canvas.width = Math.max(1, Math.round(box.width * scale));
     this.canvas.height = Math.max(1, Math.round(box.height * scale));
     if (!this.swept?.outcomes.length) return;
-    const on = this.canvas.getContext('2d'), fresh = [];
-    this.colours = this.outcomes.colours(DARK.matches);
+    const on = this.canvas.getContext('2d'), fresh = [], isDark = DARK.matches;
+    this.looks = this.outcomes.looks(isDark);
+    this.hatches = new Map();
     this.cells.forEach((cell, index) => {
       if (!cell || this.legend.hidden.has(cell.number)) return;
       if (this.outcomes.isMarked(cell.number)) fresh.push([cell, index]);
       else this.fill(on, cell, index, 0);
     });
     for (const [cell, index] of fresh) this.fill(on, cell, index, LEAST_MARK * scale);
+    on.globalAlpha = 1;
     this.axes(on, scale);
     this.outline(on, scale);
+    this.lens.draw();
   }
 
-  // Where the cells are, in pixels of the canvas.
+  // Where the cells are, in pixels of the canvas: below the bytes, if these are in one row and each has a column.
   get field() {
-    const scale = devicePixelRatio || 1;
-    return { left: LEFT * scale, wide: this.canvas.width - LEFT * scale, tall: this.canvas.height - BELOW * scale };
+    const scale = devicePixelRatio || 1, isWhole = this.isOfBytes && this.columns === this.count;
+    const [left, right] = (isWhole && this.ends(this.count)) || [LEFT, this.canvas.width / scale];
+    return { left: left * scale, wide: (right - left) * scale, tall: this.canvas.height - BELOW * scale };
   }
 
   box(index) {
@@ -145,13 +164,13 @@ export class Picture {
       const y = (row + .5) * tall / this.rows;
       on.fillText(name, left - 5 * scale, Math.max(7 * scale, Math.min(tall - 5 * scale, y)), left - 6 * scale);
     }
-    if (this.isOfBytes) on.fillText('byte', left - 5 * scale, tall + BELOW * scale / 2, left - 6 * scale);
+    if (this.isOfBytes) on.fillText('byte', left - 5 * scale, tall + (BELOW + 2) * scale / 2, left - 6 * scale);
     on.textAlign = 'center';
     const each = Math.max(1, Math.ceil(LEAST_APART * scale * this.columns / wide));
     for (let column = 0; column < this.columns; column += each) {
       const x = Math.max(left + 12 * scale, left + (column + .5) * wide / this.columns), at = this.firstOf(column);
       const name = this.isOfBytes ? `${at}` : hexWord(at);
-      on.fillText(name, Math.min(x, this.canvas.width - 30 * scale), tall + BELOW * scale / 2);
+      on.fillText(name, Math.min(x, this.canvas.width - 30 * scale), tall + (BELOW + 2) * scale / 2);
     }
   }
 
@@ -172,8 +191,26 @@ export class Picture {
     let [x, y, wide, tall] = this.box(index);
     if (wide < least) [x, wide] = [x - (least - wide) / 2, least];
     if (tall < least) [y, tall] = [y - (least - tall) / 2, least];
-    on.fillStyle = this.colours[cell.number];
+    const look = this.looks[cell.number], { pointed } = this.legend;
+    on.globalAlpha = !pointed || pointed.includes(cell.number) ? 1 : FAINT;
+    on.fillStyle = look.isHatched ? this.hatchOf(on, look.colour) : look.colour;
     on.fillRect(Math.floor(x), Math.floor(y), Math.ceil(wide), Math.ceil(tall));
+    if (look.label) this.label(on, look, [x, y, wide, tall]);
+  }
+
+  hatchOf(on, colour) {
+    if (!this.hatches.has(colour)) this.hatches.set(colour, hatch(on, colour, DARK.matches, devicePixelRatio || 1));
+    return this.hatches.get(colour);
+  }
+
+  // The number of an outcome, if its cell has room for it.
+  label(on, { colour, label }, [x, y, wide, tall]) {
+    const size = LEAST_LABEL * (devicePixelRatio || 1);
+    if (wide < size || tall < size) return;
+    on.fillStyle = colour;
+    on.fillRect(x + (wide - size) / 2, y + (tall - size) / 2, size, size);
+    Object.assign(on, { font: `${size * .9}px sans-serif`, fillStyle: inkOn(colour), textAlign: 'center', textBaseline: 'middle' });
+    on.fillText(label, x + wide / 2, y + tall / 2);
   }
 
   outline(on, scale) {
@@ -189,19 +226,28 @@ export class Picture {
   get cell() { return this.cells[this.here.column * this.rows + this.here.row]; }
 
   tell() {
-    if (!this.swept?.outcomes.length) return;
+    if (!this.swept?.outcomes.length) return undefined;
     const { cell } = this, { asked } = this.swept;
     if (!cell) {
+      const { column, row } = this.here;
+      if (this.isOwn) return say('picture-told', `byte ${column + asked.first} has this value, ${hexByte(row)}, itself`);
       const columns = this.isOfBytes ? 'bytes of the input' : asked.code ? 'instructions of the function' : 'words of the function';
-      say('picture-told', `Columns: ${columns}. Rows: values. Point at one, or move by arrow keys; a click or Enter makes the edit.`);
-      return;
+      return say('picture-told', `Columns: ${columns}. Rows: values. Point, or press arrow keys; a click or Enter makes the edit.`);
     }
     const valueName = this.isOfBytes ? hexByte : (value) => hexadecimal(value, 2 * lengthAt(asked, cell.at));
     const place = this.isOfBytes ? `byte ${cell.at}` : hexWord(cell.at);
     const shares = this.count > this.columns ? ', the worst of its column' : '';
-    const other = this.otherRun(), now = other ? 'there' : 'now';
+    const other = this.otherRun(), now = other ? 'there' : 'now', label = this.looks?.[cell.number]?.label;
     const edit = `${place} as ${valueName(cell.value)} (${now} ${valueName(this.before(cell.at))})`;
-    say('picture-told', `${other}${edit}${shares}: ${this.outcomes.told(cell.number)}`);
+    say('picture-told', `${other}${edit}${shares}: ${label ? `(${label}) ` : ''}${this.outcomes.told(cell.number, true)}`);
+    say('picture-make', editLine(asked.kind, cell.at, cell.value, lengthAt(asked, cell.at)));
+    return undefined;
+  }
+
+  // Whether the place that one points at is the value that a byte has.
+  get isOwn() {
+    const { asked, places } = this.swept, at = asked.first + this.here.column;
+    return this.isOfBytes && asked.values === 'all' && this.columns === this.count && places.has(at) && this.before(at) === this.here.row;
   }
 
   // What the sweep said of a byte's values, in few words.
@@ -226,12 +272,18 @@ export class Picture {
 
   point(event) {
     if (!this.swept) return;
-    const box = this.canvas.getBoundingClientRect();
-    const part = (at, whole, count) => within(Math.floor(at / whole * count), count);
-    this.here = { column: part(event.clientX - box.left - LEFT, box.width - LEFT, this.columns),
-      row: part(event.clientY - box.top, box.height - BELOW, this.rows) };
+    const box = this.canvas.getBoundingClientRect(), scale = devicePixelRatio || 1, { left, wide, tall } = this.field;
+    const part = (at, whole, count) => within(Math.floor(at * scale / whole * count), count);
+    const column = part(event.clientX - box.left - left / scale, wide, this.columns);
+    this.here = { column, row: part(event.clientY - box.top, tall, this.rows) };
     this.snap();
     this.tell();
+    this.showByte();
+  }
+
+  // Shows the byte that one points at.
+  showByte() {
+    if (this.isOfBytes) this.pointed(this.firstOf(this.here.column));
   }
 
   // A new outcome is drawn larger than its cell, and so it is met beside it.
@@ -257,6 +309,7 @@ export class Picture {
       this.here = { column: within(this.here.column + x, this.columns), row: within(this.here.row + y, this.rows) };
       this.draw();
       this.tell();
+      this.showByte();
     } else return;
     event.preventDefault();
   }

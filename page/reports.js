@@ -1,32 +1,19 @@
 // The report in place: what is new against the unedited run first, with source lines behind the frames.
 import { $, element, say } from './dom.js';
-import { hasAtomics, nameOf, unitOf } from './isa.js';
-import { grouped, hexWord, many, milliseconds } from './numbers.js';
-import { compared, stateOf, suppressionOf } from './report.js';
+import { grouped, hexWord, many } from './numbers.js';
+import { compared, suppressionOf } from './report.js';
 
 const BADGES = { new: 'new', changed: 'changed', gone: 'gone' };
-const STATES = {
-  jump: () => 'jumped to where no memory is', break: () => 'met an EBREAK', illegal: (isa) => `met no instruction of ${nameOf(isa)}`,
-  misaligned: (isa, address) => (hasAtomics(isa) && address % unitOf(isa) === 0
-    ? 'met an atomic instruction whose address is no multiple of 4' : `jumped to an address that is no multiple of ${unitOf(isa)}`),
-};
 const MOST_GROUPS = 200;
 
-function stateWords({ name, rest, address }, isa) {
-  if (name === 'exited') return `exited with ${rest}`;
-  if (name === 'running') return `running at ${rest}`;
-  return `stopped: ${STATES[rest.split(' ')[0]]?.(isa, address) ?? rest}, at ${hexWord(address)}`;
-}
-
 export class Reports {
-  // `lineOf` tells the source line of an address; `visit` shows its code; `suppress` takes a suppression's text; `isa` tells for
-  // which instruction set the run is.
-  constructor({ lineOf, visit, suppress, kinds, isa }) {
-    Object.assign(this, { lineOf, visit, suppress, kinds, isa });
+  // `lineOf` tells the source line of an address; `visit` shows its code; `suppress` takes a suppression's text.
+  constructor({ lineOf, visit, suppress, kinds }) {
+    Object.assign(this, { lineOf, visit, suppress, kinds });
   }
 
-  // `where` tells where in the run the reports are, its own and that of the unedited run; `isLast` whether nothing comes after.
-  show(report, unedited, { time, where, isLast }) {
+  // `where` tells where in the run the reports are, its own and that of the unedited run.
+  show(report, unedited, where) {
     const groups = this.groups = compared(report, unedited);
     const hidden = groups.length - MOST_GROUPS;
     $('report').replaceChildren(
@@ -36,31 +23,6 @@ export class Reports {
       this.sums(report, unedited));
     say('report-text', report.text);
     say('report-told', where);
-    say('time', `answered in ${milliseconds(time)}`);
-    const fresh = groups.filter((it) => it.how === 'new').length;
-    const [now, before] = [report, unedited].map((it) => this.inShort(it));
-    say('verdict', fresh ? `${now} · ${grouped(fresh)} new` : now);
-    say('before', before === now ? '' : `unedited: ${before}`);
-    $('verdict').className = this.howGood(report, unedited, isLast);
-  }
-
-  // A run that goes on where it should have ended is no good one, whatever it has reported so far.
-  howGood(report, unedited, isLast) {
-    const [now, before] = [report, unedited].map((it) => stateOf(it).name);
-    if (report.errors || report.sums['definitely lost'].bytes || now === 'stopped') return 'bad';
-    return now === 'running' && (isLast || before !== 'running') ? 'open' : 'good';
-  }
-
-  // How the run stands, in one line.
-  inShort(report) {
-    const state = stateOf(report), line = state.address === null ? null : this.lineOf(state.address);
-    const lost = report.sums['definitely lost'].bytes;
-    const words = [
-      stateWords(state, this.isa()) + (line ? ` (${line})` : ''),
-      report.errors ? `${many(report.errors, 'error')} in ${many(report.contexts, 'place')}` : 'no errors',
-      lost ? `${many(lost, 'byte')} lost` : '',
-    ];
-    return words.filter(Boolean).join(' · ');
   }
 
   group({ group, how, was }) {

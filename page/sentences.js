@@ -12,8 +12,7 @@ const ADVICE = {
   21: FOR_THE_PROCESSOR, 22: FOR_THE_PROCESSOR, 25: FOR_THE_PROCESSOR,
   24: 'Link it to fixed addresses: -static -no-pie.',
   27: 'Link it without a dynamic linker: -static.',
-  29: 'Give the linker script other addresses: 0x40000000 to 0x5fffffff and 0x7f000000 to 0x7fffffff must stay free. The options '
-    + '--heap-region and --stack-region of a command put heap and stack elsewhere.',
+  29: 'This page has the heap from 0x40000000 to 0x5fffffff and the stack from 0x7f000000 to 0x7fffffff.',
   30: 'Reserve a smaller heap and stack in the linker script, which is often what is so large.',
 };
 const DAMAGED = 'The file is damaged, or a tool has rewritten it: link it anew.';
@@ -34,6 +33,9 @@ function refusedFile(said) {
   const number = Number(found[2]), line = found[3] ? ` (line ${found[3]})` : '';
   return `${WHAT[found[1]]} can’t be used: ${REFUSALS[number]}${line}. ${ADVICE[number] ?? DAMAGED}`;
 }
+
+// Whether a program was rejected because it meets the region of the heap or of the stack, or has segments that overlap.
+export const meetsRegion = (fault) => fault instanceof Ended && (fault.said ?? '').startsWith('replaycheck: image refused 29');
 
 // What to say of a fault.
 export function sentence(fault, limit) {

@@ -140,7 +140,6 @@ export class Steps {
     $('landmarks').replaceChildren(...marks.map(({ step, kind }) => {
       const told = `step ${grouped(step)}: ${NAMES[kind]}`;
       const made = element('button', { className: `landmark ${kind}`, title: told, 'aria-label': told, onclick: () => this.choose(step) });
-      made.tabIndex = kind === 'error' ? 0 : -1;
       made.style.left = `${100 * Math.min(1, step / Math.max(1, this.last))}%`;
       return made;
     }));

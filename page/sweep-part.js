@@ -1,7 +1,9 @@
-// The part of the page that makes every edit: what is asked for, how far it is, what came of it.
+// The part of the page that tries every edit: what is asked for, how far it is, and the outcome.
+import { counted } from './counting.js';
 import { $, element, say } from './dom.js';
 import { HALF } from './isa.js';
 import { grouped, hexWord, many, milliseconds, size } from './numbers.js';
+import { Outcomes } from './outcomes.js';
 import { Picture } from './picture.js';
 import { editsOf } from './scenario.js';
 import { Idle, MOST_EDITS, Sweep, lengthAt, mostEditsOf } from './sweeping.js';
@@ -39,11 +41,13 @@ export function filesOf(scenario, { files, elf }) {
 
 export class SweepPart {
   // `state` gives what is swept: the program, the scenario, the step and the function that is shown, and how instructions lie in
-  // a range; `make` makes an edit; `refuse` takes a sentence, `fail` a fault; `told` is called when more is known of the edits.
-  constructor({ state, make, refuse, fail, told, makeWorker, workers }) {
+  // a range; `make` makes an edit; `refuse` takes a sentence, `fail` a fault; `told` is called when more is known of the edits; `ends`
+  // and `pointed` are the picture's.
+  constructor({ state, make, refuse, fail, told, makeWorker, workers, ends, pointed }) {
     Object.assign(this, { state, refuse, fail, told, workers, sweep: null, of: null, ended: null, idle: new Idle(makeWorker) });
+    Object.assign(this, { plain: null, counting: null });
     const makeEdit = (kind, at, value) => make(kind, at, value, lengthAt(this.of.asked, at));
-    this.picture = new Picture({ make: makeEdit, otherRun: () => this.otherRun });
+    this.picture = new Picture({ make: makeEdit, otherRun: () => this.otherRun, ends, pointed });
     $('goal').addEventListener('input', () => this.showGoal());
     $('sweep').addEventListener('click', () => this.begin());
     $('stop').addEventListener('click', () => this.sweep?.stop());
@@ -58,8 +62,8 @@ export class SweepPart {
 
   // Another program is opened.
   close() {
-    this.sweep?.stop();
-    Object.assign(this, { sweep: null, of: null });
+    for (const it of [this.sweep, this.counting]) it?.stop();
+    Object.assign(this, { sweep: null, of: null, ended: null, plain: null, counting: null });
     this.show(false);
     this.picture.clear();
     this.showOf();
@@ -74,9 +78,9 @@ export class SweepPart {
 
   // What is asked for, null where there is nothing of that kind.
   get asked() {
-    const kind = $('sweep-what').value, values = $('sweep-values').value, { scenario, step, range } = this.state();
+    const kind = $('sweep-what').value, values = $('sweep-values').value, { scenario, step, range, name } = this.state();
     if (kind === 'bytes') return scenario.length ? { kind, values, step, first: 0, last: scenario.length - 1 } : null;
-    return range && range.starts.length ? { kind, values, step, ...placesIn(range) } : null;
+    return range && range.starts.length ? { kind, values, step, name, ...placesIn(range) } : null;
   }
 
   // ---- of which run the picture is
@@ -108,10 +112,50 @@ export class SweepPart {
     return said && this.otherRun + said;
   }
 
-  // Makes all edits of the run that is shown, where these are few: those that were made last, or those of the input.
-  follow() {
+  // Tries all edits of the run that is shown, if these are few: those that were tried last, or those of the input. Then those of the
+  // unedited run, which are only counted.
+  async follow() {
     const asked = this.askedNow;
-    if (asked && (!this.of || this.isStale) && mostEditsOf(asked) <= AT_ONCE) this.begin(asked);
+    if (!asked || mostEditsOf(asked) > AT_ONCE) return;
+    if (!this.of || this.isStale) await this.begin(asked);
+    const { ended, picture: { swept } } = this;
+    if (ended?.swept === swept && swept.isWhole && !this.isStale) await this.countPlain();
+  }
+
+  // Counts what the same edits of the unedited run do.
+  async countPlain() {
+    const { program, plain, lineOf, scenario, step } = this.state(), { asked } = this.of;
+    if (this.counting || this.plain?.step === step || asked.kind !== 'bytes' || !plain.length || scenario.base !== plain.base) return;
+    const { files } = filesOf(plain, program), every = { ...asked, last: plain.length - 1 };
+    const sweep = this.counting = new Sweep(program, files, every, this.idle, () => {});
+    try {
+      await sweep.run(this.workers);
+    } catch (fault) {
+      if (sweep === this.counting) this.fail(fault);
+    }
+    if (sweep !== this.counting) return;
+    this.counting = null;
+    if (sweep.swept.isWhole) this.keepPlain(sweep.swept, lineOf, step);
+  }
+
+  // Keeps what the sentence about the unedited run is made of.
+  keepPlain({ asked, edits, isWhole, outcomes, tallies }, lineOf, step) {
+    this.plain = { step, lineOf, swept: { asked, edits, isWhole, outcomes, tallies } };
+    this.told();
+  }
+
+  // How many of the edits break the run, as far as they are tried, in a sentence that is true of the run that is shown; and the same of
+  // the unedited run at a step. Empty if nothing is known.
+  get counted() {
+    const { swept, outcomes } = this.picture;
+    if (!swept?.edits) return '';
+    return this.otherRun + counted(swept, outcomes, { isGoing: this.sweep?.swept === swept && !this.sweep.isOver });
+  }
+
+  countedBefore(step) {
+    if (this.plain?.step !== step) return '';
+    const { swept, lineOf } = this.plain;
+    return counted(swept, new Outcomes(swept, lineOf, $('goal').value), { isGoing: false });
   }
 
   get askedNow() {
@@ -126,7 +170,8 @@ export class SweepPart {
 
   async begin(asked = this.asked) {
     const { program, scenario, lineOf, step, isEnd } = this.state();
-    this.sweep?.stop();
+    for (const it of [this.sweep, this.counting]) it?.stop();
+    this.counting = null;
     if (!asked) return this.refuse('There is nothing to sweep: no input, or no function.');
     this.most = mostEditsOf(asked);
     if (this.most > MOST_EDITS) {
@@ -140,6 +185,7 @@ export class SweepPart {
     this.picture.begin(sweep.swept, asked.kind === 'bytes' ? (at) => scenario.byte(at) : word, lineOf, $('goal').value);
     this.showOf();
     this.show(true);
+    this.told();
     try {
       await sweep.run(this.workers);
       if (sweep === this.sweep) this.end(sweep);
@@ -155,16 +201,19 @@ export class SweepPart {
     this.picture.more();
     $('sweep-done').value = sweep.swept.edits / this.most;
     if (!sweep.isStopped) say('sweep-told', `${grouped(sweep.swept.edits)} of ${many(this.most, 'edit')}`);
+    this.told();
   }
 
   end({ swept, memory }) {
     this.picture.more(true);
     this.ended = { swept, memory };
+    const { scenario, step } = this.of, { outcomes } = this.picture;
+    if (swept.isWhole && swept.asked.kind === 'bytes' && !editsOf(scenario).length) this.keepPlain(swept, outcomes.lineOf, step);
     this.tellEnd();
     this.told();
   }
 
-  // What came of the edits, in a sentence or two.
+  // The outcome of the edits, in a sentence or two.
   tellEnd() {
     const { swept, memory } = this.ended, { scenario, left } = this.of, { outcomes } = this.picture;
     const rate = Math.round(swept.edits / Math.max(1, swept.time) * 1000);
@@ -172,9 +221,9 @@ export class SweepPart {
     const of = stood ? `the run with ${many(stood, 'edit')}` : 'the unedited run';
     const parts = [
       swept.isWhole ? '' : `stopped after ${grouped(swept.edits)} of ${many(this.most, 'edit')}: `,
-      outcomes.goal ? `${grouped(outcomes.reached)} of them reach the goal “${outcomes.goal}”. ` : '',
-      `${many(swept.edits, 'edit')} of ${of}: ${grouped(outcomes.fresh)} of them make a new error, leak or stop, `,
-      `${grouped(outcomes.changed)} more end in another way.`,
+      outcomes.goal ? `${did(outcomes.reached, 'reaches', 'reach')} the goal “${outcomes.goal}”. ` : '',
+      `${many(swept.edits, 'edit')} of ${of}: ${did(outcomes.fresh, 'makes', 'make')} a new error, leak or stop, `,
+      `${grouped(outcomes.changed)} more end${outcomes.changed === 1 ? 's' : ''} in another way.`,
       left.length ? ` Left out: ${left.join(', ')}.` : '',
     ];
     say('sweep-told', parts.join(''));
@@ -186,8 +235,12 @@ export class SweepPart {
     if (!this.of) return;
     this.picture.seek($('goal').value);
     if (this.ended?.swept === this.picture.swept) this.tellEnd();
+    this.told();
   }
 }
+
+// How many of some edits do something.
+const did = (count, one, more) => `${grouped(count)} of them ${count === 1 ? one : more}`;
 
 // The places of a sweep of the words, or of the instructions of either length, that the code has.
 function placesIn({ starts, lengths }) {

@@ -71,7 +71,8 @@ export class Idle {
 export class Sweep {
   // `asked` has the kind, the first and the last place, the values and the step; `told` is called while it goes on.
   constructor(program, files, asked, idle, told) {
-    Object.assign(this, { program, files, asked, idle, told, swept: new Swept(asked), helpers: new Set(), memory: 0, isStopped: false });
+    Object.assign(this, { program, files, asked, idle, told, swept: new Swept(asked), helpers: new Set(), memory: 0 });
+    Object.assign(this, { isStopped: false, isOver: false });
   }
 
   get words() {
@@ -104,6 +105,7 @@ export class Sweep {
     }
     this.swept.time = performance.now() - begun;
     this.swept.isWhole = !this.isStopped;
+    this.isOver = true;
   }
 
   async part(helper, number, count) {

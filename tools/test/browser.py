@@ -104,7 +104,22 @@ class Browser:
         return Page(self, address, (width, height, dark), ready)
 
 
-class Page:
+class Asked:
+    """A page that is asked by expressions, which `run` gives."""
+
+    def until(self, condition, seconds=PATIENCE):
+        """Waits until an expression is true."""
+        end = time.monotonic() + seconds
+        while not self.run(condition):
+            if time.monotonic() > end:
+                raise BrowserFault(f"it never came: {condition}")
+            time.sleep(0.02)
+
+    def text(self, identifier):
+        return self.run(f"document.getElementById({json.dumps(identifier)}).textContent")
+
+
+class Page(Asked):
     """A page in a tab of its own, which is there when `ready` is true in it."""
 
     def __init__(self, browser, address, shape, ready):
@@ -137,17 +152,6 @@ class Page:
             told = answer["exceptionDetails"]
             raise BrowserFault(told.get("exception", {}).get("description") or told["text"])
         return answer["result"].get("value")
-
-    def until(self, condition, seconds=PATIENCE):
-        """Waits until an expression is true."""
-        end = time.monotonic() + seconds
-        while not self.run(condition):
-            if time.monotonic() > end:
-                raise BrowserFault(f"it never came: {condition}")
-            time.sleep(0.02)
-
-    def text(self, identifier):
-        return self.run(f"document.getElementById({json.dumps(identifier)}).textContent")
 
     def click_on(self, selector, index=0):
         """Clicks an element as a script does, wherever it stands."""

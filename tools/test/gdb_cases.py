@@ -130,7 +130,9 @@ CASES = [
     Case("memory that is well", ["monitor check_memory defined 0x10200 64", "monitor check_memory addressable 0x20000 256"],
          ("Address 0x00010200 len 64 defined\n", "Address 0x00020000 len 256 addressable\n")),
     Case("blocks, and who points at them", ["monitor goto 600", "monitor block_list", "monitor who_points_at 0x40000010 8"],
-         ("0x40000010 8\n0x40000040 8\n0x40000070 8\n3 blocks", "word at 0x7fffffc8 points 0 bytes inside")),
+         ("0x40000010 8 from 0x00010918 0x000101e8 0x00010484\n"
+          "0x40000040 8 from 0x000109a4 0x00010340 0x000103fc\n"
+          "0x40000070 8 from 0x00010918 0x00010260 0x00010520\n3 blocks\n", "word at 0x7fffffc8 points 0 bytes inside")),
     Case("a register points at a block", ["break *0x101ec", "continue", "monitor who_points_at 0x4000000f 2"],
          ("register a0 points 1 bytes",)),
     Case("nobody points there", ["monitor block_list", "monitor who_points_at 0x50000000 16"], ("0 blocks", "nothing points there")),
@@ -138,7 +140,7 @@ CASES = [
          ("still reachable: 0 bytes", "leak 8 bytes in 1 blocks are definitely lost", "add_limits")),
     Case("a lost block that is suppressed is a block", ["monitor input 32 3", "monitor supp add Leak ...", "monitor end",
          "monitor block_list"],
-         ("1 blocks, as far",)),
+         ("1 blocks\n",)),
     Case("where one is", ["monitor step", "monitor goto 0x37", "monitor step", "monitor end"],
          ("step 0, running, pc 0x000100a0", "step 55, running, pc 0x00010158", "step 55, ", "step 882, exited 0, pc 0x000101a0")),
     Case("what all cost", ["monitor worked"], ("worked 0",)),

@@ -30,12 +30,38 @@ def same(what, got, want):
         raise Wrong(f"{what}: {str(got)[:900]!r}\n  and not {str(want)[:900]!r}")
 
 
+def sweep_flips(page):
+    """Has each bit of the input turned, which takes less time than all values."""
+    page.set("sweep-values", "flips")
+    page.click_on("#sweep")
+    page.until(SWEPT, 120)
+
+
 def words_of(example):
     """The files of an example, and its instruction set, as the program's words."""
     it = EXAMPLES[example]
     given = ["--input", str(TOP / "examples" / it["input"])] if "input" in it else []
     given += [f"--isa={it['isa']}"] if "isa" in it else []
     return [str(TOP / "examples" / it["program"]), *given]
+
+
+def table_in(text):
+    """What a sweep's table has: the run's own outcome, and the outcome of each edit."""
+    outcomes, edits, told = [], {}, None
+    for line in text.splitlines():
+        first, *fields = line.split(" ")
+        if first == "outcome" and len(fields) == 1:
+            outcomes.append([])
+            told = outcomes[-1]
+        elif first in ("input", "patch", "patch16") and len(fields) == 3:
+            edits[int(fields[0], 0), int(fields[1], 0)] = int(fields[2])
+            told = None
+        elif first in ("unedited", "tally", "end"):
+            told = None
+        elif told is not None:
+            told.append(line)
+    texts = ["\n".join(it) for it in outcomes]
+    return texts[0], {edit: texts[number] for edit, number in edits.items()}
 
 
 class Bench:
@@ -61,24 +87,11 @@ class Bench:
     def table(self, words, *options):
         """The program's table of a sweep: the outcomes, and the outcome of each edit."""
         ran = subprocess.run([self.program, "sweep", *words, *options], capture_output=True, text=True, check=True)
-        outcomes, edits, text = [], {}, None
-        for line in ran.stdout.splitlines():
-            first, *fields = line.split(" ")
-            if first == "outcome" and len(fields) == 1:
-                outcomes.append([])
-                text = outcomes[-1]
-            elif first in ("input", "patch", "patch16") and len(fields) == 3:
-                edits[int(fields[0], 0), int(fields[1], 0)] = int(fields[2])
-                text = None
-            elif first in ("unedited", "tally", "end"):
-                text = None
-            elif text is not None:
-                text.append(line)
-        told = ["\n".join(it) for it in outcomes]
-        return {edit: told[number] for edit, number in edits.items()}
+        return table_in(ran.stdout)[1]
 
     def page(self, words="?still", **shape):
-        return self.browser.page(self.address + words, **shape)
+        """A page with nothing open, or with what a link says."""
+        return self.browser.page(self.address + (words if "#" in words else f"{words or '?'}&empty"), **shape)
 
     def open(self, example="station", words="?still", **shape):
         """A page with an example, which sweeps nothing by itself where the words of its address don't say otherwise."""

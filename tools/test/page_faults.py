@@ -11,6 +11,7 @@ from page_bench import EXAMPLES, SWEPT, Wrong, expect, same, words_of
 from replaycheck.guest_files import TOP, elf
 
 STATION = words_of("station")
+LARGEST_MODULE = 1_500_000  # bytes
 
 
 def content_of(example, role="program"):
@@ -54,9 +55,10 @@ def opened_in_turn(bench):
     with bench.page(words="") as page:
         for wait in ("", "!replaycheck.sweeps.sweep", "!replaycheck.sweeps.sweep?.swept.edits", "!replaycheck.steps.landmarks.length"):
             for name in ("station", "packet", "kinds", "station"):
-                page.run(f"(() => {{ replaycheck.opening.choose('{name}'); }})()")
+                page.run(f"(() => {{ globalThis.chosen = replaycheck.opening.choose('{name}'); }})()")
                 if wait:
                     page.until(f"!({wait})")
+            page.run("globalThis.chosen")
             page.until("replaycheck.shown && document.title.startsWith('station.elf')")
             bench.same_report(page, STATION, f"after {wait}")
             page.until(SWEPT, 120)
@@ -229,7 +231,8 @@ def markup_in_names(bench):
 
 
 def policy(bench):
-    """The page's policy stops an inline script, and nothing of the page itself."""
+    """The page's policy stops an inline script, and nothing of the page itself; its module is no larger than it may be."""
+    expect((bench.folder / "replaycheck.wasm").stat().st_size < LARGEST_MODULE, "the module is too large")
     with bench.open() as page:
         same("complaints", page.complaints(), [])
         page.run("""(() => { const it = document.createElement('script'); it.textContent = 'globalThis.hacked = 1';
@@ -336,7 +339,7 @@ def by_keyboard(bench):
         bench.same_report(page, STATION, "an instruction skipped by keys")
         same("edits", page.run("replaycheck.scenario.lines.length"), 2)
         same("what has the focus then", page.run("document.activeElement.textContent"), "put back")
-        page.press("Tab", "Enter", "Escape")
+        page.press("ArrowRight", "Enter", "Escape")
         same("what has the focus after a word that isn't set", page.run("document.activeElement.textContent"), "word…")
         page.press("Enter", "0", "x", "1", "3", "Enter")
         bench.same_report(page, STATION, "a word by keys")

@@ -5,38 +5,56 @@ import shutil
 import struct
 import subprocess
 
-from page_bench import SWEPT, TOP, expect, same
+from page_bench import SWEPT, TOP, expect, same, sweep_flips
 
-WIDTHS = (360, 1280, 2560)
+WIDTHS = (360, 768, 1280, 1920, 2560)
 USED = {"button", "checkbox", "combobox", "slider", "spinbutton", "textbox", "grid", "gridcell", "application", "disclosuretriangle",
         "link", "progressbar", "table"}
 WANTED = ("application", "banner", "button", "checkbox", "contentinfo", "grid", "gridcell", "main", "slider", "status")
 BINUTILS = "riscv64-unknown-elf-"
-CONTRASTS = """(() => {
+MEASURES = """
   const parts = (text) => (text.match(/[\\d.]+/g) ?? []).map(Number);
   const over = (top, below) => { const [r, g, b, a = 1] = top; return [r, g, b].map((it, i) => it * a + below[i] * (1 - a)); };
   const linear = (v) => (v <= .04045 ? v / 12.92 : ((v + .055) / 1.055) ** 2.4);
   const light = (it) => it.map((v) => linear(v / 255)).reduce((sum, v, i) => sum + v * [.2126, .7152, .0722][i], 0);
   const ground = (it) => (it ? over(parts(getComputedStyle(it).backgroundColor), ground(it.parentElement)) : [255, 255, 255]);
-  const found = [], walk = document.createTreeWalker(document.body, NodeFilter.SHOW_TEXT);
+  const contrast = (ink, below) => {
+    const [a, b] = [light(over(ink, below)), light(below)].sort((x, y) => y - x);
+    return (a + .05) / (b + .05); };
+  const found = [];
+"""
+CONTRASTS = "(() => {" + MEASURES + """
+  const walk = document.createTreeWalker(document.body, NodeFilter.SHOW_TEXT);
   while (walk.nextNode()) {
     const it = walk.currentNode.parentElement, box = it.getBoundingClientRect();
     if (!walk.currentNode.textContent.trim() || !box.width || !it.checkVisibility() || /^(SCRIPT|OPTION|STYLE)$/.test(it.tagName)) continue;
-    const below = ground(it), ink = over(parts(getComputedStyle(it).color), below);
-    const [a, b] = [light(ink), light(below)].sort((x, y) => y - x);
-    found.push([(a + .05) / (b + .05), walk.currentNode.textContent.trim().slice(0, 40)]);
+    found.push([contrast(parts(getComputedStyle(it).color), ground(it)), walk.currentNode.textContent.trim().slice(0, 40)]);
   }
+  return found; })()"""
+# What is drawn: borders of what can be used, landmarks, and the ring around what has the focus.
+DRAWN = "(() => {" + MEASURES + """
+  for (const it of document.querySelectorAll('button:enabled, select, input, textarea, .landmark, .swatch')) {
+    const { borderTopWidth, borderTopColor, backgroundColor } = getComputedStyle(it), below = ground(it.parentElement);
+    if (!it.checkVisibility() || it.type === 'file' || it.type === 'range' || it.type === 'checkbox') continue;
+    const isLandmark = it.matches('.landmark'), ink = parts(isLandmark ? backgroundColor : borderTopColor);
+    const name = it.id || it.className || it.textContent;
+    if (isLandmark || (parseFloat(borderTopWidth) && ink[3] !== 0)) found.push([contrast(ink, below), name]);
+  }
+  const pick = document.createElement('span');
+  pick.style.color = 'var(--pick)';
+  document.getElementById('input-part').append(pick);
+  found.push([contrast(parts(getComputedStyle(pick).color), ground(pick)), 'the ring of the focus']);
   return found; })()"""
 WORK = "input 1 8\nmark 55 0x20011 2 undefined\npatch 0x101e0 0x13\ninput append 7"
 
 
 def opened(bench, **shape):
     """A page with errors that are new, edits of each kind, and a picture."""
-    page = bench.open(words="", **shape)
+    page = bench.open(**shape)
     page.run(f"replaycheck.use({json.dumps(WORK)})")
     bench.settle(page)
+    sweep_flips(page)
     page.run("[...document.querySelectorAll('details')].forEach((it) => { it.open = true; })")
-    page.until(SWEPT, 120)
     return page
 
 
@@ -58,20 +76,23 @@ def names_and_roles(bench):
 
 
 def contrast(bench):
-    """No text has less contrast than 4.5 to 1, in light and in dark."""
+    """No text has less contrast than 4.5 to 1, and nothing that is drawn less than 3 to 1, in light and in dark."""
     for dark in (False, True):
         with opened(bench, dark=dark) as page:
             found = page.run(CONTRASTS)
             expect(len(found) > 100, f"{len(found)} texts alone were looked at")
             poor = [it for it in found if it[0] < 4.5]
             same(f"texts of poor contrast, {'dark' if dark else 'light'}", poor, [])
+            found = page.run(DRAWN)
+            expect(len(found) > 40, f"{len(found)} drawn things alone were looked at")
+            same(f"drawn things of poor contrast, {'dark' if dark else 'light'}", [it for it in found if it[0] < 3], [])
 
 
 def widths(bench):
     """Nothing is wider than the page at each width, but what scrolls by itself; and the bytes are in view as a whole."""
+    with bench.page(width=WIDTHS[0]) as page:
+        same("the width before a program", page.run("document.documentElement.scrollWidth"), WIDTHS[0])
     for width in WIDTHS:
-        with bench.page(width=width) as page:
-            same(f"the width at {width}, before a program", page.run("document.documentElement.scrollWidth"), width)
         with opened(bench, width=width) as page:
             same(f"the width at {width}", page.run("document.documentElement.scrollWidth"), width)
             same(f"bytes beyond their part at {width}", page.run("(({ scrollWidth, clientWidth }) => scrollWidth - clientWidth)"
@@ -161,16 +182,14 @@ def plain(text):
 
 
 def picture_file(bench, path):
-    """Writes the picture of README: the firmware's example with one byte edited, and its picture."""
-    with bench.open(words="", width=1280, height=2000) as page:
-        page.until(SWEPT, 120)
-        page.run("document.getElementById('code').style.maxHeight = '12rem'")
-        page.focus("bytes")
-        page.press("ArrowRight", "0", "8")
-        bench.settle(page)
+    """Writes the picture of docs/page.md: what a page begins with, once both runs are counted."""
+    with bench.page("", width=1280, height=2000) as page:
+        page.run("replaycheck.opening.choose('station', ['input 1 8'])")
+        page.until(f"{SWEPT} && document.getElementById('before').textContent.includes('break it')", 120)
         page.until("['error', 'end'].every((kind) => replaycheck.steps.landmarks.some((it) => it.kinds.includes(kind)))")
-        page.run("(() => { replaycheck.bytes.pick(1); document.activeElement.blur(); })()")
-        below = page.run("document.getElementById('legend-rows').children[4].getBoundingClientRect().bottom + scrollY")
+        page.run("document.getElementById('code').style.maxHeight = '20rem'")
+        page.run("document.activeElement.blur()")
+        below = page.run("document.getElementById('main').getBoundingClientRect().bottom + scrollY")
         path.write_bytes(page.picture(below, 0.7))
 
 

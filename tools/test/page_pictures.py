@@ -22,10 +22,10 @@ def swept(bench, page, words, options, want_edits):
 
 
 def place_of(page, at, value):
-    """Where the picture has an edit of a byte, in pixels of the page."""
+    """Where the picture has an edit of a byte, in pixels of the page: a whole one, as a pointer has it, where a row has one."""
     return page.run(f"""(() => {{ const {{ picture }} = replaycheck.sweeps, it = picture.canvas.getBoundingClientRect();
-      const [left, top, wide, tall] = picture.box({at} * picture.rows + {value});
-      return [it.left + left + wide / 2, it.top + top + tall / 2]; }})()""")
+      const [left, top, wide] = picture.box({at} * picture.rows + {value});
+      return [it.left + left + wide / 2, Math.ceil(it.top + top)]; }})()""")
 
 
 def picture_of_bytes(bench):
@@ -35,8 +35,8 @@ def picture_of_bytes(bench):
         swept(bench, page, STATION, [f"--step={step}"], 10455)
         page.until("document.getElementById('sweep-told').textContent.includes('287 of them')")
         counts = page.run("[...document.querySelectorAll('#legend-rows .number')].map((it) => it.textContent)")
-        same("counts in the legend", counts, ["7", "3", "2", "1", "1", "261", "12", "2,636", "7,532"])
-        page.run("document.getElementById('picture').scrollIntoView()")
+        same("counts in the legend", counts, ["10", "2", "1", "1", "261", "12", "2,636", "7,532"])
+        page.run("document.getElementById('picture').scrollIntoView({ block: 'center' })")
         for at, value in ((1, 8), (37, 250), (15, 255)):
             page.run("replaycheck.use('')")
             bench.settle(page)
@@ -53,7 +53,7 @@ def picture_least(bench):
         page.run("replaycheck.sweeps.picture.draw()")
         count = """(() => {
           const { picture } = replaycheck.sweeps, on = picture.canvas.getContext('2d'), index = 27 * picture.rows + 2;
-          const [x, y, wide, tall] = picture.box(index), want = picture.colours[picture.cells[index].number];
+          const [x, y, wide, tall] = picture.box(index), want = picture.looks[picture.cells[index].number].colour;
           const inked = (at) => '#' + [...on.getImageData(Math.floor(x + wide / 2), at, 1, 1).data].slice(0, 3)
             .map((it) => it.toString(16).padStart(2, '0')).join('') === want;
           let count = 0;
@@ -61,7 +61,7 @@ def picture_least(bench):
           return [tall, count]; })()"""
         cell, tall = page.run(count)
         expect(cell < 3 <= tall, f"a cell of {cell} pixels is drawn with {tall}")
-        page.click_on("#legend-rows tr:nth-child(4) input")
+        page.click_on("#legend-rows tr:nth-child(3) input")
         expect(page.run(count)[1] == 0, "an outcome that is taken out is drawn")
 
 
@@ -144,7 +144,7 @@ def goal(bench):
         table = bench.table(words_of("boot"), f"--step={page.run('replaycheck.step')}")
         reached = [edit for edit, text in table.items() if text.startswith("exited 0")]
         same("the goal of the example", page.run("document.getElementById('goal').value"), "exited 0")
-        want = f"{len(reached)} of them reach the goal “exited 0”. "
+        want = f"{len(reached)} of them reaches the goal “exited 0”. "
         page.until("document.getElementById('sweep-told').textContent.includes('edits of the')")
         expect(len(reached) == 1 and want in page.text("sweep-told"), f"it says {page.text('sweep-told')!r}, not {want!r}")
         same("the first row of the legend", page.run("document.querySelector('#legend-rows .first').textContent"),
@@ -153,6 +153,35 @@ def goal(bench):
         expect("0 of them reach" in page.text("sweep-told"), f"it says {page.text('sweep-told')!r}")
         page.set("goal", "", "input")
         expect("goal" not in page.text("sweep-told"), f"it says {page.text('sweep-told')!r}")
+        page.set("goal", "exited 0", "input")
+        goal_of_words(bench, page)
+
+
+def goal_of_words(bench, page):
+    """The same of the words of a function, in a run with an edit."""
+    page.run("replaycheck.use('input 4 0x61')")
+    bench.settle(page)
+    begin, size = page.run("""(() => { const it = replaycheck.opened.program.elf.functions.find((it) => it.name === 'verify');
+      replaycheck.code.visit(it.address); return [it.address, it.size]; })()""")
+    page.set("sweep-what", "words", "change")
+    page.set("sweep-values", "skip")
+    page.click_on("#sweep")
+    page.until(f"{SWEPT} && !replaycheck.sweeps.isStale && replaycheck.sweeps.of.asked.kind === 'words'", 120)
+    given = (TOP / "examples/firmware/boot.input").read_bytes()
+    with tempfile.NamedTemporaryFile() as file:
+        file.write(given[:4] + b"a" + given[5:])
+        file.flush()
+        table = bench.table([words_of("boot")[0], "--input", file.name], f"--words={begin}..{begin + size - 4}", "--words-values=skip",
+                            f"--step={page.run('replaycheck.step')}")
+    reached = [at for (at, _), text in table.items() if text.startswith("exited 0")]
+    expect(reached, "no word whose skip reaches the goal")
+    page.until("document.getElementById('sweep-told').textContent.includes('of the run with 1 edit')", 10)
+    told = f"{len(reached)} of them reach{'es' if len(reached) == 1 else ''} the goal “exited 0”. "
+    expect(told in page.text("sweep-told"), f"it says {page.text('sweep-told')!r}, not {told!r}")
+    same("the first row of the legend", page.run("document.querySelector('#legend-rows .first').textContent"),
+         f"patch 0x{min(reached):08x} 0x00000013")
+    told = f"{len(reached)} of {len(table)} skipped instructions of verify reach"
+    expect(page.text("counted").startswith(told), f"it says {page.text('counted')!r}, not {told!r}")
 
 
 def picture_stopped(bench):

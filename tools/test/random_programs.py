@@ -21,6 +21,11 @@ def reading(count):
     return [*load_number(11, ENTRY + DATA), addi(10, 0, 0), addi(12, 0, count), addi(A7, 0, READ), ECALL]
 
 
+def waiting(turns):
+    """Words of a loop: two steps a turn, which touch nothing that was read."""
+    return [addi(SCRATCH, 0, turns), addi(SCRATCH, SCRATCH, -1), branch(1, SCRATCH, 0, -4)]
+
+
 class Place(NamedTuple):
     """Where a program is: its first address, how much memory it has from there on, and its regions of heap and stack."""
 

@@ -155,6 +155,7 @@ impl Machine {
     }
 
     fn call_heap(&mut self, function: Function) {
+        self.heap_calls += 1;
         self.test_parameters(function.parameters());
         let (x, y) = (self.argument(A0), self.argument(A1));
         let result = match function {
@@ -189,7 +190,7 @@ impl Machine {
     /// `free`: it answers 0. An address at which no live block begins is an error.
     fn free(&mut self, start: u32) -> u32 {
         if start != 0 {
-            match self.heap.release(start) {
+            match self.heap.release(start, self.stack.trace(self.pc)) {
                 Some(block) => self.memory.set_range(block.start, block.size, RangeKind::NoAccess),
                 None => self.raise_at(Kind::Free, start),
             }

@@ -48,6 +48,8 @@ pub struct Block {
     pub size: u32,
     /// Where it was allocated.
     pub trace: Vec<u32>,
+    /// Where it was freed, if it was.
+    pub freed: Option<Vec<u32>>,
 }
 
 impl Block {
@@ -92,7 +94,7 @@ impl Heap {
     /// A new block at the lowest place, if there is one.
     pub fn allocate(&mut self, size: u64, trace: Vec<u32>) -> Option<u32> {
         let start = self.place(size)? as u32;
-        self.live.insert(start, Block { start, size: size as u32, trace });
+        self.live.insert(start, Block { start, size: size as u32, trace, freed: None });
         Some(start)
     }
 
@@ -110,10 +112,17 @@ impl Heap {
         (size <= GREATEST && interval(start, size).1 <= self.region.end).then_some(start)
     }
 
+    /// The blocks that keep their places, live and freed, in order of their starts.
+    pub fn kept(&self) -> Vec<&Block> {
+        let mut kept: Vec<&Block> = self.live.values().chain(&self.queue).collect();
+        kept.sort_unstable_by_key(|it| it.start);
+        kept
+    }
+
     /// Ends the live block at an address; the oldest blocks of the queue are forgotten where their sizes are too much.
-    pub fn release(&mut self, start: u32) -> Option<Block> {
+    pub fn release(&mut self, start: u32, trace: Vec<u32>) -> Option<Block> {
         let block = self.live.remove(&start)?;
-        self.queue.push(block.clone());
+        self.queue.push(Block { freed: Some(trace), ..block.clone() });
         let volume = |queue: &[Block]| queue.iter().map(|it| u64::from(it.size)).sum::<u64>();
         while volume(&self.queue) > VOLUME {
             self.queue.remove(0);

@@ -9,6 +9,10 @@ use std::fmt::Write;
 use std::ops::Range;
 
 const REGISTERS: usize = 32;
+/// The most blocks and the most events that one look lists, and the most addresses of a block's trace.
+const MOST_BLOCKS: usize = 64;
+const MOST_EVENTS: usize = 1024;
+const MOST_OF_TRACE: usize = 3;
 
 /// What a step does with memory beside taking its word.
 #[derive(Clone, Copy, PartialEq, Eq)]
@@ -76,6 +80,9 @@ pub fn look(run: &Run, step: u64, words: &[&str]) -> Option<String> {
         ["registers"] => Some(registers(&run.at(step))),
         ["controls"] => Some(controls(&run.at(step))),
         ["memory", addr, len] => Some(memory(&run.at(step), number(addr)?, number(len)?)),
+        ["stack"] => Some(stack(&run.at(step))),
+        ["blocks", from] => Some(blocks(&run.at(step), number(from)?)),
+        ["calls", from, end] => Some(calls(run, number(from)?.into()..step.min(number(end)?.into()))),
         ["sides", addr, len] => Some(sides(run, step, number(addr)?, number(len)?)),
         ["next", kind, addr, len, end] => {
             let range = (number(addr)?, number(len)?);
@@ -98,6 +105,55 @@ fn number(word: &str) -> Option<u32> {
 
 fn told(found: Option<&u64>) -> String {
     found.map_or("none".to_string(), |step| format!("step {step}"))
+}
+
+/// Addresses, each after a space.
+fn spaced(addresses: impl Iterator<Item = u32>) -> String {
+    addresses.map(|it| format!(" {it:#010x}")).collect()
+}
+
+/// Where the machine is, and the sites of the calls that it is in.
+fn stack(machine: &Machine) -> String {
+    format!("stack {:#010x}{}", machine.pc, spaced(machine.stack.sites()))
+}
+
+/// The blocks that keep their places, from an address on.
+fn blocks(machine: &Machine, from: u32) -> String {
+    let kept: Vec<_> = machine.heap.kept().into_iter().filter(|it| it.start >= from).collect();
+    let mut text = String::new();
+    for it in kept.iter().take(MOST_BLOCKS) {
+        let (state, trace) = it.freed.as_ref().map_or(("live", &it.trace), |trace| ("freed", trace));
+        let trace = spaced(trace.iter().copied().take(MOST_OF_TRACE));
+        writeln!(text, "block {:#010x} {} {state}{trace}", it.start, it.size).expect("a string takes all");
+    }
+    text + &kept.get(MOST_BLOCKS).map_or("end".to_string(), |it| format!("next {:#010x}", it.start))
+}
+
+/// What some steps do: calls and returns, by how many calls are kept; heap calls, input and output.
+fn calls(run: &Run, steps: Range<u64>) -> String {
+    let (mut machine, mut text, mut events) = ((run.start)(), String::new(), 0);
+    for step in 0..steps.end {
+        run.change(&mut machine, step);
+        let (heap_calls, depth, position, output) = (machine.heap_calls, machine.stack.depth(), machine.position, machine.output);
+        go_on(&mut machine);
+        let (pc, now) = (machine.pc, machine.stack.depth());
+        let event = match () {
+            () if machine.heap_calls > heap_calls => Some(format!("heap {now}")),
+            () if now > depth => machine.heap.function_at(pc).is_none().then(|| format!("call {pc:#010x} {now}")),
+            () if now < depth => Some(format!("return {pc:#010x} {now}")),
+            () if machine.position > position => Some(format!("input {}", machine.position - position)),
+            () if machine.output > output => Some(format!("output {}", machine.output - output)),
+            () => None,
+        };
+        if let (true, Some(event)) = (steps.contains(&step), event) {
+            writeln!(text, "{step} {event}").expect("a string takes all");
+            events += 1;
+            if events == MOST_EVENTS {
+                return text + &format!("next {}", step + 1);
+            }
+        }
+    }
+    text + "end"
 }
 
 /// Makes a step, where the machine runs.

@@ -54,6 +54,8 @@ pub struct Machine {
     pub position: usize,
     /// How many bytes it has written.
     pub output: u32,
+    /// How many heap calls it has made.
+    pub heap_calls: u64,
     /// Where wanted, the bytes that steps read and write beside taking words, in the order of the accesses: the first and how many.
     pub accesses: Option<Vec<(Access, u32, u32)>>,
     /// The address of the last LR or SC, if it was an LR.
@@ -221,6 +223,7 @@ impl Machine {
             input,
             position: 0,
             output: 0,
+            heap_calls: 0,
             accesses: None,
             reserved: None,
             controls: BTreeMap::new(),

@@ -27,6 +27,16 @@ impl Stack {
         }
     }
 
+    /// How many calls are kept.
+    pub fn depth(&self) -> usize {
+        self.calls.len()
+    }
+
+    /// The sites of the calls that are kept, the newest first.
+    pub fn sites(&self) -> impl Iterator<Item = u32> {
+        self.calls.iter().map(|(site, _)| *site)
+    }
+
     /// The address of an instruction, and the sites of the calls that led there, the newest first.
     pub fn trace(&self, pc: u32) -> Vec<u32> {
         std::iter::once(pc).chain(self.calls.iter().map(|(site, _)| *site)).take(LONGEST_TRACE).collect()

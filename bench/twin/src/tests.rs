@@ -211,7 +211,7 @@ fn each_block_is_at_its_lowest_place_and_a_freed_one_keeps_its_own() {
     let mut machine = at_function("malloc");
     let places = [8, 0, 40, 16_777_216, 16_777_217].map(|size| asked(&mut machine, size, 0));
     assert_eq!(places, [0x4000_0010, 0x4000_0040, 0x4000_0070, 0x4000_00C0, 0]);
-    machine.heap.release(0x4000_0040);
+    machine.heap.release(0x4000_0040, Vec::new());
     assert_eq!(asked(&mut machine, 1, 0), 0x4100_00E0);
     assert!(machine.memory.load::<1>(0x4000_0018).bad.is_some() && machine.memory.load::<1>(0x4000_0017).undef == 0xFF);
 }

@@ -1,5 +1,5 @@
 //! Call stacks.
-ghost use Rattle.std.specs.Prelude.{◌↔◌, ◌≡◌, ◌==◌, [], IfOk, IsTrue, position};
+ghost use Rattle.std.specs.Prelude.{◌↔◌, ◌≡◌, ◌==◌, [], IfOk, IsTrue, length, position, slice_get};
 ghost use Rattle.std.specs.Option.{option_copied};
 ghost use Rattle.call_stacks.specs.Frames.{called, returned, trace_at};
 
@@ -91,6 +91,23 @@ impl CallStack {
             }
         }
         None
+    }
+
+    /// Returns the number of frames.
+    pub fn depth(&self) -> usize
+        ensures { result ≡ length self.now }
+    {
+        self.frames.len()
+    }
+
+    /// Returns a frame by the number of newer ones, if there is one.
+    pub fn frame(&self, newer: usize) -> Option<Frame>
+        ensures { result ≡ slice_get self.now newer }
+    {
+        match self.frames.get(newer) {
+            Some(frame) => Some(*frame),
+            None => None,
+        }
     }
 
     /// Returns the trace at `pc`: `pc`, and the sites of the newest calls.

@@ -138,6 +138,13 @@ and don't count. Each is answered for the chosen step of the run with all edits:
                                 always elsewhere; 3, both
   look input                    the number of bytes of the input that were read, its length, and
                                 `yes` if a read has asked for more than were left, else `no`
+  look stack                    pc, and the sites of the calls that the program is in, newest first
+  look blocks ADDR              a line for each block of the heap from ADDR on, up to 64:
+                                its start, its size, `live` and where it was allocated, or `freed`
+                                and where that was; then `next ADDR` or `end`
+  look calls FROM END           a line for each of the steps from FROM on, below END and below the
+                                chosen one, that calls or returns, calls the heap, reads input or
+                                writes output, up to 1024; then `next STEP` or `end`
   look certify                  the line of `replaycheck certify`; here the marks count, too
   look next KIND ADDR LEN END   the first step, from the chosen one on and below END, that does it
   look last KIND ADDR LEN FROM  the last step, before the chosen one and not before FROM, that does
@@ -148,7 +155,7 @@ own word, `write` where it writes some, `shadow` where it changes the undefined 
 whether they may be accessed. A mark is no step.
 The answer is `step N`, or `none`. Refusals, besides out of memory (1):
   2   no look, or a field that is missing, too many, empty or of the wrong form
-  5   END or FROM above 4194304
+  5   a step, END or FROM, above 4194304
   6   a range of 0 bytes, one that ends above 2^32, or above 4096 bytes for memory, output, sides
       or `shadow`
 

@@ -1,9 +1,7 @@
 -- The bound below which there is no place, as blocks come and go.
 use Rattle.std.proofs.Common.{◌≡◌, ℕ, zero, suc, ◌+◌, ◌-◌, ◌%◌, ◌<◌, ◌≤◌, ◌==◌, inl, inr, max, min, nat_le, Bool, List}
 use Rattle.std.proofs.Common.{[], ◌∷◌, ◌++◌, true, false, cond, Option, Some}
-use Rattle.std.proofs.Common.{None, length, map, drop, slice_get, set, refl, ap, sym, ◌∙◌, subst, arith, ◌&&◌, nat_lt}
-use Rattle.std.specs.Option.{option_map}
-use Rattle.std.proofs.lemmas.Option.{slice_get-map}
+use Rattle.std.proofs.Common.{None, length, map, drop, set, refl, ap, sym, ◌∙◌, subst, arith, ◌&&◌, nat_lt}
 use Rattle.std.specs.List.{Contains}
 use Rattle.std.proofs.lemmas.Bool.{cases_lt}
 use Rattle.std.proofs.lemmas.Bool.Decides.{nat_tests}
@@ -14,34 +12,16 @@ use Rattle.guest_heap.specs.Entries.{Entries, block_of}
 use Rattle.guest_heap.specs.Runs.{first_of}
 use Rattle.guest_heap.specs.States.{AreNoPlaces, AreSound, EndsBelow, BeginsAbove, shown}
 use Rattle.guest_heap.specs.Bounds.{Holds, AreBounds, IsKnown, IsTaken, lowered}
+use Rattle.guest_heap.specs.Gaps.{Opens}
 use Rattle.guest_heap.specs.declared.bounds.Bound.{Bound}
 use Rattle.guest_heap.specs.declared.bounds.Opened.{Opened}
 use Rattle.guest_heap.specs.declared.entry.Entry.{Entry}
 use Rattle.guest_heap.proofs.KeptSteps.{some-same}
 use Rattle.guest_heap.proofs.PutSteps.{same_or}
+use Rattle.guest_heap.proofs.Each.{each_set, each_mapped}
+use Rattle.guest_heap.proofs.NoPlaces.{SameEnds, no_more, skipped_too}
 
--- a kept block with the same interval
-pub record SameEnds (blocks : Blocks) (b : Block) : Type 0 where
-  pub other : Block
-  pub kept : IsKept blocks other
-  pub low : low_end other ≡ low_end b
-  pub high : high_end other ≡ high_end b
-
--- where each interval is kept, no place comes
-pub no_more : (old new : Blocks) (size redzone from to : ℕ) → new.begin ≡ old.begin
-    → ((b : Block) → IsKept old b → SameEnds new b)
-    → AreNoPlaces old size redzone from to → AreNoPlaces new size redzone from to
-no_more old new size redzone from to same kept none q over less place = none q over less (record {
-  small = place.small;
-  multiple = place.multiple;
-  above = omega (arith, same, place.above);
-  below = omega (arith, same, place.below);
-  apart = λ b there meets.
-      (let s = kept b there in
-      place.apart s.other s.kept (omega (arith, meets.0, s.high), omega (arith, meets.1, s.low)));
-})
-
-no_more_bounds : (old new : Blocks) (redzone : ℕ) (bounds : List Bound) → new.begin ≡ old.begin
+pub no_more_bounds : (old new : Blocks) (redzone : ℕ) (bounds : List Bound) → new.begin ≡ old.begin
     → ((b : Block) → IsKept old b → SameEnds new b)
     → AreBounds old redzone bounds → AreBounds new redzone bounds
 no_more_bounds old new redzone bounds same kept hold i n there =
@@ -52,11 +32,9 @@ no_more_bounds old new redzone bounds same kept hold i n there =
     }
 
 -- another live block, where none begins
-pub no_more_put : (blocks : Blocks) (b : Block) (redzone : ℕ) (bounds : List Bound)
-    → IsPlace blocks b.size b.redzone b.start → AreBounds blocks redzone bounds
-    → AreBounds (with_block blocks b) redzone bounds
-no_more_put blocks b redzone bounds place hold =
-    no_more_bounds blocks (with_block blocks b) redzone bounds refl still hold
+pub put_keeps : (blocks : Blocks) (b : Block) → IsPlace blocks b.size b.redzone b.start → (c : Block) → IsKept blocks c
+    → SameEnds (with_block blocks b) c
+put_keeps blocks b place = still
   where
     apart : (c : Block) → IsKept blocks c → c.start ≡ b.start → ⊥
     apart c kept same =
@@ -89,11 +67,10 @@ contains-last (x ∷ xs) e =
     let (i, r, s) = contains-last xs e in
     (suc i, (let t : suc i < suc (length (xs ++ e ∷ [])) = omega arith in t), s)
 
-pub no_more_freed : (blocks : Blocks) (b : Block) (trace : List ℕ) (redzone : ℕ) (bounds : List Bound)
-    → blocks.live b.start ≡ Some b
-    → AreBounds blocks redzone bounds → AreBounds (queue_with blocks (freed_by trace b)) redzone bounds
-no_more_freed blocks b trace redzone bounds there hold =
-    no_more_bounds blocks (queue_with blocks (freed_by trace b)) redzone bounds refl still hold
+-- a live block that is freed
+pub freed_keeps : (blocks : Blocks) (b : Block) (trace : List ℕ) → blocks.live b.start ≡ Some b → (c : Block)
+    → IsKept blocks c → SameEnds (queue_with blocks (freed_by trace b)) c
+freed_keeps blocks b trace there = still
   where
     freed : SameEnds (queue_with blocks (freed_by trace b)) b
     freed = record {
@@ -117,11 +94,6 @@ no_more_freed blocks b trace redzone bounds there hold =
           (let t : (c.start == b.start) ≡ false = grind (arith, nat_tests) in
           record { other = c; kept = inl (ap (λ x. cond x None (blocks.live c.start)) t ∙ h); low = refl; high = refl })
     ]
-
-option_map-some : {A B : Type 0} (f : A → B) (o : Option A) (y : B) → option_map f o ≡ Some y
-    → (x : A) × (o ≡ Some x) × (f x ≡ y)
-option_map-some f None y h = cc
-option_map-some f (Some x) y h = (x, refl, some-same h)
 
 -- the oldest leaves: a place that comes lies in the range round it --
 
@@ -178,12 +150,11 @@ module _ (begin : ℕ) (live : ℕ → Option Block) (queue rest : List Block) (
         | inr ge ↦ omega arith
       ]
 
-  -- where no place lies in that range
-  none_comes : (size redzone from to : ℕ) → AreNoPlaces with_oldest size redzone from to
-      → ((q : ℕ) → from ≤ q → q < to → IsPlace without_oldest size redzone q → q - redzone < high_end e
-      → low_end e < q + max size 1 + redzone → ⊥)
-      → AreNoPlaces without_oldest size redzone from to
-  none_comes size redzone from to none outside q over less place = none q over less (record {
+  -- a place whose range doesn't meet the block's interval was one before
+  place_before : (size redzone q : ℕ) → IsPlace without_oldest size redzone q
+      → (q - redzone < high_end e → low_end e < q + max size 1 + redzone → ⊥)
+      → IsPlace with_oldest size redzone q
+  place_before size redzone q place outside = record {
     small = place.small;
     multiple = place.multiple;
     above = place.above;
@@ -192,7 +163,7 @@ module _ (begin : ℕ) (live : ℕ → Option Block) (queue rest : List Block) (
         λ b kept meets. (let P : List Block → Type 0 =
         λ bs. IsKept (record { begin = begin; live = live; queue = bs }) b in
         go b (subst P is kept) meets);
-  })
+  }
     where
       go : (b : Block) → IsKept (record { begin = begin; live = live; queue = e ∷ rest }) b
           → Meets (q - redzone) (q + max size 1 + redzone) b → ⊥
@@ -200,9 +171,17 @@ module _ (begin : ℕ) (live : ℕ → Option Block) (queue rest : List Block) (
       go b (inr (zero, p, s)) meets =
           let P : Block → Type 0 = λ x. Meets (q - redzone) (q + max size 1 + redzone) x in
           let there : Meets (q - redzone) (q + max size 1 + redzone) e = subst P (sym s) meets in
-          outside q over less place there.0 there.1
+          outside there.0 there.1
       go b (inr (suc k, p, s)) meets =
           place.apart b (inr (k, (let t : suc k < suc (length rest) = p in omega arith), s)) meets
+
+  -- where no place lies in that range
+  none_comes : (size redzone from to : ℕ) → AreNoPlaces with_oldest size redzone from to
+      → ((q : ℕ) → from ≤ q → q < to → IsPlace without_oldest size redzone q → q - redzone < high_end e
+      → low_end e < q + max size 1 + redzone → ⊥)
+      → AreNoPlaces without_oldest size redzone from to
+  none_comes size redzone from to none outside q over less place =
+      none q over less (place_before size redzone q place (outside q over less place))
 
   module _ (redzone end : ℕ) (o : Opened) (low : EndsBelow with_oldest e.start end)
       (high : BeginsAbove with_oldest e.start o.end) (even : o.first % 16 ≡ 0)
@@ -272,22 +251,22 @@ module _ (begin : ℕ) (live : ℕ → Option Block) (queue rest : List Block) (
 
     bounds_hold : (bounds : List Bound) → AreBounds with_oldest redzone bounds
         → AreBounds without_oldest redzone (map (lowered o) bounds)
-    bounds_hold bounds hold i b there =
-        let (a, at, is) = option_map-some (lowered o) (slice_get bounds i) b (sym (slice_get-map (lowered o) bounds i)
-        ∙ there) in
-        let P : Bound → Type 0 = Holds without_oldest redzone in
-        subst P is (lowered_holds a (hold i a at))
+    bounds_hold = each_mapped (Holds with_oldest redzone) (Holds without_oldest redzone) (lowered o) lowered_holds
 
--- nor has a block that isn't less
-pub skipped_too : (blocks : Blocks) (size least redzone from to : ℕ) → AreNoPlaces blocks least redzone from to
-    → max least 1 ≤ max size 1 → AreNoPlaces blocks size redzone from to
-skipped_too blocks size least redzone from to none less_size q over less place = none q over less (record {
-  small = (let small = place.small in omega arith);
-  multiple = place.multiple;
-  above = place.above;
-  below = (let below = place.below in omega arith);
-  apart = λ b kept meets. place.apart b kept (meets.0, omega (arith, meets.1));
-})
+    -- the places that come
+    opens : Opens o redzone with_oldest without_oldest
+    opens size q place gone =
+        elim (cases_lt (q - redzone) (high_end e)) [
+          | inr ge ↦ absurd (gone (back (λ past under. omega (arith, ge, past))))
+          | inl past ↦ (elim (cases_lt (low_end e) (q + max size 1 + redzone)) [
+            | inr ge ↦ absurd (gone (back (λ _ under. omega (arith, ge, under))))
+            | inl under ↦ (let f = from_first size q place past under in (f.0, f.2, f.1))
+          ])
+        ]
+      where
+        back : (q - redzone < high_end e → low_end e < q + max size 1 + redzone → ⊥)
+            → IsPlace with_oldest size redzone q
+        back outside = place_before size redzone q place outside
 
 -- from a bound up to the next multiple of 16 there is no place for a block that isn't less
 pub none_up_to : (blocks : Blocks) (size least redzone bound from : ℕ) → AreNoPlaces blocks least redzone 0 bound
@@ -330,13 +309,7 @@ taken_holds blocks bounds redzone taken hold (inr (i, b, there, less, from, next
 -- one bound is written anew
 pub put_holds : (blocks : Blocks) (redzone : ℕ) (bounds : List Bound) (i : ℕ) (b : Bound)
     → AreBounds blocks redzone bounds → Holds blocks redzone b → AreBounds blocks redzone (set bounds i b)
-put_holds blocks redzone [] i b hold none k c there = cc
-put_holds blocks redzone (x ∷ xs) zero b hold none zero c there =
-    let P : Bound → Type 0 = Holds blocks redzone in subst P (some-same there) none
-put_holds blocks redzone (x ∷ xs) zero b hold none (suc k) c there = hold (suc k) c there
-put_holds blocks redzone (x ∷ xs) (suc i) b hold none zero c there = hold zero c there
-put_holds blocks redzone (x ∷ xs) (suc i) b hold none (suc k) c there =
-    put_holds blocks redzone xs i b (λ j d h. hold (suc j) d h) none k c there
+put_holds blocks redzone = each_set (Holds blocks redzone)
 
 -- below what a search answers there is no place
 pub none_below : (blocks : Blocks) (size redzone p : ℕ) → Places blocks size redzone (Some p)
@@ -347,41 +320,36 @@ pub none_at_all : (blocks : Blocks) (size redzone p : ℕ) → Places blocks siz
     → AreNoPlaces blocks size redzone 0 p
 none_at_all blocks size redzone p h q over less = h q
 
-pub same_bounds : (begin : ℕ) (live live' : Entries) (queue queue' : List Entry) (redzone : ℕ) (bounds : List Bound)
-    → live' ≡ live → queue' ≡ queue
-    → AreBounds (shown begin live queue) redzone bounds → AreBounds (shown begin live' queue') redzone bounds
-same_bounds begin live live' queue queue' redzone bounds l q hold =
-    let P : Entries → Type 0 = λ f. AreBounds (shown begin f queue') redzone bounds in
-    let Q : List Entry → Type 0 = λ es. AreBounds (shown begin live es) redzone bounds in
-    subst P (sym l) (subst Q (sym q) hold)
-
--- the bounds once the oldest entry has left
-pub forgotten_bounds : (begin : ℕ) (live freed : Entries) (queue rest : List Entry) (number : ℕ)
+-- what is known once the oldest entry has left
+pub forgotten : (begin : ℕ) (live freed : Entries) (queue rest : List Entry) (number : ℕ)
     (sound : AreSound begin live freed queue number) (e : Entry)
     → Some e ≡ first_of queue → rest ≡ drop 1 queue → (redzone end : ℕ) (o : Opened)
     → EndsBelow (shown begin live queue) e.start end
     → BeginsAbove (shown begin live queue) e.start o.end → o.first % 16 ≡ 0 → o.first < end + redzone + 16
     → o.room ≡ o.end - (o.first + redzone)
-    → (old new : List Bound) → AreBounds (shown begin live queue) redzone old → new ≡ map (lowered o) old
-    → AreBounds (shown begin live rest) redzone new
-forgotten_bounds begin live freed [] rest number sound e h d redzone end o low high even near fits old new hold made =
-    cc
-forgotten_bounds begin live freed (x ∷ xs) rest number sound e h d redzone end o low high even near fits old new hold
-    made =
+    → (Opens o redzone (shown begin live queue) (shown begin live rest))
+    × ((bounds : List Bound) → AreBounds (shown begin live queue) redzone bounds
+    → AreBounds (shown begin live rest) redzone (map (lowered o) bounds))
+forgotten begin live freed [] rest number sound e h d redzone end o low high even near fits = cc
+forgotten begin live freed (x ∷ xs) rest number sound e h d redzone end o low high even near fits =
     let same : e ≡ x = some-same h in
     let P : Entry → Type 0 = λ y. EndsBelow (shown begin live (x ∷ xs)) y.start end in
     let Q : Entry → Type 0 = λ y. BeginsAbove (shown begin live (x ∷ xs)) y.start o.end in
-    let R : List Entry → Type 0 = λ es. AreBounds (shown begin live es) redzone new in
-    let S : List Bound → Type 0 = λ bs. AreBounds (shown begin live xs) redzone bs in
+    let R : List Entry → Type 0 = λ es. (Opens o redzone (shown begin live (x ∷ xs)) (shown begin live es))
+    × ((bounds : List Bound) → AreBounds (shown begin live (x ∷ xs)) redzone bounds
+    → AreBounds (shown begin live es) redzone (map (lowered o) bounds)) in
+    let comes = opens begin (shown begin live (x ∷ xs)).live (map block_of (x ∷ xs)) (map block_of xs)
+    (block_of x) refl sound.apart redzone end o (subst P same low) (subst Q same high) even near fits in
     let holds = bounds_hold begin (shown begin live (x ∷ xs)).live (map block_of (x ∷ xs)) (map block_of xs)
-    (block_of x) refl sound.apart redzone end o (subst P same low) (subst Q same high) even near fits old hold in
-    subst R (sym d) (subst S (sym made) holds)
+    (block_of x) refl sound.apart redzone end o (subst P same low) (subst Q same high) even near fits in
+    subst R (sym d) (comes, holds)
 
 -- a bound that was taken, once it is raised
-pub raised_holds : (blocks : Blocks) (redzone : ℕ) (own : Bound) (size from : ℕ) → own.size ≡ size
-    → AreNoPlaces blocks size redzone 0 from
-    → Holds blocks redzone own → Holds blocks redzone
-    (record { size = own.size; from = from; next = own.next; until = own.until })
-raised_holds blocks redzone own size from is none hold =
+pub raised_holds : (old blocks : Blocks) (before redzone : ℕ) (own : Bound) (size from : ℕ) → blocks ≡ old
+    → redzone ≡ before → own.size ≡ size → AreNoPlaces blocks size redzone 0 from → Holds old before own
+    → Holds blocks redzone (record { size = own.size; from = from; next = own.next; until = own.until })
+raised_holds old blocks before redzone own size from same kept is none hold =
     let P : ℕ → Type 0 = λ n. AreNoPlaces blocks n redzone 0 from in
-    record { below = subst P (sym is) none; between = hold.between }
+    let Q : Blocks → Type 0 = λ bs. AreNoPlaces bs own.size redzone own.next own.until in
+    let R : ℕ → Type 0 = λ r. AreNoPlaces old own.size r own.next own.until in
+    record { below = subst P (sym is) none; between = subst Q (sym same) (subst R (sym kept) hold.between) }

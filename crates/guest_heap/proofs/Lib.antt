@@ -9,7 +9,12 @@ pub mod KeptSteps
 pub mod PlaceSteps
 pub mod PutSteps
 pub mod Bounding
+pub mod Each
+pub mod NoPlaces
 mod BoundSteps
+pub mod GapSteps
+pub mod KnownSteps
+pub mod SearchSteps
 pub mod FreeSteps
 pub mod NearSteps
 pub mod Firsts

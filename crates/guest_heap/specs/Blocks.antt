@@ -145,3 +145,9 @@ pub record IsFirstLive (live : ℕ → Option Block) (from : ℕ) (b : Block) : 
   pub above : from ≤ b.start
   pub there : live b.start ≡ Some b
   pub least : (a : ℕ) → from ≤ a → a < b.start → live a ≡ None
+
+-- the kept block with the least start not below an address: any other from there on begins above it
+pub record IsFirstKept (blocks : Blocks) (from : ℕ) (b : Block) : Type 0 where
+  pub kept : IsKept blocks b
+  pub above : from ≤ b.start
+  pub least : (c : Block) → IsKept blocks c → from ≤ c.start → (c ≡ b) ⊎ (b.start < c.start)

@@ -1,10 +1,7 @@
 -- What is known of places, by sizes.
 use Rattle.std.specs.Prelude.{ℕ, ◌≡◌, ◌≤◌, ◌<◌, ◌⊎◌, nat_lt, nat_le, min}
-use Rattle.std.specs.Prelude.{max, List, [], Option, Some, None, map, slice_get}
+use Rattle.std.specs.Prelude.{max, List, [], Some, map, slice_get}
 use Rattle.std.specs.Prelude.{◌&&◌, if◌then◌else◌}
-use Rattle.std.specs.declared.alloc.Global.{Global}
-use Rattle.std.specs.declared.rc.Rc.{Rc}
-use Rattle.std.specs.declared.vec.Vec.{Vec}
 use Rattle.guest_heap.specs.Blocks.{Blocks}
 use Rattle.guest_heap.specs.States.{AreNoPlaces}
 use Rattle.guest_heap.specs.declared.bounds.Bound.{Bound}
@@ -54,8 +51,3 @@ lowered o b =
 -- a range became free, or there are no bounds any more
 abbrev pub IsLowered : Opened → List Bound → List Bound → Type 0
 IsLowered o old new = (new ≡ map (lowered o) old) ⊎ (new ≡ [])
-
--- the bounds of a list that may be absent
-abbrev pub listed : Option (Rc (Vec Bound Global) Global) → List Bound
-listed None = []
-listed (Some list) = list.value.items

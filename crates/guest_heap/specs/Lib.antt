@@ -10,6 +10,9 @@ pub mod Blocks
 pub mod Steps
 pub mod Laws
 pub mod States
+pub mod SharedLists
 pub mod Bounds
 pub mod BoundLists
+pub mod Gaps
+pub mod Searches
 pub mod Heaps

@@ -3,7 +3,8 @@
 //! range above its place stays known.
 ghost use Rattle.std.specs.Prelude.{◌≡◌, ◌<◌, ◌≤◌, ◌+◌, ◌%◌, ℕ, max, map, slice_set, OnOk, OnErr};
 ghost use Rattle.guest_heap.specs.Blocks.{greatest_size};
-ghost use Rattle.guest_heap.specs.Bounds.{listed, lowered, IsKnown, IsSkipped, IsTaken};
+ghost use Rattle.guest_heap.specs.Bounds.{lowered, IsKnown, IsSkipped, IsTaken};
+ghost use Rattle.guest_heap.specs.SharedLists.{items_in};
 
 use crate::region::aligned;
 use std::alloc::{AllocError, Global};
@@ -136,7 +137,7 @@ pub(crate) fn past(at: u64, bound: &Bound) -> u64
 
 /// Returns the bounds of a list, or none if it is absent.
 fn listed(list: &Option<Rc<Vec<Bound>>>) -> &[Bound]
-    ensures { result.now ≡ listed list.now }
+    ensures { result.now ≡ items_in list.now }
 {
     match list {
         Some(shared) => shared.as_slice(),

@@ -4,10 +4,11 @@ ghost use Rattle.memory_map.specs.Regions.{greatest_heap_begin};
 ghost use Rattle.guest_heap.specs.Tables.{entries_of};
 ghost use Rattle.guest_heap.specs.Queues.{queued};
 ghost use Rattle.guest_heap.specs.States.{AreSound, volume_in, shown};
-ghost use Rattle.guest_heap.specs.Bounds.{AreBounds};
+ghost use Rattle.guest_heap.specs.Gaps.{AreKnown};
 ghost use Rattle.guest_heap.specs.BoundLists.{bounds_in};
 
 use crate::bounds::Bounds;
+use crate::gaps::Gaps;
 use crate::queue::Queue;
 use crate::table::Table;
 use crate::traces::{RecentTraces, SharedTrace};
@@ -16,6 +17,7 @@ use memory_map::Regions;
 use std::alloc::{AllocError, Global};
 
 pub(crate) mod comparing;
+pub(crate) mod places;
 pub(crate) mod placing;
 pub(crate) mod reading;
 pub(crate) mod releasing;
@@ -34,9 +36,10 @@ pub struct Heap {
     next: u64,
     // The sum of the sizes in the queue.
     held: u64,
-    // The redzone of the bounds.
+    // The redzone of the bounds and of the index of gaps.
     redzone: u32,
     bounds: Bounds,
+    gaps: Gaps,
     traces: RecentTraces,
     ghost grid: { begin % 16 ≡ 0 },
     ghost some: { 0 < begin },
@@ -44,7 +47,7 @@ pub struct Heap {
     ghost sound: { AreSound begin (entries_of live) (entries_of freed) (queued queue) first },
     ghost numbered: { next ≡ first + length (queued queue) },
     ghost volume: { held ≡ volume_in (queued queue) },
-    ghost bounded: { AreBounds (shown begin (entries_of live) (queued queue)) redzone (bounds_in bounds) },
+    ghost known: { AreKnown (shown begin (entries_of live) (queued queue)) redzone (bounds_in bounds) gaps },
 }
 
 #[tactic(auto, unfolding(crate::specs::Heaps::blocks_of))]
@@ -70,6 +73,7 @@ impl Heap {
         let freed = Table::new();
         let queue = Queue::new(alloc);
         let bounds = Bounds::new();
+        let gaps = Gaps::new();
         let traces = RecentTraces::new();
         Heap {
             begin: regions.heap_begin(),
@@ -81,6 +85,7 @@ impl Heap {
             held: 0,
             redzone: 0,
             bounds,
+            gaps,
             traces,
         }
     }
@@ -94,6 +99,7 @@ impl Heap {
         let freed = self.freed.share()?;
         let queue = self.queue.share()?;
         let bounds = self.bounds.share()?;
+        let gaps = self.gaps.share()?;
         let traces = self.traces.clone()?;
         Ok(Heap {
             begin: self.begin,
@@ -105,6 +111,7 @@ impl Heap {
             held: self.held,
             redzone: self.redzone,
             bounds,
+            gaps,
             traces,
         })
     }

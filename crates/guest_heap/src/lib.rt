@@ -13,6 +13,7 @@
 //! | [`Heap::allocate`] | allocates a block and returns its start, the least place of all, or none if there is no place |
 //! | [`Heap::release`] | frees a block and returns it; the queue is then the longest suffix whose sizes sum to at most the volume |
 //! | [`Heap::live`] | returns the live block with the least start that isn't below an address |
+//! | [`Heap::kept`] | returns the kept block with the least such start, live or in the queue |
 //! | [`Heap::block_near`] | returns the kept block whose interval holds an address, and where in it the address lies |
 //! | [`Heap::is_same`] | returns whether another heap has the same blocks |
 //! | [`Heap::share`] | returns a copy, which later changes of the original don't reach |
@@ -36,8 +37,9 @@
 //!
 //! - `specs/Blocks.antt`: blocks, intervals, places, the queue, what is near an address, as relations.
 //! - `specs/Steps.antt`: the calls as functions. `specs/Laws.antt`: what these functions mean, for all blocks.
-//! - The others are for this crate's proofs: `Heaps` (`blocks_of`), `States` and `Bounds` (what a heap keeps true), and `Entries`, `Leaves`,
-//!   `Rows`, `Sizes`, `Tables`, `Runs`, `Queues`, `BoundLists`, `Unused` (how it stores these).
+//! - The others are for this crate's proofs: `Heaps` (`blocks_of`), `States`, `Bounds` and `Gaps` (what a heap keeps true), `Searches` (how
+//!   far a search for a place has come), and `Entries`, `Leaves`, `Rows`, `Sizes`, `Tables`, `Runs`, `Queues`, `BoundLists`, `SharedLists`,
+//!   `Unused` (how it stores these).
 //!
 //! # Costs
 //!
@@ -48,10 +50,16 @@
 //! them (`traces.rt`). `allocate` keeps a bound for each class of sizes, below which the class has no place, and one range further up
 //! (`bounds.rt`). It looks at kept blocks only from there on. When a block leaves the queue, it forgets no more of this than the room that
 //! the block leaves.
+//!
+//! Once an allocation has looked at 64 kept blocks, the heap has an index of gaps by size (`gaps.rt`): 128 rows of 256 parts of 16 KiB, and
+//! for each part and each row a size of which no block has a place there. A search passes over what is full for its size, and looks only at
+//! the blocks of the other parts. A part that was searched in vain is then full for all sizes above its greatest gap. When a block leaves
+//! the queue, the parts that its room meets have that room. A change after a copy copies the rows and the parts of one row, 3 KiB each.
 #![tactic(auto)]
 
 mod bounds;
 mod entry;
+mod gaps;
 mod heap;
 mod interval;
 pub mod laws;

@@ -13,6 +13,7 @@ pub mod Halted
 pub mod Running
 pub mod DecodeSteps
 pub mod Altering
+pub mod ApartLaw
 pub mod AtOnce
 pub mod SameCodes
 pub mod Fetching

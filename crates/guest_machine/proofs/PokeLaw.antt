@@ -23,7 +23,7 @@ written-elsewhere f None made a h = refl
 written-elsewhere f (Some span) made a h = ap (λ b. cond b (made (offset span.start a)) (f a)) h
 
 -- a byte that isn't touched stays
-stays : (setup : Setup) (s : State) (a : ℕ) → touches s setup a ≡ false → (exec s setup).bytes a ≡ s.bytes a
+pub stays : (setup : Setup) (s : State) (a : ℕ) → touches s setup a ≡ false → (exec s setup).bytes a ≡ s.bytes a
 unfolding exec touches touched_at
 stays setup s a h =
     let uses = uses_at s.core s.bytes s.position (length s.output) setup in

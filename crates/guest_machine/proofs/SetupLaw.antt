@@ -1,7 +1,7 @@
 -- A step does the same under setups that differ where it doesn't look.
 use Rattle.std.proofs.Common.{◌≡◌, ℕ, zero, suc, ◌+◌, ◌-◌, ◌<◌, ◌≤◌, nat_lt, min, Bool, true, false, List, [], ◌∷◌}
 use Rattle.std.proofs.Common.{◌++◌, cond, refl, ap, ap₂, sym, ◌∙◌, take, drop}
-use Rattle.std.proofs.Common.{length, length-append, Option, Some, None, arith}
+use Rattle.std.proofs.Common.{length, length-append, length-drop, Option, Some, None, arith}
 use Rattle.std.proofs.lemmas.Bool.Decides.{nat_tests}
 use Rattle.std.specs.Prelude.{slice_get}
 use Rattle.guest_machine.specs.State.{State}
@@ -9,7 +9,7 @@ use Rattle.guest_machine.specs.Exec.{Deed, Terms, Intake, exec, plan, outcome, i
 use Rattle.guest_machine.specs.Exec.{uses_at, effect_at, outcome_at, stepped, touches, touched_at}
 use Rattle.guest_machine.specs.Exec.{has_touched, deed_at, deed_asks, deed_terms, is_heap_deed, given_at, taken_from}
 use Rattle.guest_machine.specs.Exec.{written_to, counted, fetch_span}
-use Rattle.guest_machine.specs.Laws.{KeepsInput, KeepsHeap, KeepsEnd, EndStays, is_heap_step}
+use Rattle.guest_machine.specs.Laws.{SharesRest, KeepsInput, KeepsHeap, KeepsEnd, EndStays, is_heap_step}
 use Rattle.guest_machine.specs.Run.{pre}
 use Rattle.guest_machine.specs.Streams.{HasMore, KeepsFront}
 use Rattle.guest_machine.specs.declared.setup.Setup.{Setup}
@@ -132,7 +132,31 @@ pub keeps-heap : KeepsHeap
 unfolding exec
 keeps-heap = record { same = heap-same; counts = λ setup s. refl }
 
--- the end of the input --
+-- ---- input that was read
+
+-- as much is left of the input
+same-left : (one other : Setup) (position : ℕ) → SharesRest position one other
+    → length one.input - position ≡ length other.input - position
+same-left one other position d =
+    sym (length-drop position one.input) ∙ ap length d.rest ∙ length-drop position other.input
+
+pub rest-same : (one other : Setup) (s : State) → SharesRest s.position one other
+    → (touches s one ≡ touches s other) × (exec s one ≡ exec s other)
+unfolding seen taken-under intake_at
+rest-same one other s d =
+    let intake : taken-under s one ≡ taken-under s other =
+    (λ i. intake_of (deed_asks s.core (deed_at s.core s.bytes (d.hooks i))) (same-left one other s.position d i)) in
+    let t : seen s one ≡ seen s other = λ i.
+    let heap = is_heap_step s (d.hooks i) in
+    record {
+      intake = intake i;
+      written = length s.output;
+      redzone = cond heap (d.redzone i) 0;
+      volume = cond heap (d.volume i) 0;
+    } in
+    same-step one other s d.hooks t (ap (λ xs. take (taken-under s one).count xs) d.rest)
+
+-- ---- the end of the input
 
 -- a part of a list that a longer one has too
 front-part : (xs more : List ℕ) (p n : ℕ) → n ≤ length xs - p → take n (drop p xs) ≡ take n (drop p (xs ++ more))

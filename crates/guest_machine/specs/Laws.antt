@@ -1,6 +1,6 @@
 -- Laws of one step, which follow from its form and not from any instruction.
 use Rattle.std.specs.Prelude.{◌≡◌, ℕ, ◌/◌, ◌%◌, ◌<◌, ◌≤◌, true, false, Bool, List, [], ◌∷◌, ◌++◌, length}
-use Rattle.std.specs.Prelude.{slice_get, ◌==◌, ◌&&◌, if◌then◌else◌, is_none, None}
+use Rattle.std.specs.Prelude.{slice_get, ◌==◌, ◌&&◌, if◌then◌else◌, is_none, None, drop}
 use Rattle.guest_elf.specs.Hooks.{hook_at}
 use Rattle.guest_elf.specs.declared.hook.Hook.{Hook}
 use Rattle.guest_elf.specs.declared.profile.Isa.TheVariants.{Rv32im}
@@ -75,6 +75,30 @@ abbrev pub KeepsInput : Type 0
 KeepsInput =
     (one other : Setup) (offset : ℕ) (s : State) → SharesFront offset one other → (exec s one).position ≤ offset
     → (touches s one ≡ touches s other) × (exec s one ≡ exec s other)
+
+-- two setups differ at most in input below a position, which was read
+pub record SharesRest (position : ℕ) (one other : Setup) : Type 0 where
+  pub redzone : one.redzone ≡ other.redzone
+  pub volume : one.volume ≡ other.volume
+  pub hooks : one.hooks ≡ other.hooks
+  pub rest : drop position one.input ≡ drop position other.input
+
+-- the addresses that pass a test
+abbrev pub Within : (ℕ → Bool) → ℕ → Type 0
+Within inside a = inside a ≡ true
+
+-- a step does the same in one state as in another: it touches the same, after it they differ within the same addresses,
+-- and there it leaves the other's bytes as they were
+pub record StepsAlike (inside : ℕ → Bool) (one other : Setup) (s t : State) : Type 0 where
+  pub touches : touches s one ≡ touches t other
+  pub differ : DifferWithin (Within inside) (exec s one) (exec t other)
+  pub left : (a : ℕ) → Within inside a → (exec t other).bytes a ≡ t.bytes a
+
+-- it does so if it touches none of the addresses within which they differ, also where input that was read differs
+abbrev pub KeepsApart : Type 0
+KeepsApart =
+    (inside : ℕ → Bool) (one other : Setup) (s t : State) → SharesRest s.position one other
+    → DifferWithin (Within inside) s t → TouchesNone (Within inside) s one → StepsAlike inside one other s t
 
 -- is the step of a state a heap call?
 abbrev pub is_heap_step : State → List (ℕ × Hook) → Bool

@@ -22,3 +22,4 @@ pub mod Acting
 pub mod DecodeCaches
 pub mod Streams
 pub mod Laws
+pub mod Differences

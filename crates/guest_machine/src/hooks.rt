@@ -1,10 +1,11 @@
-ghost use Rattle.std.specs.Prelude.{◌≡◌, ℕ, ◌<◌, ◌≤◌, length, slice_index_or};
+ghost use Rattle.std.specs.Prelude.{◌≡◌, ℕ, ◌<◌, ◌≤◌, length, slice_index_or, IfOk, IsTrue};
 ghost use Rattle.guest_elf.specs.declared.hook.Hook.{Hook as HookOf};
 ghost use Rattle.std.specs.List.Sorted.{IsNonDecreasingBy};
 ghost use Rattle.guest_elf.specs.Hooks.{hook_at};
 ghost use Rattle.guest_machine.specs.Sieve.{slot_of, AreMarked};
 
 use guest_elf::Hook;
+use std::alloc::{AllocError, Global};
 use std::marker::Model;
 
 /// The number of marks in a sieve.
@@ -41,6 +42,24 @@ impl Hooks {
     {
         let sieve = sieve_of(&entries);
         Hooks { entries, sieve }
+    }
+
+    /// Returns a copy.
+    pub(crate) fn copy(&self, alloc: Global) -> Result<Hooks, AllocError>
+        ensures { IfOk result (λ copy. copy ≡ self.now) }
+    {
+        let entries = self.entries.as_slice().to_vec(alloc)?;
+        Ok(Hooks {
+            entries,
+            sieve: self.sieve,
+        })
+    }
+
+    /// Returns whether others are the same functions, at the same addresses.
+    pub(crate) fn are_same(&self, others: &Hooks) -> bool
+        ensures { IsTrue result → self.now ≡ others.now }
+    {
+        self.entries == others.entries
     }
 
     /// Returns the function that begins at an address; if there are several, the first.

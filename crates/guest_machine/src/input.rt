@@ -1,4 +1,4 @@
-ghost use Rattle.std.specs.Prelude.{◌≡◌, ◌-◌, ◌++◌, ◌∷◌, [], length, take, OnOk, OnErr};
+ghost use Rattle.std.specs.Prelude.{◌≡◌, ◌-◌, ◌++◌, ◌∷◌, [], drop, length, take, IsTrue, OnOk, OnErr};
 
 use std::alloc::AllocError;
 use std::marker::Model;
@@ -37,6 +37,16 @@ impl Input {
         ensures { result.now ≡ self.now }
     {
         &self.bytes
+    }
+
+    /// Returns whether the bytes from a position on are those of another input.
+    pub(crate) fn has_rest_of(&self, other: &Input, position: usize) -> bool
+        ensures { IsTrue result → drop position self.now ≡ drop position other.now }
+    {
+        match (self.bytes.get(position..), other.bytes.get(position..)) {
+            (Some(rest), Some(other_rest)) => rest == other_rest,
+            _ => false,
+        }
     }
 
     /// Appends a byte. If memory runs out, the input stays as it is.

@@ -27,6 +27,7 @@
 //! | [`Machine::share_ready`] | likewise, for one of several such copies: it has decoded what this one has |
 //! | [`Machine::learn`], [`Machine::take_over`] | copy or move what another machine has decoded, for the codes that are the same in both |
 //! | [`Machine::is_same`] | returns whether another machine shows the same |
+//! | [`Machine::words_apart`] | returns the words in which another machine has other bytes, if it shows the same but for these |
 //! | [`Machine::status`], [`Machine::pc`], [`Machine::register`] | return whether it runs, and its registers |
 //! | [`Machine::control`] | returns a control register, if the instruction set has those |
 //! | [`Machine::heap_begin`] | returns the first address of the heap's region |
@@ -34,14 +35,14 @@
 //! | [`Machine::position`], [`Machine::end_seen`] | return how much of the input was read so far, and whether its end was seen |
 //! | [`Machine::output_len`], [`Machine::heap_calls`] | return the number of bytes written and of heap calls so far |
 //! | [`Machine::has_raised`] | returns whether the last step by [`Machine::step`] raised an error |
-//! | [`Machine::memory`], [`Machine::heap`] | return the bytes with what is known of them, and the blocks of the heap |
+//! | [`Machine::memory`], [`Machine::heap`], [`Machine::frames`] | return the bytes with what is known of them, the blocks of the heap, and the frames of the calls that it is in |
 //! | [`Machine::groups`] | returns the errors so far, in order of first occurrence |
 //! | [`Hooks::new`], [`Hooks::at`] | return the functions of the heap that are called by name, from a list in order of address; the one that begins at an address |
 //! | [`Input::new`], [`Input::len`], [`Input::into_vec`] | return the bytes that can be read, from a vector; their number; the vector again |
 //! | [`Input::push`], [`Input::pop`] | append a byte to the input, or remove its last one |
 //! | [`Register::new`] | the register of a number below 32 |
 //! | [`Meter::new`], [`Meter::read`], [`Meter::rise_by`] | a count of steps, raised by `step`, by `run` and by the steps that a caller counted |
-//! | [`laws::keeps_words`], [`laws::keeps_input`], [`laws::keeps_heap`], [`laws::keeps_pokes`] | do nothing; their contracts are laws of one step |
+//! | [`laws::keeps_words`], [`laws::keeps_apart`], [`laws::keeps_input`], [`laws::keeps_heap`], [`laws::keeps_pokes`] | do nothing; their contracts are laws of one step |
 //! | [`laws::reads_on`], [`laws::keeps_end`], [`laws::end_stays`], [`laws::stays_halted`] | likewise |
 //! | [`laws::keeps_isa`], [`laws::keeps_regions`], [`laws::goes_by_fours`], [`laws::lacks_extensions`], [`laws::lacks_atomics`] | likewise, on the instruction set |
 //! | [`laws::alters_as_marked`], [`laws::runs_as_marked`] | likewise; their contracts say what marks are as alterations |
@@ -86,6 +87,7 @@
 //! - `Errors`: what each test notes, with its note; `StackPointer`: what a move of the stack pointer makes inaccessible or undefined.
 //! - `State`, `Registers`, `Spans`: what a state is, and how registers and ranges of addresses change.
 //! - `Laws`: the laws of one step. `Fetches`: where a code that is fetched begins.
+//! - `Differences`: that a machine shows the same as another but for some words.
 //! - `Shows`: that a machine shows a state. `Loading`, `Sieve`, `Doing`, `Acting` and `DecodeCaches` are for this crate's proofs.
 //!
 //! Sources: RISC-V Unprivileged ISA 20191213, chapters 1, 2, 3, 7 to 10 and 16; RISC-V Privileged Architecture 20190608, chapters 2 and 3;

@@ -1,6 +1,10 @@
+ghost use Rattle.std.specs.Prelude.{◌≡◌, IfOk, IsTrue};
+ghost use Rattle.guest_machine.specs.Laws.{SharesRest};
+
 use crate::hooks::Hooks;
 use crate::input::Input;
 use run_values::Span;
+use std::alloc::{AllocError, Global};
 
 /// The default number of inaccessible bytes on each side of a heap block (Valgrind core manual, section 2.6, `--redzone-size`).
 pub const USUAL_REDZONE: u32 = 16;
@@ -18,6 +22,32 @@ pub struct Setup {
     pub volume: u32,
     /// A step at one of their addresses executes the heap call of the function there, and returns to x1.
     pub hooks: Hooks,
+}
+
+impl Setup {
+    /// Returns a copy.
+    pub fn copy(&self, alloc: Global) -> Result<Setup, AllocError>
+        ensures { IfOk result (λ copy. copy ≡ self.now) }
+    {
+        let bytes = self.input.as_slice().to_vec(alloc)?;
+        let hooks = self.hooks.copy(alloc)?;
+        Ok(Setup {
+            input: Input::new(bytes),
+            redzone: self.redzone,
+            volume: self.volume,
+            hooks,
+        })
+    }
+
+    /// Returns whether another setup differs at most in input below a position.
+    pub fn shares_rest(&self, other: &Setup, position: u64) -> bool
+        ensures { IsTrue result → SharesRest position self.now other.now }
+    {
+        self.redzone == other.redzone
+            && self.volume == other.volume
+            && self.hooks.are_same(&other.hooks)
+            && self.input.has_rest_of(&other.input, position as usize)
+    }
 }
 
 /// The addresses whose bytes a step read or wrote.

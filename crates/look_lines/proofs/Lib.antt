@@ -1,2 +1,4 @@
+pub mod Blocks
 mod Digits
 pub mod Joins
+pub mod Sites

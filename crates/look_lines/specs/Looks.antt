@@ -1,5 +1,5 @@
 -- What a look asks for, and the line that asks for it.
-use Rattle.std.specs.Prelude.{ℕ, ◌+◌, ◌^◌, ◌&&◌, nat_le, nat_lt, Bool, if◌then◌else◌, List, [], ◌∷◌}
+use Rattle.std.specs.Prelude.{ℕ, ◌+◌, ◌^◌, ◌&&◌, ◌||◌, nat_le, nat_lt, Bool, if◌then◌else◌, List, [], ◌∷◌}
 use Rattle.std.specs.Prelude.{Option, Some, None, option_map, Result, Ok, Err, codes}
 use Rattle.std.specs.Str.{bytes_eq}
 use Rattle.checkpoints.specs.declared.searches.Sought.{Sought}
@@ -12,8 +12,9 @@ use Rattle.commands.specs.declared.fault.Fault.{Fault}
 use Rattle.commands.specs.declared.fault.Fault.TheVariants.{BadCommand, BadRange, StepLimit}
 use Rattle.look_lines.specs.declared.look.Look.{Look}
 use Rattle.look_lines.specs.declared.look.Search.{Search}
+use Rattle.look_lines.specs.declared.look.Stretch.{Stretch}
 use Rattle.look_lines.specs.declared.look.Look.TheVariants.{Registers, Controls, Memory, Output, Sides, Input, Next}
-use Rattle.look_lines.specs.declared.look.Look.TheVariants.{Last, Certify}
+use Rattle.look_lines.specs.declared.look.Look.TheVariants.{Last, Certify, Stack, Blocks, Calls}
 
 -- the greatest number of bytes that a look at memory, at the output or at sides may show, and that a search for a
 -- change of what is known of them may watch
@@ -42,7 +43,7 @@ sought_with (Some watch) (Some range) = Some (record { watch = watch; range = ra
 sought_with (Some watch) None = None
 sought_with None range = None
 
--- a look that has no fields: `registers`, `controls`, `input`, `certify`
+-- a look that has no fields: `registers`, `controls`, `input`, `certify`, `stack`
 unfoldable pub bare : Look → List (List ℕ) → Option Look
 bare look [] = Some look
 bare look (field ∷ more) = None
@@ -51,6 +52,21 @@ bare look (field ∷ more) = None
 unfoldable pub range_of : List (List ℕ) → Option Span
 range_of (start ∷ len ∷ []) = span_with (number start) (number len)
 range_of _ = None
+
+-- the address of `blocks ADDR`
+unfoldable pub number_in : List (List ℕ) → Option ℕ
+number_in (field ∷ []) = number field
+number_in _ = None
+
+-- the steps of `calls FROM END`
+abbrev pub stretch_with : Option ℕ → Option ℕ → Option Stretch
+stretch_with (Some from) (Some end) = Some (record { from = from; end = end })
+stretch_with (Some from) None = None
+stretch_with None end = None
+
+unfoldable pub stretch_of : List (List ℕ) → Option Stretch
+stretch_of (from ∷ end ∷ []) = stretch_with (number from) (number end)
+stretch_of _ = None
 
 -- `KIND ADDR LEN STEP`
 abbrev pub search_with : Option Sought → Option ℕ → Option Search
@@ -75,6 +91,9 @@ look_of word more =
     else if bytes_eq word (codes "next") then option_map (λ search. Next search) (search_of more)
     else if bytes_eq word (codes "last") then option_map (λ search. Last search) (search_of more)
     else if bytes_eq word (codes "certify") then bare Certify more
+    else if bytes_eq word (codes "stack") then bare Stack more
+    else if bytes_eq word (codes "blocks") then option_map (λ from. Blocks from) (number_in more)
+    else if bytes_eq word (codes "calls") then option_map (λ stretch. Calls stretch) (stretch_of more)
     else None
 
 -- the look of a line's fields, of which the first is `look`
@@ -106,6 +125,12 @@ search_refusal search =
     else if may_watch search.sought.watch search.sought.range then None
     else Some BadRange
 
+-- why steps are rejected, if they are
+abbrev pub stretch_refusal : Stretch → Option Fault
+stretch_refusal stretch =
+    if nat_lt most_steps stretch.from || nat_lt most_steps stretch.end then Some StepLimit
+    else None
+
 -- why a look is rejected, if it is
 abbrev pub look_refusal : Look → Option Fault
 look_refusal Registers = None
@@ -117,6 +142,9 @@ look_refusal Input = None
 look_refusal (Next search) = search_refusal search
 look_refusal (Last search) = search_refusal search
 look_refusal Certify = None
+look_refusal Stack = None
+look_refusal (Blocks from) = None
+look_refusal (Calls stretch) = stretch_refusal stretch
 
 abbrev pub unless : Option Fault → Look → Result Look Fault
 unless None look = Ok look

@@ -11,6 +11,15 @@ pub struct Search {
     pub bound: u32,
 }
 
+/// The steps of which a look asks what happens in them.
+#[derive(Clone, Copy)]
+pub struct Stretch {
+    /// The first of them.
+    pub from: u32,
+    /// The first that isn't one of them any more.
+    pub end: u32,
+}
+
 /// What is asked of the run of a session, at its chosen step.
 #[derive(Clone, Copy)]
 pub enum Look {
@@ -32,4 +41,10 @@ pub enum Look {
     Last(Search),
     /// Whether the run is clean up to the step.
     Certify,
+    /// The calls that it is in.
+    Stack,
+    /// The blocks of the heap from an address on.
+    Blocks(u32),
+    /// What happens in steps before it.
+    Calls(Stretch),
 }

@@ -1,9 +1,9 @@
 //! A line read as a look.
 ghost use Rattle.std.specs.Prelude.{◌≡◌, IfOk, None};
 ghost use Rattle.commands.specs.Commands.{number as number_of};
-ghost use Rattle.look_lines.specs.Looks.{asked, bare, is_range, is_view, look_among, look_of, look_refusal, may_watch, range_of, search_of, search_refusal, span_with, watch_of};
+ghost use Rattle.look_lines.specs.Looks.{asked, bare, is_range, is_view, look_among, look_of, look_refusal, may_watch, number_in, range_of, search_of, search_refusal, span_with, stretch_of, stretch_refusal, watch_of};
 
-use crate::look::{Look, Search};
+use crate::look::{Look, Search, Stretch};
 use checkpoints::{Sought, Watch};
 use commands::{Fault, number};
 use run_values::Span;
@@ -37,6 +37,12 @@ const NEXT: &[u8] = b"next";
 const LAST: &[u8] = b"last";
 
 const CERTIFY: &[u8] = b"certify";
+
+const STACK: &[u8] = b"stack";
+
+const BLOCKS: &[u8] = b"blocks";
+
+const CALLS: &[u8] = b"calls";
 
 /// The greatest number of bytes that a look at memory, at the output or at sides may show, and that a search for a change of what is known of them
 /// may watch.
@@ -95,6 +101,33 @@ fn range_of(mut fields: Parts<'_>) -> Option<Span>
     span_of(start, len)
 }
 
+/// The address of `blocks ADDR`.
+#[tactic(auto, unfolding(crate::specs::Looks::number_in))]
+fn number_in(mut fields: Parts<'_>) -> Option<u32>
+    ensures { result ≡ number_in fields.entry }
+{
+    let field = fields.next()?;
+    if fields.next().is_some() {
+        return None;
+    }
+    number(field)
+}
+
+/// The steps of `calls FROM END`.
+#[tactic(auto, unfolding(crate::specs::Looks::stretch_of))]
+fn stretch_of(mut fields: Parts<'_>) -> Option<Stretch>
+    ensures { result ≡ stretch_of fields.entry }
+{
+    let from = fields.next()?;
+    let end = fields.next()?;
+    if fields.next().is_some() {
+        return None;
+    }
+    let from = number(from)?;
+    let end = number(end)?;
+    Some(Stretch { from, end })
+}
+
 /// `KIND ADDR LEN STEP`.
 #[tactic(auto, unfolding(crate::specs::Looks::search_of))]
 fn search_of(mut fields: Parts<'_>) -> Option<Search>
@@ -139,6 +172,12 @@ fn look_of(word: &[u8], fields: Parts<'_>) -> Option<Look>
         Some(Look::Last(search_of(fields)?))
     } else if word == CERTIFY {
         bare(Look::Certify, fields)
+    } else if word == STACK {
+        bare(Look::Stack, fields)
+    } else if word == BLOCKS {
+        Some(Look::Blocks(number_in(fields)?))
+    } else if word == CALLS {
+        Some(Look::Calls(stretch_of(fields)?))
     } else {
         None
     }
@@ -190,12 +229,28 @@ fn search_refusal(search: Search) -> Option<Fault>
     }
 }
 
+/// Why steps are rejected, if they are.
+fn stretch_refusal(stretch: Stretch) -> Option<Fault>
+    ensures { result ≡ stretch_refusal stretch }
+{
+    if stretch.from > MOST_STEPS || stretch.end > MOST_STEPS {
+        Some(Fault::StepLimit)
+    } else {
+        None
+    }
+}
+
 /// Why a look is rejected, if it is.
 fn look_refusal(look: Look) -> Option<Fault>
     ensures { result ≡ look_refusal look }
 {
     match look {
-        Look::Registers | Look::Controls | Look::Input | Look::Certify => None,
+        Look::Registers
+        | Look::Controls
+        | Look::Input
+        | Look::Certify
+        | Look::Stack
+        | Look::Blocks(_) => None,
         Look::Memory(range) | Look::Output(range) | Look::Sides(range) => {
             if is_view(range) {
                 None
@@ -204,6 +259,7 @@ fn look_refusal(look: Look) -> Option<Fault>
             }
         }
         Look::Next(search) | Look::Last(search) => search_refusal(search),
+        Look::Calls(stretch) => stretch_refusal(stretch),
     }
 }
 

@@ -1,6 +1,6 @@
 -- The reply to a line of a session that may also be looked at, and whose machine may be altered at a step.
-use Rattle.std.specs.Prelude.{◌≡◌, ◌⊎◌, ◌&&◌, ℕ, nat_eq, nat_le, Bool, not, if◌then◌else◌, List, MatchBool, Option}
-use Rattle.std.specs.Prelude.{Result, Ok, Err, codes, length}
+use Rattle.std.specs.Prelude.{◌≡◌, ◌⊎◌, ◌&&◌, ℕ, min, nat_eq, nat_le, Bool, not, if◌then◌else◌, List, MatchBool}
+use Rattle.std.specs.Prelude.{Option, Result, Ok, Err, codes, length, take}
 use Rattle.std.specs.List.{starts_with}
 use Rattle.checkpoints.specs.Searches.{IsNext, IsLast}
 use Rattle.checkpoints.specs.Work.{ReportMoves, Work, reached}
@@ -9,7 +9,7 @@ use Rattle.line_server.specs.Answers.{AnswersBy}
 use Rattle.line_server.specs.Lines.{longest_line}
 use Rattle.replay_session.specs.Replies.{RepliesAs, is_over, refused_line}
 use Rattle.replay_session.specs.Stages.{Stage}
-use Rattle.replay_session.specs.Session.{Finds, IsSidesOf, IsVerdictOf}
+use Rattle.replay_session.specs.Session.{Finds, happened_of, IsSidesOf, IsVerdictOf}
 use Rattle.replay_session.specs.Texts.{last_text}
 use Rattle.replay_session.specs.Turns.{Turn, accepted_as}
 use Rattle.run_values.specs.declared.alteration.Alteration.{Alteration}
@@ -24,11 +24,12 @@ use Rattle.commands.specs.declared.fault.Fault.TheVariants.{Memory}
 use Rattle.look_lines.specs.Alterations.{alteration_asked, alters}
 use Rattle.look_lines.specs.Controls.{controls_text}
 use Rattle.look_lines.specs.Inputs.{edit_asked, gives}
+use Rattle.look_lines.specs.Lists.{calls_text, ListsBlocks, most_happened, stack_text}
 use Rattle.look_lines.specs.Looks.{asked}
 use Rattle.look_lines.specs.Texts.{input_text, memory_text, output_text, registers_text, sides_text, step_text}
 use Rattle.look_lines.specs.declared.look.Look.{Look}
 use Rattle.look_lines.specs.declared.look.Look.TheVariants.{Registers, Controls, Memory, Output, Sides, Input, Next}
-use Rattle.look_lines.specs.declared.look.Look.TheVariants.{Last, Certify}
+use Rattle.look_lines.specs.declared.look.Look.TheVariants.{Last, Certify, Stack, Blocks, Calls}
 use Rattle.looks.specs.declared.viewer.Viewer.{Viewer}
 
 -- does a line look? One that is too long doesn't, and none does once the limit of lines is reached
@@ -37,7 +38,7 @@ looks turn line = starts_with nat_eq line (codes "look ") && not (is_over turn) 
 
 -- a text is the reply to a look at the chosen step of one run from step zero: on its state; on what the run has done
 -- with each instruction of a range; on which step from it on is the first, or before it the last, that does what is
--- sought; or the verdict on the run up to it
+-- sought; the verdict on the run up to it; or what happens in steps before it
 abbrev pub Tells : Scenario → Look → List ℕ → Type 0
 Tells sc Registers text = text ≡ registers_text (chosen_state sc)
 Tells sc Controls text = text ≡ controls_text (chosen_state sc)
@@ -50,12 +51,16 @@ Tells sc (Next search) text =
 Tells sc (Last search) text =
     (found : Option ℕ) × IsLast (Finds sc search.sought) search.bound sc.step found × (text ≡ step_text found)
 Tells sc Certify text = IsVerdictOf sc text
+Tells sc Stack text = text ≡ stack_text (chosen_state sc)
+Tells sc (Blocks from) text = ListsBlocks (chosen_state sc).core.blocks from text
+Tells sc (Calls stretch) text = text ≡ calls_text (take most_happened (happened_of sc stretch.from stretch.end))
 
 -- how a look at a step moves the work: as a report there does. A verdict executes further steps to find the first use.
--- A look at sides moves none
+-- A look at sides moves none, and one at what happens in steps moves it as a report at the end of those steps does
 abbrev pub LookMoves : Look → ℕ → Work → Work → Type 0
 LookMoves Certify n old new = new.last ≡ reached old.last n
 LookMoves (Sides range) n old new = new ≡ old
+LookMoves (Calls stretch) n old new = ReportMoves (min stretch.end n) old new
 LookMoves look n old new = ReportMoves n old new
 
 -- a look changes neither the turn nor whether the trail is short

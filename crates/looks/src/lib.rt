@@ -20,7 +20,23 @@
 //! | `look input` | `input P L`, where P of the L bytes of the input were read, and `yes` if a read has asked for more than were left, else `no` |
 //! | `look next KIND ADDR LEN END` | `step N`, the first from the chosen one on and below END that does it, or `none` |
 //! | `look last KIND ADDR LEN FROM` | `step N`, the last before the chosen one and from FROM on that does it, or `none` |
+//! | `look stack` | `stack PC SITE ..`: pc, and the address of each call that the program is in, newest first, at most 256 |
+//! | `look blocks ADDR` | the blocks of the heap that begin at ADDR or above, in order, those freed that aren't forgotten yet too: `block START SIZE live` or `freed` and up to three addresses of the trace, a line each. After 64 of them `next ADDR`, the start of the next one, else `end` |
+//! | `look calls FROM END` | what happens in the steps from FROM on, below END and below the chosen one, a line each (see below). After 1,024 of these `next STEP`, the step after the last, else `end` |
 //! | `look certify` | `clean to step N: ..`, or `not clean: ..` with the first mark or error that is in the way |
+//!
+//! What `look calls` lists of a step is the first of these that applies:
+//!
+//! | Line | The step |
+//! |---|---|
+//! | `STEP heap DEPTH` | is a heap call |
+//! | `STEP call TO DEPTH` | calls what begins at TO, and there are more frames after it than before. A call of a function of the heap that is called by name is none: the next step is that function, and returns at once |
+//! | `STEP return TO DEPTH` | goes on at TO, with fewer frames than before; there may be several fewer |
+//! | `STEP input COUNT` | reads COUNT bytes of the input |
+//! | `STEP output COUNT` | writes COUNT bytes |
+//!
+//! DEPTH is the number of frames after the step: the stack of calls has 256 at most, so a call beyond these is none. The trace of a block
+//! is the one that Memcheck's messages show first: of a live block where it was allocated, of a freed one where it was freed.
 //!
 //! A control register is shown if it is one of machine mode that any hart has, such as `mstatus`, or a counter: 24 in order of their numbers.
 //! An instruction set without control registers has none.
@@ -28,7 +44,7 @@
 //! KIND: `run`, the program runs and pc is in the range; `read`, a byte of it is read, besides the step's own word; `write`, one is
 //! written; `shadow`, the step changes the undefined bits of one, or whether it may be accessed, from its state after its marks to the one
 //! before the marks of the next step; `error`, the program raises an error with pc in the range.
-//! A line is rejected with the first of these numbers that applies: 2 for no look, 5 for END or FROM above 4,194,304, 6 for a range of no
+//! A line is rejected with the first of these numbers that applies: 2 for no look, 5 for a step, END or FROM, above 4,194,304, 6 for a range of no
 //! bytes, one that ends above 2^32, or, of memory, of the output, of sides or for `shadow`, one of more than 4,096 bytes. 1 means out of memory. A line of more than
 //! 4,096 bytes is none of these, nor is one after 100,000 lines of a session: the reply to it is that of a session.
 //!
@@ -65,11 +81,11 @@
 //!
 //! [`serve`]: what was written is the replies to the lines of all bytes read (`ViewsLines`). The reply to a line that looks is what holds
 //! at the chosen step of **one run from step zero of the edited program** (`Tells`), and the line leaves the session's turn as it is. The
-//! work is moved as by a report there, except that a verdict executes further steps, and that a look at sides executes its steps beside the
-//! held machines. The reply to any other line is that of a session (`RepliesAs`) to the command as which it is read (`read_as`): a line that
+//! work is moved as by a report there, except that a verdict executes further steps, that a look at sides executes its steps beside the
+//! held machines, and that a look at calls moves it as by a report at the end of its steps. The reply to any other line is that of a session (`RepliesAs`) to the command as which it is read (`read_as`): a line that
 //! alters is the edit that appends its alteration to the marks, and one that gives the input bytes is the edit that puts them there.
 //!
-//! In `specs/`: `Views`, the reply to a look and to any other line, over `Looks`, `Texts`, `Controls`, `Alterations` and `Inputs` of the
+//! In `specs/`: `Views`, the reply to a look and to any other line, over `Looks`, `Texts`, `Controls`, `Lists`, `Alterations` and `Inputs` of the
 //! crate `look_lines`.
 #![tactic(auto)]
 

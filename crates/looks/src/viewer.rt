@@ -9,8 +9,9 @@ ghost use Rattle.looks.specs.Views.{giving, LookMoves, looks, marking, Tells};
 use commands::{Command, Edit};
 use line_server::{LONGEST_LINE, Listener};
 use look_lines::{
-    Look, alteration_asked, alters, asked, edit_asked, gives, push_controls, push_input,
-    push_memory, push_output, push_registers, push_sides, push_step,
+    Look, MOST_HAPPENED, alteration_asked, alters, asked, edit_asked, gives, push_blocks,
+    push_calls, push_controls, push_input, push_memory, push_output, push_registers, push_sides,
+    push_stack, push_step,
 };
 use replay_session::{Fault, Session, Texts};
 use run_values::Alteration;
@@ -84,6 +85,18 @@ fn show(session: &mut Session<'_>, look: Look, text: &mut Vec<u8>) -> Result<(),
             push_step(text, found)
         }
         Look::Certify => session.certify(text),
+        Look::Stack => {
+            let machine = session.machine()?;
+            push_stack(text, &machine)
+        }
+        Look::Blocks(from) => {
+            let machine = session.machine()?;
+            push_blocks(text, &machine, from)
+        }
+        Look::Calls(stretch) => {
+            let found = session.happened(stretch.from, stretch.end, MOST_HAPPENED)?;
+            push_calls(text, &found)
+        }
     }
 }
 

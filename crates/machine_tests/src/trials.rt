@@ -238,12 +238,26 @@ fn loads(machine: Machine, copy: Machine, setup: &Setup) -> Result<bool, AllocEr
     Ok(pc == 0x10000 && later.value == 5 && again.value == 0)
 }
 
+/// Returns whether a machine differs from a copy in just the word that was written.
+fn differs_there(copy: &Machine, poked: &Machine) -> Result<bool, AllocError> {
+    let Some(words) = copy.words_apart(poked)? else {
+        return Ok(false);
+    };
+    match words.first() {
+        Some(word) => {
+            Ok(words.len() == 1 && word.addr == 0x7FFF_FFF0 && word.here == 0 && word.there == 5)
+        }
+        None => Ok(false),
+    }
+}
+
 /// Returns whether a copy is the same, and stays as it was when a word is written.
 fn copies(start: Machine, setup: &Setup) -> Result<bool, AllocError> {
     let copy = start.share()?;
     let is_alike = copy.is_same(&start);
     let poked = start.poke_word(0x7FFF_FFF0, 5)?;
-    Ok(is_alike && !copy.is_same(&poked) && loads(poked, copy, setup)?)
+    let is_apart = differs_there(&copy, &poked)?;
+    Ok(is_alike && !copy.is_same(&poked) && is_apart && loads(poked, copy, setup)?)
 }
 
 /// Returns the machine of a program before the first step, with another first word.

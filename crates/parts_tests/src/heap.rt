@@ -18,6 +18,8 @@ enum Act {
     Near(u32, Option<(Place, u32)>),
     /// The start of the first live block from an address on.
     Live(u32, Option<u32>),
+    /// The start of the first kept block from an address on.
+    Kept(u32, Option<u32>),
 }
 
 /// A block of 8 bytes at 0x40000010 with a redzone of 16.
@@ -69,6 +71,7 @@ fn is_answered(alloc: Global, heap: &mut Heap, act: &Act) -> Result<bool, AllocE
         }
         Act::Near(address, near) => Ok(is_near(heap, *address, *near)),
         Act::Live(address, start) => Ok(start_of(heap.live(*address)) == *start),
+        Act::Kept(address, start) => Ok(start_of(heap.kept(*address)) == *start),
     }
 }
 
@@ -139,6 +142,8 @@ const FREED: [Case; 1] = [(
         Act::Release(0x4000_0010, 8, Some(0x4000_0010), false),
         Act::Release(0x4000_0010, 8, None, true),
         Act::Live(0, None),
+        Act::Kept(0x4000_0010, Some(0x4000_0010)),
+        Act::Kept(0x4000_0011, None),
         Act::Near(0x4000_0010, Some((Place::Inside, 0))),
     ],
     &[],
@@ -203,4 +208,86 @@ const VOLUMES: [Case; 3] = [
 #[test]
 fn forgets_beyond_the_volume(rt: HostRuntime) {
     assert_so(&rt, rt.alloc(), &VOLUMES);
+}
+
+/// The number of blocks among which there are gaps: every second is freed.
+const BLOCKS: u32 = 300;
+
+/// Returns the size of a block, from 1 to 65,536 bytes.
+fn varied(number: u32) -> u32 {
+    number.wrapping_mul(7919) % 65536 + 1
+}
+
+/// Allocates blocks of varying sizes.
+fn fill(alloc: Global, heap: &mut Heap) -> Result<(), AllocError> {
+    for number in 0..BLOCKS {
+        heap.allocate(alloc, varied(number), Trace::of(SITE), 16)?;
+    }
+    Ok(())
+}
+
+/// Frees every second live block, so that its place is free at once.
+fn free_every_second(alloc: Global, heap: &mut Heap) -> Result<(), AllocError> {
+    let mut from = 0;
+    let mut is_second = false;
+    for _ in 0..BLOCKS {
+        if let Some(block) = heap.live(from) {
+            from = block.start.wrapping_add(1);
+            if is_second {
+                release(alloc, heap, block.start, 0)?;
+            }
+            is_second = !is_second;
+        }
+    }
+    Ok(())
+}
+
+/// Requests among the gaps, of which some have to look at more than 64 of them. Then three neighbours are freed, and the range that
+/// becomes free spans parts that were full for the sizes of later requests.
+const AMONG_GAPS: [Act; 24] = [
+    Act::Allocate(65_535, 16, Some(0x4094_79d0)),
+    Act::Allocate(65_000, 16, Some(0x402c_df70)),
+    Act::Allocate(64_000, 16, Some(0x400f_d240)),
+    Act::Allocate(20_000, 16, Some(0x4000_5d50)),
+    Act::Allocate(65_000, 16, Some(0x4095_79f0)),
+    Act::Allocate(17, 16, Some(0x4000_0040)),
+    Act::Allocate(40_000, 16, Some(0x4002_8ab0)),
+    Act::Allocate(33_000, 16, Some(0x4001_3620)),
+    Act::Allocate(64_000, 16, Some(0x406a_ed50)),
+    Act::Allocate(3, 16, Some(0x4000_0080)),
+    Act::Allocate(50_000, 16, Some(0x4006_b270)),
+    Act::Allocate(16_000, 16, Some(0x4004_a710)),
+    Act::Allocate(62_000, 16, Some(0x4014_1c00)),
+    Act::Allocate(1, 16, Some(0x4000_00b0)),
+    Act::Allocate(9_000, 16, Some(0x4003_2710)),
+    Act::Allocate(100_000, 16, Some(0x4096_7800)),
+    Act::Release(0x406a_ed50, 0, Some(0x406a_ed50), false),
+    Act::Release(0x406b_e830, 0, Some(0x406b_e830), false),
+    Act::Release(0x406c_3ac0, 0, Some(0x406c_3ac0), false),
+    Act::Allocate(100_000, 16, Some(0x406a_ed50)),
+    Act::Allocate(100_000, 16, Some(0x4097_fec0)),
+    Act::Allocate(30_000, 16, Some(0x4005_6ee0)),
+    Act::Allocate(5_000, 16, Some(0x4000_00e0)),
+    Act::Allocate(90_000, 16, Some(0x4099_8580)),
+];
+
+fn are_answered_among_gaps(alloc: Global, heap: &mut Heap) -> Result<bool, AllocError> {
+    fill(alloc, heap)?;
+    free_every_second(alloc, heap)?;
+    are_answered(alloc, heap, &AMONG_GAPS)
+}
+
+/// Returns whether requests among many gaps have their least places.
+fn is_so_among_gaps(alloc: Global) -> Result<bool, AllocError> {
+    let mut heap = Heap::new(alloc);
+    are_answered_among_gaps(alloc, &mut heap)
+}
+
+#[test]
+fn finds_least_places_among_gaps(rt: HostRuntime) {
+    comes(
+        &rt,
+        "the least places among many gaps, before and after neighbours are freed",
+        is_so_among_gaps(rt.alloc()),
+    );
 }

@@ -4,7 +4,7 @@ use crate::copies::copy_apart;
 use crate::{comes, holds};
 use definedness::Bits;
 use shadow_memory::laws::{all_are, first_not};
-use shadow_memory::{Bad, Memory, RangeKind};
+use shadow_memory::{Bad, Memory, RangeKind, WordApart};
 use std::alloc::{AllocError, Global};
 
 /// Returns whether an address holds this byte, with this accessibility and these undefined bits.
@@ -182,6 +182,42 @@ fn tells_bytes(memory: &mut Memory) -> Result<bool, AllocError> {
     are_told(memory, &mut copy)
 }
 
+/// Returns whether a word was found to differ, with its values in a memory and in another.
+fn is_apart(found: Option<&WordApart>, addr: u32, here: u32, there: u32) -> bool {
+    match found {
+        Some(word) => word.addr == addr && word.here == here && word.there == there,
+        None => false,
+    }
+}
+
+/// Returns whether two words are found to differ in a copy.
+fn are_both_apart(memory: &Memory, copy: &Memory) -> Result<bool, AllocError> {
+    let Some(words) = memory.words_apart(copy)? else {
+        return Ok(false);
+    };
+    Ok(
+        words.len() == 2
+            && is_apart(words.first(), 0x5004, 0x666F_2073, 7)
+            && is_apart(words.last(), 0x6FFC, 0, 0x0900_0000),
+    )
+}
+
+/// Changes words of two pages in a copy, one of them of zeros. Returns whether they are found, and none once a bit is undefined.
+fn change_two(memory: &Memory, copy: &mut Memory) -> Result<bool, AllocError> {
+    copy.poke_word(0x5004, 7)?;
+    copy.poke(0x6FFF, 9)?;
+    let are_found = are_both_apart(memory, copy)?;
+    copy.set_range(0x5000, 1, RangeKind::Undefined)?;
+    Ok(are_found && memory.words_apart(copy)?.is_none())
+}
+
+/// Returns the same for a new copy.
+fn tells_words(memory: &mut Memory) -> Result<bool, AllocError> {
+    memory.fill(0x5000, 0x2000, b"words of code")?;
+    let mut copy = memory.share()?;
+    change_two(memory, &mut copy)
+}
+
 /// Returns whether bytes from outside are stored, the last of them to an inaccessible place.
 fn are_stored(memory: &mut Memory) -> Result<bool, AllocError> {
     memory.set_range(0x8FFE, 3, RangeKind::Undefined)?;
@@ -309,6 +345,7 @@ enum Trial {
     Accesses(u32, u32),
     SplitAndFold,
     Words,
+    WordsApart,
     FromOutside,
     Searches,
 }
@@ -320,6 +357,7 @@ fn goes_well(alloc: Global, memory: &mut Memory, trial: &Trial) -> Result<bool, 
         Trial::Accesses(addr, next) => accesses(memory, *addr, *next),
         Trial::SplitAndFold => split_and_fold(memory),
         Trial::Words => tells_bytes(memory),
+        Trial::WordsApart => tells_words(memory),
         Trial::FromOutside => are_stored_and_poked(memory),
         Trial::Searches => searches(memory),
     }
@@ -331,12 +369,13 @@ fn goes_well_in_new(alloc: Global, trial: &Trial) -> Result<bool, AllocError> {
     goes_well(alloc, &mut memory, trial)
 }
 
-const TRIALS: [(&str, Trial); 7] = [
+const TRIALS: [(&str, Trial); 8] = [
     ("memories that share pages", Trial::SharesApart),
     ("across pages", Trial::Accesses(0x1FFE, 0x2000)),
     ("round the end", Trial::Accesses(0xFFFF_FFFE, 0)),
     ("pages split and fold", Trial::SplitAndFold),
     ("words are compared", Trial::Words),
+    ("words differ", Trial::WordsApart),
     ("bytes come and go", Trial::FromOutside),
     ("values are found", Trial::Searches),
 ];

@@ -20,6 +20,14 @@ fn depth(stack: &CallStack) -> usize {
     stack.trace(8).addresses().len()
 }
 
+/// Returns whether there are 256 frames, of which the oldest is the second that was pushed.
+fn begins_with_the_second(stack: &CallStack) -> bool {
+    let Some(oldest) = stack.frame(255) else {
+        return false;
+    };
+    stack.depth() == 256 && oldest.site == 0x1010
+}
+
 /// Returns whether the oldest of 257 frames is gone, so that a return to it changes nothing, and a return to the second, which is the
 /// oldest that was kept, removes all.
 fn has_256(stack: &mut CallStack) -> bool {
@@ -35,7 +43,7 @@ fn has_256(stack: &mut CallStack) -> bool {
 fn drops_the_oldest(stack: &mut CallStack) -> Result<bool, AllocError> {
     call_each(stack, 257);
     let copy = stack.share()?;
-    Ok(has_256(stack) && depth(&copy) == 24)
+    Ok(begins_with_the_second(&copy) && has_256(stack) && depth(&copy) == 24)
 }
 
 /// Calls, each by its site and its return address.

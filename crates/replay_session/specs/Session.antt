@@ -1,8 +1,10 @@
 -- The turn and the trail of a session, and what one line does to it.
-use Rattle.std.specs.Prelude.{◌≡◌, ◌⊎◌, ℕ, List, true, Result, Ok, Err, IsOkAnd}
+use Rattle.std.specs.Prelude.{◌≡◌, ◌⊎◌, ℕ, List, min, true, Result, Ok, Err, IsOkAnd}
+use Rattle.checkpoints.specs.Happenings.{happened_between}
 use Rattle.checkpoints.specs.Searches.{Hits}
 use Rattle.checkpoints.specs.Sides.{IsSides}
 use Rattle.checkpoints.specs.Trails.{meter_of}
+use Rattle.checkpoints.specs.declared.happenings.Happened.{Happened}
 use Rattle.checkpoints.specs.declared.searches.Sought.{Sought}
 use Rattle.checkpoints.specs.declared.sides.Sides.{Sides}
 use Rattle.checkpoints.specs.declared.trail.Trail.{Trail}
@@ -43,6 +45,10 @@ Finds sc sought = Hits sought (first_state sc) sc.setup sc.marks
 -- a table says of each place of a range which sides of it the run has below the chosen step
 abbrev pub IsSidesOf : Scenario → Span → List Sides → Type 0
 IsSidesOf sc range table = IsSides (first_state sc) sc.setup sc.marks sc.step range table
+
+-- what happens in the steps of a scenario's run from one on, below another and below the chosen one
+abbrev pub happened_of : Scenario → ℕ → ℕ → List Happened
+happened_of sc from end = happened_between (first_state sc) sc.setup sc.marks from (min end sc.step)
 
 -- a text is the line of the verdict on a scenario's run up to the chosen step
 abbrev pub IsVerdictOf : Scenario → List ℕ → Type 0

@@ -9,7 +9,7 @@ ghost use Rattle.scenario.specs.Scenario.{run_of};
 use crate::reply::Reply;
 use crate::trying::{Compared, Seed, Tried, compare_edit, try_edit};
 use checkpoints::laws::keeps_lower;
-use checkpoints::{Effect, Sides, Sought, Trail};
+use checkpoints::{Effect, Happened, Sides, Sought, Trail};
 use clean_reports::{certify, push_verdict};
 use commands::{BeginFault, Command, Edit, Fault, parse};
 use guest_elf::Image;
@@ -36,13 +36,13 @@ pub struct Session<'a> {
 }
 
 impl<'a> Session<'a> {
-    ghost use Rattle.std.specs.Prelude.{◌≡◌, ◌<◌, ◌↔◌, false, true, IfOk, IfErr, IfNone, OnOk, OnErr, length};
+    ghost use Rattle.std.specs.Prelude.{◌≡◌, ◌<◌, ◌↔◌, false, true, IfOk, IfErr, IfNone, OnOk, OnErr, length, min, take};
     ghost use Rattle.checkpoints.specs.Effects.{IsOfSetup};
     ghost use Rattle.checkpoints.specs.Forks.{IsForkFor};
     ghost use Rattle.checkpoints.specs.Outputs.{part};
     ghost use Rattle.checkpoints.specs.Searches.{IsLast, IsNext};
     ghost use Rattle.checkpoints.specs.Trails.{is_short};
-    ghost use Rattle.checkpoints.specs.Work.{reached};
+    ghost use Rattle.checkpoints.specs.Work.{ReportMoves, reached};
     ghost use Rattle.replay_report.specs.Report.{AppendsReport};
     ghost use Rattle.scenario.specs.Edits.{row, IsTaken};
     ghost use Rattle.scenario.specs.Limits.{longest_input, most_steps};
@@ -50,7 +50,7 @@ impl<'a> Session<'a> {
     ghost use Rattle.scenario.specs.Scenario.{IsReportOf, chosen_state};
     ghost use Rattle.commands.specs.Commands.{Reads};
     ghost use Rattle.replay_session.specs.Replies.{is_over};
-    ghost use Rattle.replay_session.specs.Session.{Carried, Finds, IsSidesOf, IsVerdictOf, Meets, MeetsAs, scenario_of, turn_of, trail_of, work_of};
+    ghost use Rattle.replay_session.specs.Session.{Carried, Finds, happened_of, IsSidesOf, IsVerdictOf, Meets, MeetsAs, scenario_of, turn_of, trail_of, work_of};
     ghost use Rattle.replay_session.specs.Trying.{GivesInput, IsCompared, IsSeed, IsTried};
     ghost use Rattle.replay_session.specs.Turns.{accepted, accepted_as, changed, command_refusal, counted, if_command, line_refusal, opening, passed};
     ghost use Rattle.replay_session.specs.Work.{MayShorten, MovesWork, Works, WorksAs, WorksLine, work_on, no_work};
@@ -271,6 +271,31 @@ impl<'a> Session<'a> {
             self.scenario.setup(),
             self.scenario.marks(),
             &mut Meter::new(),
+        )
+    }
+
+    /// Returns the first `most` of what happens in the steps from one on, below another and below the chosen one. The trail is moved as by a
+    /// report at the lesser of the latter two.
+    #[tactic(auto, unfolding(crate::specs::Session::turn_of, crate::specs::Session::trail_of))]
+    pub fn happened(
+        &mut self,
+        from: u32,
+        end: u32,
+        most: usize,
+    ) -> Result<Vec<Happened>, AllocError>
+        ensures turn { turn_of self.new ≡ turn_of self.old }
+        ensures found { IfOk result (λ found. found.items ≡ take most (happened_of (scenario_of self.old) from end)) }
+        ensures work { OnOk result (ReportMoves (min end (scenario_of self.old).step) (work_on (trail_of self.old)) (work_on (trail_of self.new))) }
+        ensures short { is_short (trail_of self.new) ≡ is_short (trail_of self.old) }
+    {
+        let before = end.min(self.scenario.step());
+        self.trail.happened(
+            self.alloc,
+            from,
+            before,
+            most,
+            self.scenario.setup(),
+            self.scenario.marks(),
         )
     }
 

@@ -15,3 +15,4 @@ pub mod Ranging
 pub mod Comparing
 pub mod Scanning
 pub mod Skipping
+pub mod Differing

@@ -16,4 +16,5 @@ pub mod Changes
 pub mod Loads
 pub mod Fronts
 pub mod Values
+pub mod Differences
 pub mod Comparisons

@@ -5,7 +5,7 @@ ghost use Rattle.shadow_memory.specs.Loads.{four};
 ghost use Rattle.shadow_memory.specs.Parts.{code_of, loaded_code, part_of, taken_code};
 
 use crate::cells::RangeKind;
-use crate::laws::{all_are, first_not};
+use crate::laws::{all_are, are_same, first_not};
 use crate::slices::set_all;
 use crate::word_scans::are_zero;
 use std::alloc::{AllocError, Global};
@@ -188,7 +188,7 @@ impl Codes {
     pub(crate) fn are_same(&self, others: &Codes) -> bool
         ensures { IsTrue result → (at : ℕ) → code_at self.now at ≡ code_at others.now at }
     {
-        *self.packed == *others.packed
+        are_same(&self.packed, &others.packed)
     }
 
     /// Returns whether each of the numbers is this one.

@@ -24,10 +24,11 @@
 //! | [`Memory::next_in_range`] | returns the next of these whose value lies in a range of numbers above 0 | no |
 //! | [`Memory::has_bytes_of`] | returns whether the bytes of a range are those of another memory, all accessible and defined | no |
 //! | [`Memory::is_same`] | returns whether another memory has the same contents | no |
+//! | [`Memory::words_apart`] | returns the words in which another memory has other bytes, if all else is the same | yes |
 //! | [`Memory::share`] | returns a memory with the same contents; a later change of one of the two doesn't reach the other | yes |
 //! | [`laws::first_not`], [`laws::all_are`] | scans of bytes, sixteen at a time | no |
 //!
-//! [`Cell`], [`Loaded`], [`RangeKind`] and [`Bad`] are the values that these take and return. What allocates memory returns `AllocError` if
+//! [`Cell`], [`Loaded`], [`RangeKind`], [`Bad`] and [`WordApart`] are the values that these take and return. What allocates memory returns `AllocError` if
 //! memory runs out; nothing else fails.
 //!
 //! # What a caller can rely on
@@ -49,12 +50,12 @@
 //! - `Ranges`: ranges of addresses, a function changed at a range, bytes written and copied.
 //! - `Shadows`: what is known of a byte, and what loads, stores, copies and marks make of it; the first inaccessible or bad byte, and the
 //!   next word. `Values`: the next word whose value lies in a range.
-//! - `Memories`: `bytes_in` and `shadows_in`. `Fronts` and `Changes`: what a failed call leaves, `IsWidth`, `AreApart`.
-//!   `Cells`: `shadow_in`, `set_at`, `IsClean`.
+//! - `Memories`: `bytes_in` and `shadows_in`. `Differences`: words in which the bytes of two memories differ. `Fronts` and `Changes`: what a
+//!   failed call leaves, `IsWidth`, `AreApart`. `Cells`: `shadow_in`, `set_at`, `IsClean`.
 //!
 //! For this crate's own proofs: `Marks` (what a page keeps of a byte), `Edits` (one change of cells in a page), `Loads` (what a load
 //! takes of cells), `Shelves`, `Directories`, `Pages`, `Views`, `Codes` and `Parts` (what each level of the table holds), `Places`,
-//! `Firsts`, `Comparisons` (words that are those of others).
+//! `Firsts`, `Comparisons` (bytes that are those of others).
 //!
 //! # How a memory is kept
 //!
@@ -63,6 +64,7 @@
 //! to share a memory is to copy short lists, although a stack is at high addresses: a shelf in which nothing was changed has an empty list.
 //! A directory keeps its pages from the first to the last that was changed, so a copy of it is no longer than what a program uses there. A
 //! page of zeros of one kind is blank too: it has no bytes at all. A search goes from one kept page to the next (`Memory::next_kept`).
+//! `Memory::words_apart` follows it in both memories, and looks at single words only in the chunks of a page that differ.
 //!
 //! The marks of a page are of one kind, or two bits for each byte with an ordered map for the partly defined bytes (as in N. Nethercote and
 //! J. Seward, "How to shadow every byte of memory used by a program", VEE 2007). A scan finds out that a change makes them one kind again.
@@ -89,6 +91,7 @@ mod codes;
 mod comparisons;
 mod contents;
 mod copies;
+mod differences;
 mod directories;
 mod directory_slots;
 mod edits;
@@ -107,4 +110,5 @@ mod word_scans;
 mod words;
 
 pub use cells::{Bad, Cell, Loaded, RangeKind};
+pub use differences::WordApart;
 pub use memory::Memory;

@@ -1,5 +1,5 @@
 //! The whole memory, and a change of it.
-ghost use Rattle.std.specs.Prelude.{◌≡◌, ℕ, ◌+◌, ◌/◌, ◌%◌, ◌^◌, ◌<◌, ◌≤◌, true, IfOk, IsTrue, IsFalse, OnOk, OnErr, length, slice_index, vec_len};
+ghost use Rattle.std.specs.Prelude.{◌≡◌, ℕ, ◌+◌, ◌/◌, ◌%◌, ◌^◌, ◌<◌, ◌≤◌, true, IfOk, IsTrue, IsFalse, OnOk, OnErr, IfSome, length, slice_index, vec_len};
 ghost use Rattle.shadow_memory.specs.Changes.{received};
 ghost use Rattle.shadow_memory.specs.Marks.{blank};
 ghost use Rattle.shadow_memory.specs.Shadows.{shadow_of};
@@ -9,11 +9,14 @@ ghost use Rattle.shadow_memory.specs.Cells.{shadow_in, IsClean};
 ghost use Rattle.shadow_memory.specs.Places.{changed_from, page_len};
 ghost use Rattle.shadow_memory.specs.Views.{cells_seen};
 ghost use Rattle.shadow_memory.specs.Memories.{bytes_in, shadows_in, cells_of};
+ghost use Rattle.shadow_memory.specs.Differences.{DifferInWords};
 
 use crate::cells::{Cell, RangeKind};
 use crate::contents::are_same;
+use crate::differences::WordApart;
 use crate::edits::{Each, PageEdit};
 use crate::pages::PAGE;
+use crate::ranges::PAGE_LEN;
 use crate::shelves::{SHELF, SHELF_PAGES, Shelf};
 use crate::slots::PageSlot;
 use crate::views::View;
@@ -21,6 +24,12 @@ use std::alloc::{AllocError, Global};
 
 /// The number of pages of the address space.
 pub(crate) const PAGES: u32 = 1048576;
+
+/// The number of shelves of the address space.
+const SHELVES: usize = 32;
+
+/// The greatest number of pages in which words that differ are looked for.
+const MOST_COMPARED: u32 = 512;
 
 /// A byte for each of 2^32 addresses, and what is known of it.
 #[derive(Drop)]
@@ -219,6 +228,43 @@ impl Memory {
         ensures shadows { IsTrue result → shadows_in self.now ≡ shadows_in other.now }
     {
         are_same(&self.shelves, &other.shelves)
+    }
+
+    // Returns whether no page after the last address is kept, as none is in any memory that the program makes.
+    fn ends_in_time(&self) -> bool
+        ensures { IsTrue result → (a : ℕ) → 2 ^ 32 ≤ a → cells_of self.now a ≡ blank RangeKind.NoAccess }
+    {
+        self.shelves.len() <= SHELVES
+    }
+
+    /// Returns the words in which another memory has other bytes, if all else is the same: all other bytes, which bytes are accessible, and
+    /// the undefined bits. May also return `None` for such a memory, as it does if many pages are kept, if many words differ, or if the
+    /// memories are kept in different ways.
+    pub fn words_apart(&self, other: &Memory) -> Result<Option<Vec<WordApart>>, AllocError>
+        ensures shadows { IfOk result (λ found. IfSome found (λ words. shadows_in self.now ≡ shadows_in other.now)) }
+        ensures words { IfOk result (λ found. IfSome found (λ words. DifferInWords words.items (bytes_in self.now) (bytes_in other.now))) }
+    {
+        if !self.ends_in_time() || !other.ends_in_time() {
+            return Ok(None);
+        }
+        let mut words = Vec::new(self.alloc);
+        let mut compared = 0;
+        let mut page = 0;
+        while page < PAGES {
+            let next = self.next_kept_in(other, page);
+            if page < next {
+                page = next;
+            } else {
+                if compared == MOST_COMPARED
+                    || !self.push_words(other, page * PAGE_LEN, &mut words)?
+                {
+                    return Ok(None);
+                }
+                compared += 1;
+                page += 1;
+            }
+        }
+        Ok(Some(words))
     }
 
     /// Returns a memory with the same contents. Later changes of one of the two don't reach the other.

@@ -9,11 +9,11 @@ ghost use Rattle.shadow_memory.specs.Ranges.{byte_of, little_word};
 ghost use Rattle.shadow_memory.specs.Firsts.{IsFirst, NonePass};
 ghost use Rattle.shadow_memory.specs.Shadows.{is_bad, HoldNoWord, IsNextWord};
 ghost use Rattle.shadow_memory.specs.Values.{holds_in_range, HoldNoneInRange, IsNextInRange};
-ghost use Rattle.shadow_memory.specs.Comparisons.{HaveBytesOf};
+ghost use Rattle.shadow_memory.specs.Comparisons.{AreBytesOf, HaveBytesOf};
 
 use crate::cells::{ByteShadow, Cell, Loaded, RangeKind, marked_cell};
 use crate::edits::{Each, PageEdit};
-use crate::laws::all_are;
+use crate::laws::{all_are, are_same};
 use crate::marks::PageShadows;
 use crate::slices::{fill_at, set_all, write_at};
 use crate::word_scans::{ROW, ROWS, row_has_none, rows_have_none};
@@ -239,8 +239,16 @@ impl Page {
         self.marks.first_bad(from, to, need_defined)
     }
 
-    /// Returns whether the bytes from one place up to, but not including, another are those of another page there, and all of them are
-    /// accessible and defined.
+    /// Returns whether the bytes from one place up to, but not including, another are those of another page there.
+    pub(crate) fn is_same_in(&self, other: &Page, from: usize, to: usize) -> bool
+        requires order { from < to }
+        requires within { to ≤ page_len }
+        ensures { IsTrue result → AreBytesOf (cells_in self.now) (cells_in other.now) from to }
+    {
+        are_same(&self.bytes[from..to], &other.bytes[from..to])
+    }
+
+    /// Returns whether they are, and all of them are accessible and defined.
     pub(crate) fn has_bytes_of(&self, other: &Page, from: usize, to: usize) -> bool
         requires order { from < to }
         requires within { to ≤ page_len }
@@ -249,14 +257,31 @@ impl Page {
         if self.first_bad(from, to, true).is_some() {
             return false;
         }
-        self.bytes[from..to] == other.bytes[from..to]
+        self.is_same_in(other, from, to)
     }
 
     /// Returns whether the cells are those of another page. May also return `false` for such pages.
     pub(crate) fn is_same(&self, other: &Page) -> bool
         ensures { IsTrue result → Agree (cells_in self.now) (cells_in other.now) }
     {
-        self.marks.are_same(&other.marks) && *self.bytes == *other.bytes
+        self.marks.are_same(&other.marks) && are_same(&self.bytes[..], &other.bytes[..])
+    }
+
+    /// Returns whether the accessible bytes and the undefined bits are those of another page. May also return `false` for such a page.
+    pub(crate) fn has_marks_of(&self, other: &Page) -> bool
+        ensures { IsTrue result → (k : ℕ) → shadow_in (cells_in self.now k) ≡ shadow_in (cells_in other.now k) }
+    {
+        self.marks.are_same(&other.marks)
+    }
+
+    /// Returns whether each byte is known to be of this kind.
+    pub(crate) fn is_of(&self, kind: RangeKind) -> bool
+        ensures { IsTrue result → (k : ℕ) → k < page_len → shadow_in (cells_in self.now k) ≡ shadow_in (blank kind) }
+    {
+        match self.marks.kind(0, PAGE) {
+            Some(own) => own == kind,
+            None => false,
+        }
     }
 
     fn set(&mut self, alloc: Global, at: usize, cell: Cell) -> Result<(), AllocError>
@@ -368,13 +393,22 @@ impl Page {
         self.marks.whole_end(from, to)
     }
 
-    /// Returns the kind of the bytes from one place up to, but not including, another, if they are zeros of one.
+    /// Returns whether the bytes from one place up to, but not including, another are zeros.
+    pub(crate) fn is_zero_in(&self, from: usize, to: usize) -> bool
+        requires order { from < to }
+        requires within { to ≤ page_len }
+        ensures { IsTrue result → (k : ℕ) → from ≤ k → k < to → (cells_in self.now k).byte ≡ 0 }
+    {
+        all_are(&self.bytes[from..to], 0)
+    }
+
+    /// Returns their kind, if they are zeros of one.
     pub(crate) fn zeros(&self, from: usize, to: usize) -> Option<RangeKind>
         requires order { from < to }
         requires within { to ≤ page_len }
         ensures { IfSome result (λ kind. (k : ℕ) → from ≤ k → k < to → cells_in self.now k ≡ blank kind) }
     {
-        if !all_are(&self.bytes[from..to], 0) {
+        if !self.is_zero_in(from, to) {
             return None;
         }
         self.marks.kind(from, to)

@@ -8,7 +8,7 @@ ghost use Rattle.shadow_memory.specs.Firsts.{IsFirst, NonePass};
 ghost use Rattle.shadow_memory.specs.Shadows.{is_bad, HoldNoWord, IsNextWord};
 ghost use Rattle.shadow_memory.specs.Values.{holds_in_range, HoldNoneInRange, IsNextInRange};
 ghost use Rattle.shadow_memory.specs.Views.{cells_seen};
-ghost use Rattle.shadow_memory.specs.Comparisons.{HaveBytesOf};
+ghost use Rattle.shadow_memory.specs.Comparisons.{AreBytesOf, HaveBytesOf};
 ghost use Rattle.shadow_memory.specs.Places.{page_len};
 
 use crate::cells::{Cell, Loaded, RangeKind, blank_cell};
@@ -140,6 +140,32 @@ impl View<'_> {
         match (self, other) {
             (View::Held(page), View::Held(others)) => page.has_bytes_of(others, from, to),
             _ => false,
+        }
+    }
+
+    /// Returns whether another page has the same accessible bytes and undefined bits. May also return `false` for such a page.
+    pub(crate) fn has_marks_of(self, other: View<'_>) -> bool
+        ensures { IsTrue result → (k : ℕ) → k < page_len → shadow_in (cells_seen self.entry k) ≡ shadow_in (cells_seen other.entry k) }
+    {
+        match (self, other) {
+            (View::Blank(kind), View::Blank(another)) => kind == another,
+            (View::Blank(kind), View::Held(others)) => others.is_of(kind),
+            (View::Held(page), View::Blank(kind)) => page.is_of(kind),
+            (View::Held(page), View::Held(others)) => page.has_marks_of(others),
+        }
+    }
+
+    /// Returns whether the bytes from one place up to, but not including, another are those of another page there.
+    pub(crate) fn is_same_in(self, other: View<'_>, from: usize, to: usize) -> bool
+        requires order { from < to }
+        requires within { to ≤ page_len }
+        ensures { IsTrue result → AreBytesOf (cells_seen self.entry) (cells_seen other.entry) from to }
+    {
+        match (self, other) {
+            (View::Blank(_), View::Blank(_)) => true,
+            (View::Blank(_), View::Held(others)) => others.is_zero_in(from, to),
+            (View::Held(page), View::Blank(_)) => page.is_zero_in(from, to),
+            (View::Held(page), View::Held(others)) => page.is_same_in(others, from, to),
         }
     }
 }

@@ -77,6 +77,14 @@ pub for-scout : (sc : Scenario) (step : ℕ) (fork : Fork) → IsForkFor (After 
     → IsScout sc (Some fork)
 for-scout sc step fork is = (is.step.within, is.shows)
 
+-- the machine of an edited run, by what the setup and marks of the scenario are equal to
+pub edited-for : (effect : Effect) (fork : Fork) (sc : Scenario) (setup : Setup) (marks : List Alteration)
+    (step last : ℕ) (machine : Machine) → setup ≡ sc.setup → marks ≡ sc.marks → step ≡ sc.step
+    → ShowsEdited effect fork setup marks last step machine
+    → ShowsEdited effect fork sc.setup sc.marks last sc.step machine
+edited-for effect fork sc setup marks step last machine given marked chosen =
+    transport (λ i. ShowsEdited effect fork (given i) (marked i) last (chosen i) machine)
+
 -- and of the edited one
 pub shown-edited : (effect : Effect) (one : Run) (fork : Fork) (sc : Scenario) (setup : Setup) (marks : List Alteration)
     (step last : ℕ) (machine : Machine)

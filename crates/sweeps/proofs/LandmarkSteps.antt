@@ -5,8 +5,15 @@ use Rattle.std.specs.List.{slice_get}
 use Rattle.std.proofs.lemmas.Bool.{cases_lt}
 use Rattle.std.proofs.lemmas.Bool.Decides.{nat_tests}
 use Rattle.std.proofs.lemmas.Option.{same_Some}
+use Rattle.std.proofs.Math.Path.{transport}
+use Rattle.checkpoints.specs.Effects.{LeadsTo, Run}
+use Rattle.checkpoints.specs.Forks.{IsForkFor, ShowsEdited}
+use Rattle.checkpoints.specs.declared.effect.Effect.{Effect}
+use Rattle.checkpoints.specs.declared.forks.Fork.{Fork}
 use Rattle.checkpoints.proofs.MarkSteps.{after-no_marks, after-none, made-until}
 use Rattle.guest_machine.specs.Exec.{exec}
+use Rattle.jumps.proofs.ApartSteps.{steps-on}
+use Rattle.jumps.proofs.CourseSteps.{get-push, get-within}
 use Rattle.guest_machine.specs.Run.{marks_at, post, pre}
 use Rattle.guest_machine.specs.Shows.{Shows}
 use Rattle.guest_machine.specs.State.{State}
@@ -23,38 +30,7 @@ use Rattle.sweeps.specs.Standing.{state_before}
 use Rattle.sweeps.specs.declared.endings.Ends.{Ends}
 use Rattle.sweeps.specs.declared.landmarks.Landmarks.{Landmarks}
 
--- ---- places
-
--- what is at a place after a push
-pub get-push : {X : Type 0} (xs : List X) (y z : X) (i : ℕ) → slice_get (xs ++ y ∷ []) i ≡ Some z
-    → (slice_get xs i ≡ Some z) ⊎ ((i ≡ length xs) × (y ≡ z))
-get-push [] y z zero e = inr (refl, same_Some y z e)
-get-push [] y z (suc i) e = cc
-get-push (x ∷ xs) y z zero e = inl e
-get-push (x ∷ xs) y z (suc i) e = go (get-push xs y z i e)
-  where
-    go : (slice_get xs i ≡ Some z) ⊎ ((i ≡ length xs) × (y ≡ z))
-        → (slice_get xs i ≡ Some z) ⊎ ((suc i ≡ suc (length xs)) × (y ≡ z))
-    go (inl there) = inl there
-    go (inr last) = inr (ap suc last.0, last.1)
-
-pub get-within : {X : Type 0} (xs : List X) (i : ℕ) (z : X) → slice_get xs i ≡ Some z → i < length xs
-get-within [] i z e = cc
-get-within (x ∷ xs) zero z e = omega arith
-get-within (x ∷ xs) (suc i) z e = let less = get-within xs i z e in omega arith
-
 -- ---- states
-
--- some more steps
-pub steps-on : (s : State) (setup : Setup) (k n m : ℕ) → m ≡ k + n
-    → pre (pre s setup [] k) setup [] n ≡ pre s setup [] m
-unfolding pre
-steps-on s setup k zero m e = let same : k ≡ m = omega (arith, e) in ap (pre s setup []) same
-steps-on s setup k (suc n) zero e = absurd (omega (arith, e))
-steps-on s setup k (suc n) (suc m) e =
-    let same : m ≡ k + n = omega (arith, e) in
-    ap (λ t. exec t setup) (after-none n (pre (pre s setup [] k) setup [] n) ∙ steps-on s setup k n m same
-    ∙ sym (after-none m (pre s setup [] m)))
 
 pub shows-first : (setup : Setup) (machine : Machine) (from : ℕ) (s : State) → Shows machine s
     → Shows machine (pre s setup [] (from - from))
@@ -86,6 +62,27 @@ quiet-on start setup marks j t none from = elim (cases_lt j t) [
       let zero-steps : t - j ≡ 0 = omega arith in
       ap (pre (pre start setup marks j) setup []) zero-steps ∙ ap (pre start setup marks) (sym e)
 ]
+
+-- nor after a step
+pub quiet-behind : (start : State) (setup : Setup) (marks : List Alteration) (j t : ℕ) → NoneFrom (j + 1) marks → j ≤ t
+    → pre (post start setup marks j) setup [] (t - j) ≡ post start setup marks t
+unfolding pre post
+quiet-behind start setup marks j t none from = elim (cases_lt j t) [
+  | inl less ↦
+      sym (made-until start setup marks j t (omega arith) (λ k low high. none k (omega arith)))
+      ∙ sym (after-no_marks t marks (pre start setup marks t) (none t (omega arith)))
+  | inr same ↦
+      let e : t ≡ j = omega arith in
+      let zero-steps : t - j ≡ 0 = omega arith in
+      ap (pre (post start setup marks j) setup []) zero-steps ∙ ap (post start setup marks) (sym e)
+]
+
+-- one alteration, not after a step
+pub one-before : (m : Alteration) (step : ℕ) → m.step ≤ step → NoneFrom (step + 1) (m ∷ [])
+one-before m step before k later = ap (λ b. cond b (m ∷ []) []) (apart (m.step) k (omega arith))
+  where
+    apart : (x y : ℕ) → x < y → (x == y) ≡ false
+    apart x y less = grind (arith, nat_tests)
 
 pub marks-more : (k : ℕ) (marks : List Alteration) (m : Alteration)
     → marks_at k (marks ++ m ∷ []) ≡ marks_at k marks ++ cond (m.step == k) (m ∷ []) []
@@ -238,3 +235,19 @@ pub ends-struck : (with_output : Bool) (sc now : Scenario) (step : ℕ) (glitch 
 unfolding EndsIn
 ends-struck with_output sc now step glitch ends left are =
     subst (λ (s : Scenario). AreEnds with_output s ends) (sym left) are
+
+-- a run that goes on from the fork's step of an edited run, after which nothing is altered
+pub goes-behind : (effect : Effect) (one : Run) (start : State) (fork : Fork) (sc : Scenario) (setup : Setup)
+    (marks : List Alteration) (step last : ℕ) (begun machine : Machine)
+    → setup ≡ sc.setup → marks ≡ sc.marks → step ≡ sc.step → fork.step ≤ sc.step → NoneFrom (fork.step + 1) sc.marks
+    → ShowsEdited effect fork setup marks last fork.step begun
+    → ((s : State) → Shows begun s → Shows machine (pre s setup [] (step - fork.step)))
+    → LeadsTo effect one (record { start = start; setup = sc.setup; marks = sc.marks })
+    → IsForkFor effect one last fork → Shows machine (post start sc.setup sc.marks sc.step)
+goes-behind effect one start fork sc setup marks step last begun machine given marked chosen within none shows on leads
+    is =
+    let first = shows one start (transport
+    (λ i. LeadsTo effect one (record { start = start; setup = sym given i; marks = sym marked i })) leads) is in
+    subst (Shows machine) (quiet-behind start sc.setup sc.marks fork.step sc.step none within)
+    (transport (λ i. Shows machine (pre (post start (given i) (marked i) fork.step) (given i) []
+    (chosen i - fork.step))) (on _ first))

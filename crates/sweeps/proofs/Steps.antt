@@ -7,7 +7,7 @@ use Rattle.scenario.specs.Scenario.{Scenario}
 use Rattle.tallies.specs.Tallied.{entries_of, with_text}
 use Rattle.sweeps.specs.Outcomes.{Met, AreMet, IsOutcome, TakesSteps, standing, steps_of, tallied}
 use Rattle.sweep_plans.specs.declared.change.Change.{Change}
-use Rattle.sweeps.specs.Sweeps.{Counted, CountsMore}
+use Rattle.sweeps.specs.Sweeps.{Counted, CountsMore, IsSameBut}
 use Rattle.sweeps.specs.Tables.{first_lines, met_text, rows_after, rows_text, tally_line, tally_lines}
 use Rattle.sweeps.specs.Recall.{Recalls}
 use Rattle.sweeps.specs.declared.counting.Counts.{Counts}
@@ -68,6 +68,20 @@ counted-more with_output sc first met m old new h outcome takes entries edits st
       ∙ ap standing (sym (sum_by_push (λ (n : Met). n.steps) met m));
   recalled = subst (Recalls with_output sc) (sym recall) h.recalled;
 }
+
+-- what is counted doesn't hang on the course of the unedited run
+pub counts-same : (with_output : Bool) (sc : Scenario) (old now new : Counts) (changes : List Change)
+    (before after : List ℕ) → IsSameBut old now → CountsMore now new with_output sc changes before after
+    → CountsMore old new with_output sc changes before after
+counts-same with_output sc old now new changes before after same more first met h =
+    more first met (record {
+      unedited = h.unedited;
+      right = h.right;
+      tallies = ap entries_of same.tallies ∙ h.tallies;
+      edits = same.edits ∙ h.edits;
+      steps = same.steps ∙ h.steps;
+      recalled = subst (Recalls with_output sc) (sym same.recall) h.recalled;
+    })
 
 -- none are counted, but something else is recalled
 pub counts-recalled : (with_output : Bool) (sc : Scenario) (old : Counts) (recall : Recall) (out : List ℕ)

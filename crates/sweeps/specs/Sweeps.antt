@@ -26,6 +26,13 @@ pub record Counted (counts : Counts) (with_output : Bool) (sc : Scenario) (first
     pub steps : counts.steps ≡ standing (steps_of met)
     pub recalled : Recalls with_output sc counts.recall
 
+-- counts that are the same, but for the course of the unedited run
+pub record IsSameBut (old new : Counts) : Type 0 where
+  pub tallies : new.tallies ≡ old.tallies
+  pub edits : new.edits ≡ old.edits
+  pub steps : new.steps ≡ old.steps
+  pub recall : new.recall ≡ old.recall
+
 -- what is counted after some more changes, whose rows are appended to a text
 abbrev pub CountsMore : Counts → Counts → Bool → Scenario → List Change → List ℕ → List ℕ → Type 0
 CountsMore old new with_output sc changes before after =

@@ -76,6 +76,7 @@ fn count_unedited(
         edits: 0,
         steps: 0,
         recall: Recall::begin(alloc, unedited),
+        course: None,
     })
 }
 

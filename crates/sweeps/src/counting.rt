@@ -3,13 +3,21 @@
 ghost use Rattle.std.specs.Prelude.{◌≡◌, ◌+◌, ◌++◌, OnOk};
 ghost use Rattle.tallies.specs.Tallied.{entries_of, with_text};
 ghost use Rattle.sweeps.specs.Outcomes.{standing};
+ghost use Rattle.sweeps.specs.Sweeps.{IsSameBut};
 ghost use Rattle.sweeps.specs.Tables.{found_text, met_text, total_lines};
 
+use crate::endings::is_long;
 use crate::recall::Recall;
 use crate::rows::{push_end, push_outcome, push_row, push_tallies};
+use checkpoints::Fork;
+use jumps::Course;
+use scenario::Scenario;
 use std::alloc::{AllocError, Global};
 use sweep_plans::Change;
 use tallies::{Found, Tallies};
+
+/// The least number of edits for which the course of the unedited run pays.
+const MANY: u64 = 16;
 
 /// The outcomes, the number of edits, and the number of steps that the edits need by definition (`TakesSteps`). A sweep may execute fewer.
 /// Both numbers stop at 2^64 - 1.
@@ -19,6 +27,8 @@ pub(crate) struct Counts {
     pub(crate) edits: u64,
     pub(crate) steps: u64,
     pub(crate) recall: Recall,
+    /// The course of the unedited run: a run that is like it for long jumps over these steps.
+    pub(crate) course: Option<Course>,
 }
 
 /// Appends an outcome, if it is new, and the row of the change that has it.
@@ -57,6 +67,39 @@ impl Counts {
         push_met(out, found, change, outcome)?;
         self.edits = self.edits.saturating_add(1);
         self.steps = self.steps.saturating_add(u64::from(steps));
+        Ok(())
+    }
+
+    /// Returns whether the course of the unedited run is wanted from a step on, at which a number of edits are tried: if many are, much of
+    /// the run is left, and there is no course or one from a later step on.
+    fn wants_course(&self, scenario: &Scenario, step: u32, count: usize) -> bool {
+        let begins_later = match &self.course {
+            Some(course) => step < course.first(),
+            None => true,
+        };
+        begins_later && is_long(scenario, step) && self.edits.saturating_add(count as u64) >= MANY
+    }
+
+    /// Has the course of the unedited run from a fork on, before which a number of edits are tried, if that pays.
+    pub(crate) fn hold_course(
+        &mut self,
+        alloc: Global,
+        scenario: &Scenario,
+        before: &Fork,
+        count: usize,
+    ) -> Result<(), AllocError>
+        ensures { OnOk result (IsSameBut self.old self.new) }
+    {
+        if self.wants_course(scenario, before.step, count) {
+            let course = Course::along(
+                alloc,
+                &before.machine,
+                scenario.setup(),
+                before.step,
+                scenario.step(),
+            )?;
+            self.course = Some(course);
+        }
         Ok(())
     }
 

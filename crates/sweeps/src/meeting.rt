@@ -38,7 +38,14 @@ pub(crate) fn meet(
     ensures recall { OnOk result (counts.new.recall ≡ counts.old.recall) }
     ensures met { OnOk result (CountsMore counts.old counts.new with_output scenario.old (change ∷ []) out.old.items out.new.items) }
 {
-    let outcome = outcome_of(scenario, &spot.fork, spot.standing, change, with_output)?;
+    let outcome = outcome_of(
+        counts.course.as_ref(),
+        scenario,
+        &spot.fork,
+        spot.standing,
+        change,
+        with_output,
+    )?;
     let steps = scenario.step() - spot.fork.step;
     counts.count(change, &outcome, steps, out)?;
     Ok(())
@@ -119,6 +126,7 @@ fn meet_all(
     ensures met { OnOk result (CountsMore counts.old counts.new with_output scenario.old (changes_of plan.now spot.now.standing) out.old.items out.new.items) }
 {
     let changes = plan.changes(alloc, spot.standing)?;
+    counts.hold_course(alloc, scenario, &spot.fork, changes.len())?;
     meet_there(alloc, scenario, counts, spot, &changes, with_output, out)
 }
 

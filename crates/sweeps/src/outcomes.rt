@@ -1,11 +1,12 @@
 //! The outcome of each change.
-ghost use Rattle.std.specs.Prelude.{◌≡◌, ◌≤◌, ◌<◌, ◌+◌, ℕ, IfOk, None, length};
+ghost use Rattle.std.specs.Prelude.{◌≡◌, ◌≤◌, ◌<◌, ◌+◌, ℕ, IfOk, IsTrue, None, length};
 ghost use Rattle.checkpoints.specs.Effects.{LeadsTo, Run};
-ghost use Rattle.checkpoints.specs.Forks.{IsForkFor};
+ghost use Rattle.checkpoints.specs.Forks.{IsForkFor, ShowsEdited};
 ghost use Rattle.checkpoints.specs.declared.effect.Effect.TheVariants.{After};
 ghost use Rattle.scenario.specs.Edits.{row};
 ghost use Rattle.scenario.specs.Limits.{most_marks, most_steps};
 ghost use Rattle.scenario.specs.Scenario.{Scenario as ScenarioOf, IsOutlineOf, run_of};
+ghost use Rattle.sweeps.specs.Landmarks.{NoneFrom};
 ghost use Rattle.sweeps.specs.Outcomes.{IsOutcome};
 ghost use Rattle.sweep_plans.specs.Changes.{IsRight, edit_of, glitch_edit, second_of};
 ghost use Rattle.sweep_plans.specs.declared.change.Change.{Change as ChangeOf};
@@ -14,14 +15,75 @@ ghost use Rattle.sweep_plans.specs.declared.change.Change.TheVariants.{Once, Twi
 ghost use Rattle.sweeps.specs.Standing.{GoesBack, IsAt, MayFollow, Stands};
 
 use checkpoints::{Effect, Fork};
-use guest_machine::Meter;
+use guest_machine::{Alteration, Machine, Meter};
+use jumps::Course;
 use scenario::laws::{edits_follow, edits_go_back};
 use scenario::{Edit, Scenario};
 use std::alloc::AllocError;
 use sweep_plans::{Change, Glitch, Standing};
 
+/// Returns whether nothing is altered after a step; `false` where several steps are altered.
+fn is_quiet_after(marks: &[Alteration], step: u32) -> bool
+    ensures { IsTrue result → NoneFrom (step + 1) marks.now }
+{
+    match marks.split_first() {
+        Some((mark, later)) => later.is_empty() && mark.step <= step,
+        None => true,
+    }
+}
+
+/// Returns the machine at the chosen step of an edited scenario, whose run continues from a fork; an effect leads to it from the run of the
+/// fork. Jumps over what the run has in common with a course.
+fn machine_by(
+    course: &Course,
+    scenario: &Scenario,
+    fork: &Fork,
+    effect: Effect,
+) -> Result<Machine, AllocError>
+    requires before { fork.now.step ≤ scenario.now.step }
+    requires quiet { NoneFrom (fork.now.step + 1) scenario.now.marks }
+    ensures { IfOk result (λ machine. (last : ℕ) → ShowsEdited effect fork.now scenario.now.setup scenario.now.marks last scenario.now.step machine) }
+{
+    let setup = scenario.setup();
+    let begun = fork.follow(
+        effect,
+        setup,
+        scenario.marks(),
+        fork.step,
+        &mut Meter::new(),
+    )?;
+    let machine = course.run(begun, fork.step, setup, scenario.step())?;
+    Ok(machine)
+}
+
+/// Returns that machine, with a course if there is one and it serves.
+fn machine_from(
+    course: Option<&Course>,
+    scenario: &Scenario,
+    fork: &Fork,
+    effect: Effect,
+) -> Result<Machine, AllocError>
+    requires { fork.now.step ≤ scenario.now.step }
+    ensures { IfOk result (λ machine. (last : ℕ) → ShowsEdited effect fork.now scenario.now.setup scenario.now.marks last scenario.now.step machine) }
+{
+    if let Some(course) = course {
+        if is_quiet_after(scenario.marks(), fork.step) {
+            return machine_by(course, scenario, fork, effect);
+        }
+    }
+    let machine = fork.follow(
+        effect,
+        scenario.setup(),
+        scenario.marks(),
+        scenario.step(),
+        &mut Meter::new(),
+    )?;
+    Ok(machine)
+}
+
 /// Returns the outline of an edited scenario, whose run continues from a fork. An effect leads to it from the run of the fork.
 fn outline_from(
+    course: Option<&Course>,
     scenario: &Scenario,
     fork: &Fork,
     effect: Effect,
@@ -31,13 +93,7 @@ fn outline_from(
     ensures { IfOk result (λ text. (one : Run) (last : ℕ) → LeadsTo effect one (run_of scenario.now) → IsForkFor effect one last fork.now
         → IsOutlineOf with_output scenario.now text.items) }
 {
-    let machine = fork.follow(
-        effect,
-        scenario.setup(),
-        scenario.marks(),
-        scenario.step(),
-        &mut Meter::new(),
-    )?;
+    let machine = machine_from(course, scenario, fork, effect)?;
     scenario.outline(&machine, with_output)
 }
 
@@ -70,6 +126,7 @@ fn take_back(scenario: &mut Scenario, standing: Standing)
 
 /// Returns the outcome of a change of one edit, whose run continues from a fork. Afterwards the scenario is as it was.
 pub(crate) fn outcome_of_one(
+    course: Option<&Course>,
     scenario: &mut Scenario,
     fork: &Fork,
     standing: Standing,
@@ -87,7 +144,7 @@ pub(crate) fn outcome_of_one(
     edits_follow();
     let effect = scenario.effect(&change.edit());
     scenario.edit(change.edit())?;
-    let told = outline_from(scenario, fork, effect, with_output);
+    let told = outline_from(course, scenario, fork, effect, with_output);
     take_back(scenario, standing);
     told
 }
@@ -95,6 +152,7 @@ pub(crate) fn outcome_of_one(
 /// Returns the outcome of a glitch at a later step of a scenario in which an earlier step was struck, as whose run before that one a fork is.
 /// Afterwards the scenario is as it was.
 fn outcome_of_second(
+    course: Option<&Course>,
     scenario: &mut Scenario,
     fork: &Fork,
     later: u32,
@@ -120,11 +178,12 @@ fn outcome_of_second(
         step: later,
         glitch: other,
     };
-    outcome_of_one(scenario, &next, standing, change, with_output)
+    outcome_of_one(course, scenario, &next, standing, change, with_output)
 }
 
 /// Returns the outcome of two glitches, the first of which strikes a step before which a fork is. Afterwards the scenario is as it was.
 fn outcome_of_two(
+    course: Option<&Course>,
     scenario: &mut Scenario,
     fork: &Fork,
     step: u32,
@@ -143,13 +202,14 @@ fn outcome_of_two(
     edits_follow();
     let first = Change::Once { step, glitch };
     scenario.edit(first.edit())?;
-    let told = outcome_of_second(scenario, fork, later, other, with_output);
+    let told = outcome_of_second(course, scenario, fork, later, other, with_output);
     unmark(scenario);
     told
 }
 
 /// Returns the outcome of a change at a place, whose run continues from a fork. Afterwards the scenario is as it was.
 pub(crate) fn outcome_of(
+    course: Option<&Course>,
     scenario: &mut Scenario,
     fork: &Fork,
     standing: Standing,
@@ -168,7 +228,16 @@ pub(crate) fn outcome_of(
             glitch,
             later,
             other,
-        } => outcome_of_two(scenario, fork, step, glitch, later, other, with_output),
-        _ => outcome_of_one(scenario, fork, standing, change, with_output),
+        } => outcome_of_two(
+            course,
+            scenario,
+            fork,
+            step,
+            glitch,
+            later,
+            other,
+            with_output,
+        ),
+        _ => outcome_of_one(course, scenario, fork, standing, change, with_output),
     }
 }

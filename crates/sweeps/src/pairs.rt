@@ -84,7 +84,7 @@ fn meet_pair(
         step: later,
         glitch: Glitch::Skip,
     };
-    let outcome = outcome_of_one(scenario, fork, standing, second, first.with_output)?;
+    let outcome = outcome_of_one(None, scenario, fork, standing, second, first.with_output)?;
     count_pair(counts, first, later, &outcome, out)
 }
 

@@ -114,7 +114,7 @@ struct Struck {
 fn outcome_at(
     alloc: Global,
     scenario: &mut Scenario,
-    recall: &Recall,
+    counts: &Counts,
     spot: &Spot,
     struck: Struck,
     passing: Passing,
@@ -122,13 +122,14 @@ fn outcome_at(
 ) -> Result<Outcome, AllocError>
     requires before { IsBefore scenario.old struck.step spot.now }
     requires at { IsAt scenario.old spot.now.standing (Once struck.step struck.glitch) }
-    requires here { recall.now.step ≡ struck.step }
+    requires here { counts.now.recall.step ≡ struck.step }
     requires passing { Passes (state_before scenario.old struck.step) scenario.old.setup struck.glitch passing }
     ensures same { scenario.new ≡ scenario.old }
-    ensures outcome { IfOk result (λ outcome. Recalls with_output scenario.old recall.now
+    ensures outcome { IfOk result (λ outcome. Recalls with_output scenario.old counts.now.recall
         → IsOutcome with_output scenario.old (Once struck.step struck.glitch) outcome) }
 {
     let Struck { step, glitch, .. } = struck;
+    let recall = &counts.recall;
     if let Some(outcome) = recalled(recall, glitch, passing)? {
         return Ok(outcome);
     }
@@ -149,7 +150,14 @@ fn outcome_at(
         );
     }
     let change = Change::Once { step, glitch };
-    let text = outcome_of(scenario, &spot.fork, spot.standing, change, with_output)?;
+    let text = outcome_of(
+        counts.course.as_ref(),
+        scenario,
+        &spot.fork,
+        spot.standing,
+        change,
+        with_output,
+    )?;
     recall.outcome(alloc, text)
 }
 
@@ -178,15 +186,7 @@ fn meet_glitch(
         touched,
     } = struck;
     let passing = passing_of(&spot.fork.machine, scenario.setup(), touched, glitch);
-    let outcome = outcome_at(
-        alloc,
-        scenario,
-        &counts.recall,
-        spot,
-        struck,
-        passing,
-        with_output,
-    )?;
+    let outcome = outcome_at(alloc, scenario, counts, spot, struck, passing, with_output)?;
     let steps = scenario.step() - spot.fork.step;
     counts.count(Change::Once { step, glitch }, outcome.text(), steps, out)?;
     keep(&mut counts.recall, glitch, passing, outcome)

@@ -17,12 +17,12 @@ if TYPE_CHECKING:
     from replaycheck.scripting.errors import Ended, Error, OutOfMemory, Refused, Unreadable, Usage
     from replaycheck.scripting.inputs import Input
     from replaycheck.scripting.runs import Run
-    from replaycheck.scripting.steps import Certificate, Memory, Registers, Step
+    from replaycheck.scripting.steps import Block, Certificate, Happened, Memory, Registers, Step
     from replaycheck.scripting.sweeps import Outcome, sweep
 
 __all__ = [
-    "LAST_STEP", "Address", "Certificate", "Ended", "Error", "Frame", "Input", "Leak", "Memory", "Note", "OutOfMemory", "Outcome",
-    "Refused", "Registers", "Report", "ReportedError", "Run", "State", "Step", "Sum", "Unreadable", "Usage", "sweep"]
+    "LAST_STEP", "Address", "Block", "Certificate", "Ended", "Error", "Frame", "Happened", "Input", "Leak", "Memory", "Note", "OutOfMemory",
+    "Outcome", "Refused", "Registers", "Report", "ReportedError", "Run", "State", "Step", "Sum", "Unreadable", "Usage", "sweep"]
 # Where each name is: its module is imported when the name is asked for, as the tools need none of these.
 _HOMES = {
     "options": ("LAST_STEP",),
@@ -30,7 +30,7 @@ _HOMES = {
     "scripting.errors": ("Ended", "Error", "OutOfMemory", "Refused", "Unreadable", "Usage"),
     "scripting.inputs": ("Input",),
     "scripting.runs": ("Run",),
-    "scripting.steps": ("Certificate", "Memory", "Registers", "Step"),
+    "scripting.steps": ("Block", "Certificate", "Happened", "Memory", "Registers", "Step"),
     "scripting.sweeps": ("Outcome", "sweep"),
 }
 _RENAMED = {"ReportedError": ("reports", "Error")}

@@ -41,6 +41,16 @@ class Control:
 
 
 @dataclass(frozen=True)
+class Block:
+    """A block of the heap, with up to three addresses of where it was allocated or, once it is freed, of where it was freed."""
+
+    start: int
+    size: int
+    is_live: bool
+    trace: List[int]
+
+
+@dataclass(frozen=True)
 class Bytes:
     """Bytes of memory, and two digits for the undefined bits of each: NO_ACCESS where there is none."""
 
@@ -156,6 +166,22 @@ class Run:
         self.at(self.step)
         data, undefined = (row.split()[1] for row in self.look(f"memory 0x{address:x} {length}"))
         return Bytes(bytes.fromhex(data), undefined)
+
+    def listed(self, word, start, *more):
+        """The lines of a look that lists something, from a place on: each look after the first is from where the one before says that
+        there is more."""
+        rows, place = [], str(start)
+        while place:
+            *found, last = self.look(" ".join([word, place, *map(str, more)]))
+            rows += found
+            place = last.partition(" ")[2]
+        return rows
+
+    def blocks(self) -> List[Block]:
+        """The blocks of the heap at the step, in order: also freed ones, as long as their places aren't used again."""
+        self.at(self.step)
+        rows = [row.split() for row in self.listed("blocks", 0)]
+        return [Block(int(row[1], 16), int(row[2]), row[3] == "live", [int(it, 16) for it in row[4:]]) for row in rows]
 
     # ---- which step does something
 

@@ -11,6 +11,9 @@ MARKS = ("mark", "set", "write", "flip", "skip")
 # How many lines the reply to a look has, by the look's first word; to any other one it has one. A line that begins so is a whole reply.
 LONG_LOOKS = {"registers": 32, "controls": 24, "memory": 2}
 WHOLE = ("refused ", "none")
+# Looks whose replies are lists, and how their last lines begin.
+LISTS = ("blocks", "calls")
+LAST = ("refused ", "next ", "end")
 
 
 class Session:
@@ -44,6 +47,8 @@ class Session:
         reply = [self.read()]
         if line.startswith("look "):
             word = (line.split() + [""])[1]
+            while word in LISTS and not reply[-1].startswith(LAST):
+                reply.append(self.read())
             more = 0 if reply[0].startswith(WHOLE) else LONG_LOOKS.get(word, 1) - 1
             reply += [self.read() for _ in range(more)]
         elif reply[0].startswith("step "):

@@ -1,13 +1,15 @@
 //! Places for new blocks.
 ghost use Rattle.std.specs.Prelude.{◌≡◌, ◌<◌, ◌≤◌, ◌+◌, ◌%◌, ◌^◌, ℕ, None};
 
-use crate::bounds::{Bound, SizeClass, class_of, past};
+use crate::bounds::{Bound, SizeClass, class_of};
 use crate::entry::Entry;
+use crate::gaps::Gaps;
 use crate::heap::Heap;
-use crate::interval::high_end;
+use crate::heap::places::Search;
 use crate::region::{GREATEST_SIZE, aligned, end_of, slot_of};
 use call_stacks::Trace;
 use std::alloc::{AllocError, Global};
+use std::mem;
 use std::rc::Rc;
 
 #[tactic(auto, unfolding(crate::specs::Heaps::blocks_of))]
@@ -19,31 +21,56 @@ impl Heap {
     ghost use Rattle.guest_heap.specs.Heaps.{blocks_of, redzone_in};
     ghost use Rattle.guest_heap.specs.States.{AreNoPlaces};
     ghost use Rattle.guest_heap.specs.Bounds.{Holds};
+    ghost use Rattle.guest_heap.specs.Searches.{IsReached};
 
-    /// Returns the least place from an address on, provided that there is none below it.
-    fn place_from(&self, from: u64, size: u32, redzone: u32, known: &Bound) -> Option<u32>
-        requires multiple { from % 16 ≡ 0 }
-        requires above { self.now.begin + redzone ≤ from }
-        requires below { from < 17179869184 }
+    /// Returns the least place from an address on, with the index of gaps. While the search runs, the heap has no index.
+    #[inline(never)]
+    #[tactic(auto, unfolding(crate::specs::Heaps::blocks_of, crate::specs::Heaps::redzone_in))]
+    fn place_by_gaps(
+        &mut self,
+        alloc: Global,
+        from: u64,
+        size: u32,
+    ) -> Result<Option<u32>, AllocError>
+        requires reached { IsReached (blocks_of self.old) size (redzone_in self.old) from }
         requires small { size ≤ greatest_size }
-        requires none { (q : ℕ) → q < from → ¬ (IsPlace (blocks_of self.now) size redzone q) }
-        requires skipped { AreNoPlaces (blocks_of self.now) size redzone known.now.next known.now.until }
-        ensures { Places (blocks_of self.now) size redzone result }
+        ensures same { blocks_of self.new ≡ blocks_of self.old }
+        ensures redzone { redzone_in self.new ≡ redzone_in self.old }
+        ensures place { IfOk result (λ start. Places (blocks_of self.new) size (redzone_in self.new) start) }
     {
-        let before = u64::from(redzone);
-        let after = u64::from(size.max(1)) + before;
-        let end = end_of(self.begin);
-        let mut at = from;
-        while at + after <= end {
-            match self.meeting(at - before, at + after) {
-                None => return Some(at as u32),
-                Some(entry) => {
-                    let behind = aligned(high_end(entry) + before);
-                    at = past(behind, known);
-                }
+        let mut gaps = mem::replace(&mut self.gaps, Gaps::new());
+        let found = self.place_in_gaps(alloc, &mut gaps, from, size);
+        self.gaps = gaps;
+        found
+    }
+
+    /// Returns the least place from an address on. If there are many blocks to look at, the heap has an index of gaps from then on.
+    #[inline(always)]
+    #[tactic(auto, unfolding(crate::specs::Heaps::blocks_of, crate::specs::Heaps::redzone_in))]
+    fn place_from(
+        &mut self,
+        alloc: Global,
+        from: u64,
+        size: u32,
+        known: &Bound,
+    ) -> Result<Option<u32>, AllocError>
+        requires reached { IsReached (blocks_of self.old) size (redzone_in self.old) from }
+        requires small { size ≤ greatest_size }
+        requires skipped { AreNoPlaces (blocks_of self.old) size (redzone_in self.old) known.now.next known.now.until }
+        ensures same { blocks_of self.new ≡ blocks_of self.old }
+        ensures redzone { redzone_in self.new ≡ redzone_in self.old }
+        ensures place { IfOk result (λ start. Places (blocks_of self.new) size (redzone_in self.new) start) }
+    {
+        if !self.gaps.are_absent() {
+            return self.place_by_gaps(alloc, from, size);
+        }
+        match self.place_near(from, size, known) {
+            Search::Done(place) => Ok(place),
+            Search::At(at) => {
+                self.gaps = Gaps::of_region(alloc, self.begin)?;
+                self.place_by_gaps(alloc, at, size)
             }
         }
-        None
     }
 
     /// Makes the bounds those of a redzone. What was known for another one is forgotten.
@@ -54,6 +81,7 @@ impl Heap {
     {
         if self.redzone != redzone || self.bounds.are_absent() {
             self.bounds.forget(alloc)?;
+            self.gaps = Gaps::new();
             self.redzone = redzone;
         }
         Ok(())
@@ -61,30 +89,7 @@ impl Heap {
 
     /// Returns the bound of a class, raised to the least place of its least block.
     #[tactic(auto, unfolding(crate::specs::Heaps::blocks_of, crate::specs::Heaps::redzone_in))]
-    fn raised(&self, class: &SizeClass) -> Bound
-        requires index { class.now.index < 268 }
-        requires small { class.now.least ≤ greatest_size }
-        ensures size { result.size ≡ class.now.least }
-        ensures holds { Holds (blocks_of self.now) (redzone_in self.now) result }
-    {
-        let known = u64::from(self.bounds.known(class));
-        let own = self.bounds.get(class);
-        let from = aligned(known.max(u64::from(self.begin) + u64::from(self.redzone)));
-        let least = match self.place_from(from, class.least, self.redzone, &own) {
-            Some(place) => place,
-            None => end_of(self.begin) as u32,
-        };
-        Bound {
-            size: own.size,
-            from: least,
-            next: own.next,
-            until: own.until,
-        }
-    }
-
-    /// Raises the bound of a class, and returns it. If the bound already has that value, copies still share the list.
-    #[tactic(auto, unfolding(crate::specs::Heaps::blocks_of, crate::specs::Heaps::redzone_in))]
-    fn raise_bound(&mut self, class: &SizeClass) -> Result<Bound, AllocError>
+    fn raised(&mut self, alloc: Global, class: &SizeClass) -> Result<Bound, AllocError>
         requires index { class.now.index < 268 }
         requires small { class.now.least ≤ greatest_size }
         ensures same { blocks_of self.new ≡ blocks_of self.old }
@@ -92,7 +97,32 @@ impl Heap {
         ensures size { IfOk result (λ bound. bound.size ≡ class.now.least) }
         ensures holds { IfOk result (λ bound. Holds (blocks_of self.new) (redzone_in self.new) bound) }
     {
-        let raised = self.raised(class);
+        let known = u64::from(self.bounds.known(class));
+        let own = self.bounds.get(class);
+        let from = aligned(known.max(u64::from(self.begin) + u64::from(self.redzone)));
+        let least = match self.place_from(alloc, from, class.least, &own)? {
+            Some(place) => place,
+            None => end_of(self.begin) as u32,
+        };
+        Ok(Bound {
+            size: own.size,
+            from: least,
+            next: own.next,
+            until: own.until,
+        })
+    }
+
+    /// Raises the bound of a class, and returns it. If the bound already has that value, copies still share the list.
+    #[tactic(auto, unfolding(crate::specs::Heaps::blocks_of, crate::specs::Heaps::redzone_in))]
+    fn raise_bound(&mut self, alloc: Global, class: &SizeClass) -> Result<Bound, AllocError>
+        requires index { class.now.index < 268 }
+        requires small { class.now.least ≤ greatest_size }
+        ensures same { blocks_of self.new ≡ blocks_of self.old }
+        ensures redzone { redzone_in self.new ≡ redzone_in self.old }
+        ensures size { IfOk result (λ bound. bound.size ≡ class.now.least) }
+        ensures holds { IfOk result (λ bound. Holds (blocks_of self.new) (redzone_in self.new) bound) }
+    {
+        let raised = self.raised(alloc, class)?;
         if raised.from == self.bounds.get(class).from {
             return Ok(raised);
         }
@@ -109,9 +139,9 @@ impl Heap {
             return Ok(None);
         }
         self.use_redzone(alloc, redzone)?;
-        let bound = self.raise_bound(&class_of(size))?;
+        let bound = self.raise_bound(alloc, &class_of(size))?;
         let from = aligned(u64::from(bound.from).max(u64::from(self.begin) + u64::from(redzone)));
-        Ok(self.place_from(from, size, redzone, &bound))
+        self.place_from(alloc, from, size, &bound)
     }
 
     /// Puts a new live block at a place.

@@ -40,7 +40,7 @@ fn near_of(entry: &Entry, address: u32) -> Near
 impl Heap {
     ghost use Rattle.std.specs.Prelude.{IfSome, IfNone, IsSomeAnd};
     ghost use Rattle.std.specs.Option.{option_copied, option_map};
-    ghost use Rattle.guest_heap.specs.Blocks.{IsKept, Holds, IsFirstLive};
+    ghost use Rattle.guest_heap.specs.Blocks.{IsKept, Holds, IsFirstKept, IsFirstLive};
     ghost use Rattle.guest_heap.specs.States.{IsNextKept, live_block};
     ghost use Rattle.guest_heap.specs.Steps.{near, live_from};
     ghost use Rattle.guest_heap.specs.Heaps.{blocks_of, live_in};
@@ -77,6 +77,22 @@ impl Heap {
         ensures none { IfNone result ((a : ℕ) → from ≤ a → (blocks_of self.now).live a ≡ None) }
     {
         self.next_live(from)
+    }
+
+    /// Returns the kept block with the least start that isn't below an address: a live one, or one in the queue of the freed ones. Allocates
+    /// nothing.
+    pub fn kept(&self, from: u32) -> Option<Block>
+        ensures some { IfSome result (λ b. IsFirstKept (blocks_of self.now) from b) }
+        ensures below { IfSome result (λ b. b.start < u32.MAX) }
+        ensures none { IfNone result ((b : Block) → IsKept (blocks_of self.now) b → b.start < from) }
+    {
+        let begin = u64::from(self.begin);
+        let above = u64::from(from).max(begin) - begin;
+        let slot = ((above + 15) / 16) as usize;
+        match self.kept_from(slot.min(SLOTS)) {
+            Some(entry) => Some(entry.block()),
+            None => None,
+        }
     }
 
     /// Returns the kept block whose interval holds an address, and how far from the block the address is. There is at most one such block.

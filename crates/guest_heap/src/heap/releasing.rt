@@ -69,7 +69,7 @@ fn move_to_freed(
     live.set(alloc, slot, None)
 }
 
-#[tactic(auto, using(crate::proofs::FreeSteps::spare_sound, crate::proofs::BoundSteps::same_bounds), unfolding(crate::specs::Heaps::blocks_of))]
+#[tactic(auto, using(crate::proofs::FreeSteps::spare_sound, crate::proofs::KnownSteps::same_known), unfolding(crate::specs::Heaps::blocks_of))]
 impl Heap {
     ghost use Rattle.std.specs.Prelude.{IfOk, OnOk, OnErr, drop};
     ghost use Rattle.std.specs.Option.{option_copied, option_map};
@@ -145,7 +145,9 @@ impl Heap {
         self.queue.pop_front();
         self.first += 1;
         self.held -= u64::from(size);
-        self.bounds.lower(&Opened { first, end, room });
+        let opened = Opened { first, end, room };
+        self.bounds.lower(&opened);
+        self.gaps.raise(&opened);
         // If this fails, the entry stays but doesn't count: its number is too small.
         let _ = self.freed.set(alloc, slot_of(self.begin, start), None);
     }

@@ -66,7 +66,7 @@ impl Heap {
 
     /// Returns the first kept block from a slot on.
     #[tactic(auto, using(crate::proofs::KeptSteps::none_kept), unfolding(crate::specs::Heaps::live_in, crate::specs::Heaps::freed_in, crate::specs::Heaps::first_in))]
-    fn kept_from(&self, from: usize) -> Option<&Entry>
+    pub(crate) fn kept_from(&self, from: usize) -> Option<&Entry>
         requires { from ≤ 33554432 }
         ensures { IsNextKept (kept_at (live_in self.now) (freed_in self.now) (first_in self.now)) from (option_map block_of (option_copied result)) }
     {

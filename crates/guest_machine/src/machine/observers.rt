@@ -10,6 +10,7 @@ ghost use Rattle.error_events.specs.Shown.{groups_of};
 ghost use Rattle.guest_machine.specs.Shows.{Shows, has_raised};
 
 use crate::machine::Machine;
+use call_stacks::CallStack;
 use definedness::Bits;
 use error_events::Groups;
 use guest_elf::Isa;
@@ -74,6 +75,13 @@ impl Machine {
         ensures { (s : State) → Shows self.now s → result ≡ s.heap_calls }
     {
         self.guest.progress.heap_calls
+    }
+
+    /// Returns the frames of the calls that the machine is in.
+    pub fn frames(&self) -> &CallStack
+        ensures { (s : State) → Shows self.now s → result.now ≡ s.core.frames }
+    {
+        &self.guest.frames
     }
 
     /// Returns a register's value and undefined bits; x0 is 0.

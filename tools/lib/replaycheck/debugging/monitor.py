@@ -1,7 +1,6 @@
 """Lines of `monitor`: those of Valgrind's gdbserver where it has them (Memcheck's manual, section 4.6), lines of a session, and the
 step."""
 import os
-import re
 import subprocess
 
 from replaycheck import options
@@ -23,7 +22,7 @@ report | errors | leak_check      the report at this step, its errors, or its le
 get_vbits ADDR [LEN]              undefined bits of bytes, four a word; __ where there is no access
 check_memory addressable|defined ADDR [LEN]
 who_points_at ADDR [LEN]          registers and aligned words that point there
-block_list                        the blocks of the heap that are in use: where bytes of it may be accessed
+block_list                        the blocks of the heap that are in use, and from where they were allocated
 stop_at_errors on|off             continue and reverse-continue stop before each step that makes an error that isn't suppressed
 origin [N]                        where the undefined bits came from on which the Nth error so far depends
 make_memory noaccess|undefined|defined ADDR [LEN]     a mark at this step
@@ -39,10 +38,7 @@ worked                            how many steps were made for reports and looks
 EDITS = ("input", "patch", "patch16", "mark", "set", "write", "option", "supp")
 KINDS = ("noaccess", "undefined", "defined")
 MOST = 1 << 20  # bytes of memory that one line asks about
-HEAP_SEEN = 1 << 24  # bytes of the heap that are looked at for blocks
-PART = 4096  # so many of them at a time
 WORD = 4
-ACCESSIBLE = re.compile("(?:[0-9a-f]{2})+")
 
 
 class Monitor:
@@ -161,31 +157,19 @@ class Monitor:
     def searched(self, seen):
         """Where pointers are looked for: what is loaded, the blocks of the heap, and the stack."""
         ranges = [(begin + 3 & ~3, end) for begin, end in self.loads]
-        ranges += self.blocks()
+        ranges += [(it.start, it.start + it.size) for it in self.live_blocks()]
         sp = seen.values[2] & ~3
         begin, end = self.run.regions.stack
         return ranges + ([(sp, min(end, sp + MOST))] if begin <= sp < end else [])
 
     def block_list(self, word, *words):
         taken(words, 0, 0, word)
-        blocks = self.blocks()
-        rows = [f"0x{begin:08x} {end - begin}\n" for begin, end in blocks]
-        return "".join(rows) + f"{len(blocks)} blocks, as far as bytes of the heap may be accessed\n"
+        blocks = self.live_blocks()
+        rows = [f"0x{it.start:08x} {it.size} from {' '.join(f'0x{place:08x}' for place in it.trace)}\n" for it in blocks]
+        return "".join(rows) + f"{len(blocks)} blocks\n"
 
-    def blocks(self):
-        """Ranges of the heap whose bytes may be accessed, in order: as many bytes as the report counts."""
-        wanted, found = sum(it.size for it in self.run.report(self.run.step).sums.values()), []
-        heap = self.run.regions.heap
-        for address in range(heap, heap + HEAP_SEEN, PART):
-            if wanted <= 0:
-                break
-            for it in ACCESSIBLE.finditer(self.run.memory(address, PART).undefined):
-                begin, end = (address + place // 2 for place in it.span())
-                wanted -= end - begin
-                if found and found[-1][1] == begin:
-                    begin = found.pop()[0]
-                found.append((begin, end))
-        return found
+    def live_blocks(self):
+        return [it for it in self.run.blocks() if it.is_live]
 
     def make_memory(self, word, *words):
         if not words or words[0].lower() not in KINDS:

@@ -6,12 +6,14 @@ import json
 import re
 
 from replaycheck import allocators, file_heaps
+from replaycheck.adopting import outside, regions
 from replaycheck.endings import Fault
-from replaycheck.exploring import outcomes, picture
+from replaycheck.exploring import outcomes
 from replaycheck.guest_files import TOP
 from replaycheck.options import LAST_STEP
 from replaycheck.programs import ISAS
 from replaycheck.refusals import WORDS
+from replaycheck.regions import HEAP_SIZE, USUAL_REGIONS
 from replaycheck.reports import LEAK_KINDS, TEXTS
 
 from .scripts import one_script
@@ -33,8 +35,9 @@ def facts(module):
         ("LAST_STEP", LAST_STEP), ("ISAS", ISAS), ("REFUSALS", WORDS), ("LEAK_KINDS", LEAK_KINDS),
         ("ERROR_KINDS", [(pattern.pattern, name) for pattern, name in TEXTS]),
         ("BADNESS", outcomes.BADNESS), ("FRAMES_TOLD", outcomes.FRAMES_TOLD), ("RUNNING", outcomes.RUNNING),
-        ("NEW", picture.NEW), ("OTHER_NEW", picture.OTHER_NEW), ("NOT_NEW", picture.NOT_NEW), ("OTHER", picture.OTHER),
-        ("UNEDITED", picture.UNEDITED), ("HEAP_NAMES", allocators.HEAP), ("OTHER_HEAPS", sorted(file_heaps.OTHERS)),
+        ("HEAP_NAMES", allocators.HEAP), ("OTHER_HEAPS", sorted(file_heaps.OTHERS)),
+        ("HEAPS", regions.HEAPS), ("HEAP_SIZE", HEAP_SIZE), ("USUAL_HEAP", USUAL_REGIONS.heap), ("MOST_STACK", regions.MOST_STACK),
+        ("STACK_ENDS", regions.STACK_ENDS), ("DEVICES", outside.DEVICES),
         ("HEAP_CHOICES", file_heaps.CHOICES), ("FIRST_BLOCK", file_heaps.FIRST_BLOCK), ("MODULE_SUM", hashlib.sha256(module).hexdigest())))
 
 

@@ -17,7 +17,7 @@ from replaycheck.scripting.files import Source
 from replaycheck.scripting.inputs import Input
 from replaycheck.scripting.regions import regions_for
 from replaycheck.scripting.scenarios import EDITS, Scenario
-from replaycheck.scripting.steps import Certificate, Memory, Place, Registers, Step
+from replaycheck.scripting.steps import Certificate, Happened, Memory, Place, Registers, Step
 from replaycheck.scripting.talks import Talk
 
 WORD = 4
@@ -299,6 +299,12 @@ class Run:
             yield step
             step = self.next("run", function, WORD, step + 1)
 
+    def happened(self, start: int = 0, end: int = LAST_STEP) -> List[Happened]:
+        """Returns what happens in the steps from `start` on and below `end`, in order: calls and returns, calls of the heap, input that is
+        read and output that is written."""
+        first = number("start", start)
+        return [happened_in(row.split()) for row in self._at(end).listed("calls", first, end)]
+
     @property
     def end(self) -> int:
         """The step at which the program has ended, or `LAST_STEP` if it still runs there."""
@@ -332,6 +338,14 @@ def register_of(name: str) -> str:
     if name not in ALTERED:
         raise Usage(f"register: {name!r}: none of those that can be set")
     return ALTERED[name]
+
+
+def happened_in(words: List[str]) -> Happened:
+    """Returns what the words of a row say that happens in a step."""
+    step, what, *rest = words
+    if what in ("input", "output"):
+        return Happened(int(step), what, count=int(rest[0]))
+    return Happened(int(step), what, Address(rest[0], 16) if len(rest) > 1 else None, int(rest[-1]))
 
 
 def edit_of(line: str) -> str:

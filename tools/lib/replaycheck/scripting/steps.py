@@ -2,7 +2,7 @@
 from __future__ import annotations
 
 from dataclasses import dataclass
-from typing import TYPE_CHECKING, NamedTuple, Optional, Tuple, Union
+from typing import TYPE_CHECKING, List, NamedTuple, Optional, Tuple, Union
 
 from replaycheck.reports import Address, Lines, State, read_state
 
@@ -82,6 +82,28 @@ class Memory:
 
 
 @dataclass(frozen=True)
+class Block:
+    """A block of the heap. `trace` has up to three addresses: where the block was allocated or, once it is freed, where it was freed."""
+
+    address: Address
+    size: int
+    is_live: bool
+    trace: Tuple[Address, ...]
+
+
+@dataclass(frozen=True)
+class Happened:
+    """What a step does: `what` is "call", "return", "heap", "input" or "output". `address` is where a call or a return goes on, `depth` the
+    number of frames after it or after a heap call, `count` the number of bytes that are read or written; the others are None."""
+
+    step: int
+    what: str
+    address: Optional[Address] = None
+    depth: Optional[int] = None
+    count: Optional[int] = None
+
+
+@dataclass(frozen=True)
 class Certificate:
     """What `look certify` says of a run up to a step, which is proved: `text` is its line. `clean` says that nothing which uninitialised,
     freed or unmapped memory holds has any influence on the run. `first_use` is the step of the error that lets such memory in; it is None
@@ -103,6 +125,10 @@ class Certificate:
     def first_use(self) -> Optional[int]:
         is_use = self.text.startswith(FIRST_USE)
         return int(self.text[len(FIRST_USE):].partition(":")[0]) if is_use else None
+
+
+def addresses(words: List[str]) -> Tuple[Address, ...]:
+    return tuple(Address(it, 16) for it in words)
 
 
 class Step:
@@ -149,6 +175,17 @@ class Step:
     def _pairs(self, index: int) -> Registers:
         rows = self.run._seen(self.number)[1:]
         return Registers(0, *(int(row.split()[1 + index], 16) for row in rows))
+
+    @property
+    def stack(self) -> Tuple[Address, ...]:
+        """The address of the next instruction, and those of the calls that the program is in, newest first: at most 256 of these."""
+        return addresses(self.run._at(self.number).look("stack")[0].split()[1:])
+
+    def blocks(self, address: Place = 0) -> List[Block]:
+        """Returns the blocks of the heap from an address on, in order: also freed ones, as long as their places aren't used again."""
+        start = self.run._address(address)
+        rows = [row.split() for row in self.run._at(self.number).listed("blocks", start)]
+        return [Block(Address(row[1], 16), int(row[2]), row[3] == "live", addresses(row[4:])) for row in rows]
 
     def memory(self, address: Place, length: int) -> Memory:
         """Returns bytes of memory at the step.

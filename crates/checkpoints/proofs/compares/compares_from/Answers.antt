@@ -1,7 +1,8 @@
 use Rattle.std.proofs.Common.{◌≡◌, ◌+◌, ◌∙◌, ap, arith, length, refl, rules, sym, vec_len}
 use Rattle.guest_machine.specs.Run.{post}
 use Rattle.checkpoints.proofs.MarkSteps.{pre-more, shows-along}
-use Rattle.checkpoints.proofs.CompareSteps.{all-found, all-halted, all-passed, found-more, none-yet, still-few}
+use Rattle.checkpoints.proofs.CompareSteps.{all-found, all-halted, all-passed, found-more, none-yet}
+use Rattle.checkpoints.proofs.Listing.{still-few}
 use Rattle.checkpoints.proofs.compares.compares_from.Goals as goal
 
 pub loop-k-init : goal.loop-k-init

@@ -5,6 +5,7 @@ use Rattle.sweep_plans.specs.declared.change.Change.{Change}
 use Rattle.sweeps.specs.Standing.{IsAt}
 use Rattle.sweeps.specs.Sweeps.{CountsMore}
 use Rattle.sweeps.proofs.PlaceSteps.{all-at, next-below}
+use Rattle.sweeps.proofs.Steps.{counts-same}
 use Rattle.sweeps.proofs.meeting.meet_all.Goals as goal
 
 pub changes-requires : goal.changes-requires
@@ -22,4 +23,8 @@ returns-clause-met c =
     on_ok_weaker c.meet_there.result (λ met.
     subst (λ (xs : List Change). CountsMore c.args.counts.now c.meet_there.new.counts c.args.with_output
     c.args.scenario.now xs c.args.out.now.items c.meet_there.new.out.items) (c.deref.ensures.value
-    ∙ c.in_ok-changes.ensures) met) c.meet_there.ensures.met
+    ∙ c.in_ok-changes.ensures)
+    (counts-same c.args.with_output c.args.scenario.now c.args.counts.now c.hold_course.new.self
+    c.meet_there.new.counts c.deref.result.now c.args.out.now.items c.meet_there.new.out.items
+    c.in_ok-hold_course.ensures met))
+    c.meet_there.ensures.met

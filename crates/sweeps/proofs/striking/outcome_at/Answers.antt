@@ -14,7 +14,7 @@ returns-in-Some-clause-outcome c h =
     let wo = c.args.with_output in
     let glitch = c.args.struck.glitch in
     let same = c.requires.here in
-    let told = of-found (IsRecalled c.args.recall.now glitch c.args.passing) c.in_ok-outcome.field-0
+    let told = of-found (IsRecalled c.args.counts.now.recall glitch c.args.passing) c.in_ok-outcome.field-0
     c.in-Some.outcome c.in-Some.is c.in_ok-outcome.ensures in
     subst (λ k. IsOutcome wo sc (Once k glitch) c.in-Some.outcome) same
     (told wo sc c.requires.before.unmarked
@@ -25,5 +25,5 @@ pub returns-clause-outcome : goal.returns-clause-outcome
 returns-clause-outcome c =
     let known = AreEnds c.args.with_output c.args.scenario.now in
     IfOk-weaker c.outcome_of_glitch.result _ _
-    (λ outcome told h. told (of-found known c.args.recall.now.ends c.in-Some-ends.ends c.in-Some-ends.is h.ends))
+    (λ outcome told h. told (of-found known c.args.counts.now.recall.ends c.in-Some-ends.ends c.in-Some-ends.is h.ends))
     c.outcome_of_glitch.ensures.outcome

@@ -3,14 +3,14 @@ use Rattle.guest_heap.specs.BoundLists.{bounds_in}
 use Rattle.guest_heap.specs.Heaps.{blocks_of}
 use Rattle.guest_heap.specs.Blocks.{Blocks, freed_by}
 use Rattle.guest_heap.specs.States.{shown, volume_in}
-use Rattle.guest_heap.specs.Bounds.{AreBounds}
+use Rattle.guest_heap.specs.Gaps.{AreKnown}
 use Rattle.guest_heap.specs.Entries.{entry_for}
 use Rattle.guest_heap.specs.Tables.{entries_of}
 use Rattle.guest_heap.specs.Queues.{queued}
 use Rattle.guest_heap.specs.declared.entry.Entry.{Entry}
 use Rattle.guest_heap.proofs.FreeSteps.{old, spared_sound, enqueued_sound, enqueued_shown, enqueued_volume}
 use Rattle.guest_heap.proofs.FreeSteps.{enqueued_length, same_sound, on_any}
-use Rattle.guest_heap.proofs.BoundSteps.{no_more_freed, same_bounds}
+use Rattle.guest_heap.proofs.KnownSteps.{known_freed, same_known}
 use Rattle.guest_heap.proofs.heap.Heap.enqueue.Goals as goal
 
 pub slot_of-slot-requires : goal.slot_of-slot-requires
@@ -45,16 +45,16 @@ invariant_of-self-2 c =
           c.in_ok-prepare.ensures.same c.slot_of-slot.ensures refl (c.in_ok-freed.ensures ∙ ap P heap.numbered);
       numbered = omega (arith, heap.numbered, lengths, c.in-Some.ensures);
       volume = omega (arith, heap.volume, sizes, c.in-Some-checked_add.ensures, c.from.ensures);
-      bounded = (let Q : Blocks → Type 0 = λ bs. AreBounds bs heap.redzone (bounds_in heap.bounds) in
+      known = (let Q : Blocks → Type 0 = λ bs. AreKnown bs heap.redzone (bounds_in heap.bounds) heap.gaps in
           subst Q (sym (enqueued_shown heap.begin (entries_of heap.live) (entries_of heap.freed) (queued heap.queue)
           heap.first heap.sound c.args.block.now c.args.trace c.requires.live
           _ _ _ _ _ _ _ c.in_ok-move_to_freed.ensures.live c.in_ok-move_to_freed.ensures.freed c.push.ensures
           c.in_ok-prepare.ensures.same c.slot_of-slot.ensures refl
           (c.in_ok-freed.ensures ∙ ap P heap.numbered)))
-          (no_more_freed (shown heap.begin (entries_of heap.live) (queued heap.queue)) c.args.block.now c.args.trace
+          (known_freed (shown heap.begin (entries_of heap.live) (queued heap.queue)) c.args.block.now c.args.trace
           heap.redzone
-          (bounds_in heap.bounds) c.requires.live
-          heap.bounded));
+          (bounds_in heap.bounds) heap.gaps c.requires.live
+          heap.known));
     }
 
 pub returns-clause-ok : goal.returns-clause-ok
@@ -82,10 +82,10 @@ invariant_of-self-in-Break-branch-3 c =
           c.in_err-move_to_freed.ensures.freed_err;
       numbered = heap.numbered ∙ ap (λ es. heap.first + length es) (sym c.prepare.ensures.same);
       volume = heap.volume ∙ ap volume_in (sym c.prepare.ensures.same);
-      bounded =
-          same_bounds heap.begin (entries_of heap.live) (entries_of c.move_to_freed.new.live) (queued heap.queue)
+      known =
+          same_known heap.begin (entries_of heap.live) (entries_of c.move_to_freed.new.live) (queued heap.queue)
           (queued c.prepare.new.self) heap.redzone
-          (bounds_in heap.bounds) c.in_err-move_to_freed.ensures.live_err c.prepare.ensures.same heap.bounded;
+          (bounds_in heap.bounds) heap.gaps c.in_err-move_to_freed.ensures.live_err c.prepare.ensures.same heap.known;
     }
 
 pub invariant_of-self : goal.invariant_of-self
@@ -100,10 +100,10 @@ invariant_of-self c =
       sound = same_sound heap.begin _ _ _ _ _ _ heap.first refl refl same heap.sound;
       numbered = heap.numbered ∙ ap (λ es. heap.first + length es) (sym same);
       volume = heap.volume ∙ ap volume_in (sym same);
-      bounded =
-          same_bounds heap.begin (entries_of heap.live) (entries_of heap.live) (queued heap.queue)
+      known =
+          same_known heap.begin (entries_of heap.live) (entries_of heap.live) (queued heap.queue)
           (queued c.prepare.new.self)
-          heap.redzone (bounds_in heap.bounds) refl same heap.bounded;
+          heap.redzone (bounds_in heap.bounds) heap.gaps refl same heap.known;
     }
 
 pub returns-in_err-prepare-clause-err : goal.returns-in_err-prepare-clause-err

@@ -6,8 +6,7 @@ use Rattle.guest_heap.specs.Tables.{entries_of}
 use Rattle.guest_heap.specs.Queues.{queued}
 use Rattle.guest_heap.proofs.PutSteps.{either_way}
 use Rattle.guest_heap.proofs.FreeSteps.{front_low, front_volume, front_length, forget_sound}
-use Rattle.guest_heap.proofs.BoundSteps.{forgotten_bounds}
-use Rattle.guest_heap.proofs.Bounding.{absent_bounds}
+use Rattle.guest_heap.proofs.KnownSteps.{known_forgotten}
 use Rattle.guest_heap.proofs.heap.Heap.forget_oldest.Goals as goal
 
 pub overflow_sub-self : goal.overflow_sub-self
@@ -77,16 +76,14 @@ invariant_of-self c =
           [ inl h ↦ inl (h ∙ ap (λ n. with_entry (entries_of old.freed) n None) c.slot_of.ensures) | inr h ↦ inr h ]);
       numbered = omega (arith, old.numbered, lengths, rest);
       volume = omega (arith, old.volume, sizes, volumes, c.from.ensures);
-      bounded = elim c.lower.ensures [
-        | inl lowered ↦ forgotten_bounds old.begin (entries_of old.live) (entries_of old.freed) (queued old.queue)
-            (queued c.pop_front.new.self) old.first old.sound e c.in-Some.ensures c.pop_front.ensures
-            old.redzone c.end_below.result (record {
-              first = c.aligned-first.result;
-              end = c.begin_above-end.result;
-              room = c.saturating_sub-room.result;
-            })
-            c.end_below.ensures.end c.begin_above-end.ensures.begin c.aligned-first.ensures.multiple (omega arith)
-            (omega arith) _ _ old.bounded lowered
-        | inr none ↦ absent_bounds _ _ _ none
-      ];
+      known =
+          known_forgotten old.begin (entries_of old.live) (entries_of old.freed) (queued old.queue)
+          (queued c.pop_front.new.self) old.first old.sound e c.in-Some.ensures c.pop_front.ensures
+          old.redzone c.end_below.result (record {
+            first = c.aligned-first.result;
+            end = c.begin_above-end.result;
+            room = c.saturating_sub-room.result;
+          })
+          c.end_below.ensures.end c.begin_above-end.ensures.begin c.aligned-first.ensures.multiple (omega arith)
+          (omega arith) _ _ _ _ c.lower.ensures c.raise.ensures old.known;
     }

@@ -1,7 +1,7 @@
 use Rattle.std.proofs.Common.{◌%◌, ◌<◌, ◌≤◌, ◌≡◌, ℕ, sym, subst}
 use Rattle.memory_map.specs.Regions.{greatest_heap_begin}
 use Rattle.guest_heap.proofs.Beginnings.{beginning}
-use Rattle.guest_heap.proofs.Bounding.{fresh_bounds}
+use Rattle.guest_heap.proofs.KnownSteps.{known_anew}
 use Rattle.guest_heap.proofs.heap.Heap.new_in.Goals as goal
 
 pub invariant_of-result-clause-grid : goal.invariant_of-result-clause-grid
@@ -25,5 +25,5 @@ invariant_of-result-clause-within c =
     subst P (sym c.heap_begin.ensures)
     (beginning regions.heap regions.stack.begin regions.stack.end regions.sound).within
 
-pub invariant_of-result-clause-bounded : goal.invariant_of-result-clause-bounded
-invariant_of-result-clause-bounded c = fresh_bounds _ _ _ c.new-bounds.ensures
+pub invariant_of-result-clause-known : goal.invariant_of-result-clause-known
+invariant_of-result-clause-known c = known_anew _ _ _ _ c.new-bounds.ensures c.new-gaps.ensures

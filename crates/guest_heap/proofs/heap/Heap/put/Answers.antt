@@ -3,13 +3,13 @@ use Rattle.guest_heap.specs.BoundLists.{bounds_in}
 use Rattle.guest_heap.specs.Heaps.{blocks_of}
 use Rattle.guest_heap.specs.Entries.{Entries, block_of}
 use Rattle.guest_heap.specs.States.{AreSound, shown}
-use Rattle.guest_heap.specs.Bounds.{AreBounds}
+use Rattle.guest_heap.specs.Gaps.{AreKnown}
 use Rattle.guest_heap.specs.Blocks.{Blocks}
 use Rattle.guest_heap.specs.Tables.{entries_of}
 use Rattle.guest_heap.specs.Queues.{queued}
 use Rattle.guest_heap.specs.declared.entry.Entry.{Entry}
 use Rattle.guest_heap.proofs.PutSteps.{put_sound, put_shown, either_way, written}
-use Rattle.guest_heap.proofs.BoundSteps.{no_more_put}
+use Rattle.guest_heap.proofs.KnownSteps.{known_put}
 use Rattle.guest_heap.proofs.heap.Heap.put.Goals as goal
 
 pub invariant_of-self : goal.invariant_of-self
@@ -30,16 +30,16 @@ invariant_of-self c =
       ];
       numbered = old.numbered;
       volume = old.volume;
-      bounded = (let Q : Blocks → Type 0 = λ bs. AreBounds bs old.redzone (bounds_in old.bounds) in
+      known = (let Q : Blocks → Type 0 = λ bs. AreKnown bs old.redzone (bounds_in old.bounds) old.gaps in
           elim (either_way c.set.result c.set.ensures.ok c.set.ensures.err) [
             | inl h ↦ subst Q
                 (sym (ap (λ f. shown old.begin f (queued old.queue))
                 (written old.begin _ _ _ _ e h c.slot_of-slot.ensures (ap Some c.in_ok-shared.ensures.ok))
                 ∙ put_shown old.begin old.grid _ _ _ _ old.sound e c.requires.live c.requires.place))
-                (no_more_put (shown old.begin (entries_of old.live) (queued old.queue)) (block_of c.args.entry)
+                (known_put (shown old.begin (entries_of old.live) (queued old.queue)) (block_of c.args.entry)
                 old.redzone
-                (bounds_in old.bounds) c.requires.place old.bounded)
-            | inr h ↦ subst Q (sym (ap (λ f. shown old.begin f (queued old.queue)) h)) old.bounded
+                (bounds_in old.bounds) old.gaps c.requires.place old.known)
+            | inr h ↦ subst Q (sym (ap (λ f. shown old.begin f (queued old.queue)) h)) old.known
           ]);
     }
 

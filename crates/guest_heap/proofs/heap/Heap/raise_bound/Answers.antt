@@ -10,7 +10,7 @@ use Rattle.guest_heap.proofs.heap.Heap.raise_bound.Goals as goal
 pub invariant_of-self : goal.invariant_of-self
 unfolding blocks_of redzone_in
 invariant_of-self c =
-    let heap = c.args.self.now in
+    let heap = c.raised.new.self in
     let P : List Bound → Type 0 = λ bs. AreBounds (blocks_of heap) heap.redzone bs in
     record {
       grid = heap.grid;
@@ -19,9 +19,12 @@ invariant_of-self c =
       sound = heap.sound;
       numbered = heap.numbered;
       volume = heap.volume;
-      bounded = elim (either_way c.put.result c.put.ensures.ok c.put.ensures.err) [
-        | inl written ↦ subst P (sym written) (put_holds (blocks_of heap) heap.redzone (bounds_in heap.bounds)
-            c.args.class.now.index _ heap.bounded c.raised-raised.ensures.holds)
-        | inr same ↦ subst P (sym same) heap.bounded
-      ];
+      known = record {
+        by_class = elim (either_way c.put.result c.put.ensures.ok c.put.ensures.err) [
+          | inl written ↦ subst P (sym written) (put_holds (blocks_of heap) heap.redzone (bounds_in heap.bounds)
+              c.args.class.now.index _ heap.known.by_class c.in_ok-raised.ensures.holds)
+          | inr same ↦ subst P (sym same) heap.known.by_class
+        ];
+        by_part = heap.known.by_part;
+      };
     }

@@ -1,5 +1,6 @@
 -- Bounds that say nothing are those of any redzone.
 use Rattle.guest_heap.proofs.Bounding.{fresh_bounds}
+use Rattle.guest_heap.proofs.KnownSteps.{known_anew}
 use Rattle.guest_heap.proofs.heap.Heap.use_redzone.Goals as goal
 
 pub invariant_of-self : goal.invariant_of-self
@@ -12,7 +13,7 @@ invariant_of-self c =
       sound = heap.sound;
       numbered = heap.numbered;
       volume = heap.volume;
-      bounded = fresh_bounds _ _ _ c.forget.ensures;
+      known = record { by_class = fresh_bounds _ _ _ c.forget.ensures; by_part = heap.known.by_part };
     }
 
 pub invariant_of-self-then-self-redzone : goal.invariant_of-self-then-self-redzone
@@ -25,5 +26,5 @@ invariant_of-self-then-self-redzone c =
       sound = heap.sound;
       numbered = heap.numbered;
       volume = heap.volume;
-      bounded = fresh_bounds _ _ _ c.forget.ensures;
+      known = known_anew _ _ _ _ c.forget.ensures c.new.ensures;
     }

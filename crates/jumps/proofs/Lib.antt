@@ -1,0 +1,4 @@
+pub mod TouchSteps
+pub mod CourseSteps
+pub mod ApartSteps
+pub mod BackSteps

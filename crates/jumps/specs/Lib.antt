@@ -1,0 +1,3 @@
+pub mod Touches
+pub mod Courses
+pub mod OneProof
