@@ -51,6 +51,9 @@ LONG = f"""li a0, 8; {MALLOC}; li t1, 30000
 again: addi t1, t1, -1; bne t1, zero, again; lw t0, 4(a0); beq t0, zero, .+8; nop; li a0, 0; {EXIT}"""
 FAR = f"""lui t0, 20; sub t1, sp, t0; lui t0, 2; li a0, 20000; {MALLOC}; add t0, a0, t0; lb t1, 3(t0)
 lui t2, 5; sub sp, sp, t2; sb t1, 5(sp); nop; lb t1, 5(sp); bge t1, zero, .+8; nop; li a0, 0; {EXIT}"""
+# A block behind 32 MiB of others.
+BEHIND = f"""lui a0, 4096; {MALLOC}; lui a0, 4096; {MALLOC}; li a0, 8; {MALLOC}; lw t0, 4(a0); beq t0, zero, .+8; nop; li a0, 0
+{EXIT}"""
 BY_NAME = f"""jal ra, start
 malloc: nop; nop
 start: li a0, 12; jal ra, malloc; lh t0, 6(a0); blt t0, zero, .+8; nop; li a0, 0; {EXIT}"""

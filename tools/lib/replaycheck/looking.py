@@ -177,6 +177,11 @@ class Run:
             place = last.partition(" ")[2]
         return rows
 
+    def stack(self) -> List[int]:
+        """The address of the next instruction at the step, and those of the calls that the program is in, newest first: the newest 256."""
+        self.at(self.step)
+        return [int(it, 16) for it in self.look("stack")[0].split()[1:]]
+
     def blocks(self) -> List[Block]:
         """The blocks of the heap at the step, in order: also freed ones, as long as their places aren't used again."""
         self.at(self.step)

@@ -23,6 +23,7 @@ get_vbits ADDR [LEN]              undefined bits of bytes, four a word; __ where
 check_memory addressable|defined ADDR [LEN]
 who_points_at ADDR [LEN]          registers and aligned words that point there
 block_list                        the blocks of the heap that are in use, and from where they were allocated
+backtrace                         where the program is, and the calls that it is in, as a report has them
 stop_at_errors on|off             continue and reverse-continue stop before each step that makes an error that isn't suppressed
 origin [N]                        where the undefined bits came from on which the Nth error so far depends
 make_memory noaccess|undefined|defined ADDR [LEN]     a mark at this step
@@ -47,13 +48,13 @@ class Monitor:
     def __init__(self, run, goer, alterer):
         self.run, self.goer, self.alterer = run, goer, alterer
         with open(run.files[0], "rb") as file:
-            self.loads = Elf(file.read(LONGEST_FILE), run.regions).loaded
+            self.elf = Elf(file.read(LONGEST_FILE), run.regions)
         self.by_word = {
             "help": self.help, "step": self.where, "goto": self.goto, "end": self.end, "report": self.report,
             "errors": self.report, "leak_check": self.report, "get_vbits": self.get_vbits,
             "check_memory": self.check_memory, "who_points_at": self.who_points_at, "block_list": self.block_list,
-            "stop_at_errors": self.stop_at_errors, "origin": self.origin, "make_memory": self.make_memory,
-            "worked": self.worked, "skip": self.skip, "flip": self.flip, "changes": self.changes, "unmark": self.unmark,
+            "backtrace": self.backtrace, "stop_at_errors": self.stop_at_errors, "origin": self.origin,
+            "make_memory": self.make_memory, "worked": self.worked, "skip": self.skip, "flip": self.flip, "changes": self.changes, "unmark": self.unmark,
             **{it: self.edit for it in EDITS}}
 
     def answer(self, line):
@@ -156,7 +157,7 @@ class Monitor:
 
     def searched(self, seen):
         """Where pointers are looked for: what is loaded, the blocks of the heap, and the stack."""
-        ranges = [(begin + 3 & ~3, end) for begin, end in self.loads]
+        ranges = [(begin + 3 & ~3, end) for begin, end in self.elf.loaded]
         ranges += [(it.start, it.start + it.size) for it in self.live_blocks()]
         sp = seen.values[2] & ~3
         begin, end = self.run.regions.stack
@@ -167,6 +168,10 @@ class Monitor:
         blocks = self.live_blocks()
         rows = [f"0x{it.start:08x} {it.size} from {' '.join(f'0x{place:08x}' for place in it.trace)}\n" for it in blocks]
         return "".join(rows) + f"{len(blocks)} blocks\n"
+
+    def backtrace(self, word, *words):
+        taken(words, 0, 0, word)
+        return "".join(f"#{index:<2} {self.elf.where(address)}\n" for index, address in enumerate(self.run.stack()))
 
     def live_blocks(self):
         return [it for it in self.run.blocks() if it.is_live]

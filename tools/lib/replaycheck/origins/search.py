@@ -3,6 +3,8 @@ error is still made tells whether it hangs on the marked bytes. Each answer is a
 from dataclasses import dataclass
 from typing import List, Tuple
 
+from replaycheck.regions import HEAP_SIZE
+
 from .image import HEAP_FUNCTIONS, joined
 from .trials import errors_of
 
@@ -73,7 +75,19 @@ class Search:
         self.reach(0)
 
     def reach(self, index):
-        self.reached, self.memory = index, self.image.memory(REACHES[index])
+        """Looks at more of the heap and of the stack; after the last of these, at all of the heap that has blocks."""
+        self.reached, self.memory = index, self.image.memory(REACHES[index] if index < len(REACHES) else self.whole_heap())
+
+    def whole_heap(self):
+        """How far into the heap the last block ends, and at least what was looked at before."""
+        heap, least = self.image.elf.regions.heap, REACHES[-1]
+
+        def blocks_from(reach):
+            return self.trials.blocks_from(self.step, heap + reach)
+        if not blocks_from(least):
+            return least
+        start, size = blocks_from(most(least, HEAP_SIZE, blocks_from))[0]
+        return start + size - heap
 
     # ---- questions
 
@@ -157,7 +171,7 @@ class Search:
         """The latest steps, up to one, at which all memory must be marked to remove the error beside others, as the
         value was in memory then. None where they aren't found."""
         begun = self.reached
-        for index in range(begun, len(REACHES)):
+        for index in range(begun, len(REACHES) + 1):
             self.reach(index)
             for steps in self.close_steps(last):
                 if self.removes(beside + self.all_at(*steps)):
@@ -182,7 +196,8 @@ class Search:
         return [first, *sorted(steps)[-room:]]
 
     def close_steps(self, last):
-        yield list(range(max(0, last - NEAR + 1), last + 1))
+        near = min(NEAR, self.trials.room // 2 // len(self.memory))
+        yield list(range(max(0, last - near + 1), last + 1))
         yield self.samples(last)
 
     def samples(self, last):

@@ -78,6 +78,14 @@ class Trials:
                 found.append(int(words[2], 16))
         return found
 
+    def blocks_from(self, step, address):
+        """Where the first blocks begin, before a step, of those that begin at an address or above, and their sizes."""
+        self.make_room()
+        self.session.accepted(f"goto {step}")
+        self.asked += 1
+        rows = [row.split() for row in self.session.accepted(f"look blocks 0x{address:x}")]
+        return [(int(row[1], 16), int(row[2])) for row in rows if row[0] == "block"]
+
     def open_again(self):
         self.session.end()
         self.open()

@@ -6,10 +6,10 @@ from typing import Dict, FrozenSet, Iterator, List, NamedTuple, Optional, Tuple
 
 from replaycheck.sessions import MARKS
 
-EDITS = ("input", "patch", "patch16", *MARKS, "unmark", "option", "supp")
+EDITS = ("input", "bytes", "patch", "patch16", *MARKS, "unmark", "option", "supp")
 # The values of options that no line has changed.
 USUAL = {"redzone": "16", "queue": "20000000", "callers": "12", "show": "definite,possible"}
-PART = 4096  # bytes of an input that are compared at a time
+MOST_GIVEN = 2000  # bytes of the input that one line has
 HALF, BITS = 2, 16  # of half a word: bytes and bits
 LOW = (1 << BITS) - 1
 # The halves that patches have written at a multiple of 4, the one at the lower address first: None for one that none has written.
@@ -36,6 +36,8 @@ class Scenario(NamedTuple):
         name, *words = line.split(" ")
         if name == "input":
             return self._replace(input=input_after(self.input, words))
+        if name == "bytes":
+            return self._replace(input=bytes_after(self.input, *words))
         if name == "patch":
             at, word = map(number, words)
             return self._replace(words=words_after(self.words, at, [word & LOW, word >> BITS]))
@@ -120,12 +122,22 @@ def input_after(data: bytes, words: List[str]) -> bytes:
     return data[:at] + bytes([byte]) + data[at + 1:]
 
 
+def bytes_after(data: bytes, where: str, digits: str = "") -> bytes:
+    """Returns an input after a line that gives bytes of it, or all of them."""
+    given = bytes.fromhex(digits)
+    if where == "is":
+        return given
+    at = number(where)
+    return data[:at] + given + data[at + len(given):]
+
+
 def input_lines(data: bytes, other: bytes) -> Iterator[str]:
     """Yields lines that lead from an input to another one."""
     common = min(len(data), len(other))
     yield from ("input cut" for _ in range(common, len(data)))
-    for begin in range(0, common, PART):
-        end = min(begin + PART, common)
+    for begin in range(0, common, MOST_GIVEN):
+        end = min(begin + MOST_GIVEN, common)
         if data[begin:end] != other[begin:end]:
-            yield from (f"input {at} {other[at]}" for at in range(begin, end) if data[at] != other[at])
+            places = [at for at in range(begin, end) if data[at] != other[at]]
+            yield f"bytes {places[0]} {other[places[0]:places[-1] + 1].hex()}"
     yield from (f"input append {byte}" for byte in other[common:])
