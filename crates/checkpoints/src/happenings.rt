@@ -72,8 +72,8 @@ struct Counts {
 }
 
 impl Trail {
-    /// Returns the first `most` of what happens in the steps of the run from one on and below another. The trail is moved as [`Trail::at`]
-    /// the latter moves it. The steps are executed again, from a held machine on, up to the last of these, and count on no meter.
+    /// Returns the first `most` of what happens in the steps of the run from one on and below another. The trail is left as
+    /// [`Trail::at`] the second one leaves it. The steps are executed again from a held machine on, and count on no meter.
     pub fn happened(
         &mut self,
         alloc: Global,

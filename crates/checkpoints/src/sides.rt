@@ -1,5 +1,5 @@
 //! Which instructions a run has executed, and how it went on from each.
-ghost use Rattle.std.specs.Prelude.{◌≡◌, ◌+◌, ◌*◌, ◌<◌, ◌≤◌, ℕ, Bool, false, length, slice_index_or, IfOk, IfNone, IfSome, OnOk};
+ghost use Rattle.std.specs.Prelude.{◌≡◌, ◌+◌, ◌*◌, ◌<◌, ◌≤◌, ℕ, Bool, false, length, slice_index_or, IfOk, IfNone, IfSome, IsTrue, OnOk};
 ghost use Rattle.guest_elf.specs.Profiles.{unit};
 ghost use Rattle.guest_machine.specs.State.{State};
 ghost use Rattle.guest_machine.specs.Exec.{exec};
@@ -193,7 +193,22 @@ fn enter(table: &mut Vec<Sides>, first: u32, apart: u32, code: Option<Span>, pc:
     };
     if place < table.len() {
         let on = pc == code.start.wrapping_add(code.len);
-        table[place] = with_side(table[place], on);
+        let sides = table[place];
+        if !is_known(sides, on) {
+            table[place] = with_side(sides, on);
+        }
+    }
+}
+
+/// Whether a run has gone this way more than once, so that it is nothing new.
+#[inline(always)]
+fn is_known(sides: Sides, on: bool) -> bool
+    ensures { IsTrue result → with_side sides on ≡ sides }
+{
+    if on {
+        sides.on && sides.on_again
+    } else {
+        sides.away && sides.away_again
     }
 }
 
@@ -217,8 +232,14 @@ fn place_at(first: u32, apart: u32, addr: u32) -> Option<usize>
     ensures none { IfNone result ((i : ℕ) → first + apart * i ≡ addr → ⊥) }
 {
     let after = addr.checked_sub(first)?;
-    if after % apart == 0 {
-        Some((after / apart) as usize)
+    // Divisors that are known cost less.
+    let (place, rest) = if apart == 4 {
+        (after / 4, after % 4)
+    } else {
+        (after / 2, after % 2)
+    };
+    if rest == 0 {
+        Some(place as usize)
     } else {
         None
     }
