@@ -133,6 +133,8 @@ CASES = [
          ("0x40000010 8 from 0x00010918 0x000101e8 0x00010484\n"
           "0x40000040 8 from 0x000109a4 0x00010340 0x000103fc\n"
           "0x40000070 8 from 0x00010918 0x00010260 0x00010520\n3 blocks\n", "word at 0x7fffffc8 points 0 bytes inside")),
+    Case("where it is, and in which calls", ["monitor goto 600", "monitor backtrace", "monitor backtrace 1"],
+         ("#0  0x00010488 in parse\n#1  0x00010670 in main\n#2  0x00010148 in _start\n", "too many arguments: backtrace")),
     Case("a register points at a block", ["break *0x101ec", "continue", "monitor who_points_at 0x4000000f 2"],
          ("register a0 points 1 bytes",)),
     Case("nobody points there", ["monitor block_list", "monitor who_points_at 0x50000000 16"], ("0 blocks", "nothing points there")),

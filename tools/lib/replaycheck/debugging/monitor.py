@@ -54,7 +54,8 @@ class Monitor:
             "errors": self.report, "leak_check": self.report, "get_vbits": self.get_vbits,
             "check_memory": self.check_memory, "who_points_at": self.who_points_at, "block_list": self.block_list,
             "backtrace": self.backtrace, "stop_at_errors": self.stop_at_errors, "origin": self.origin,
-            "make_memory": self.make_memory, "worked": self.worked, "skip": self.skip, "flip": self.flip, "changes": self.changes, "unmark": self.unmark,
+            "make_memory": self.make_memory, "worked": self.worked, "skip": self.skip, "flip": self.flip,
+            "changes": self.changes, "unmark": self.unmark,
             **{it: self.edit for it in EDITS}}
 
     def answer(self, line):
