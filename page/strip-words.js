@@ -1,9 +1,12 @@
 // What the strip says: of a cell or a mark that one points at, of how a run was read, and of where two runs part.
 import { MOST_FRAMES } from './calls.js';
 import { grouped, many } from './numbers.js';
+import { marksBetween } from './strip-places.js';
 
-export const KINDS = { error: 'errors', input: 'reads of input', output: 'writes of output', alloc: 'blocks allocated', free: 'freed',
-  resize: 'resized', heap: 'calls of the heap' };
+// Kinds of marks: what one is called, and what several are.
+export const KINDS = { error: ['error', 'errors'], input: ['read of input', 'reads of input'], output: ['write', 'writes'],
+  alloc: ['block allocated', 'blocks allocated'], free: ['block freed', 'blocks freed'], resize: ['block resized', 'blocks resized'],
+  heap: ['call of the heap', 'calls of the heap'] };
 const MOST_NAME = 120;  // letters of a name that are said
 
 // Some steps, from the first to the last.
@@ -14,7 +17,18 @@ const shortened = (name) => (name.length > MOST_NAME ? `${name.slice(0, MOST_NAM
 export function placeTold(place) {
   const { mark, cell, more } = place;
   if (place.row < 0) return mark ? `${markTold(mark)}${more ? `; ${more} more here: zoom in` : ''}` : '';
-  return cell ? `${cellTold(place, cell)}${more ? `; ${more} more here: zoom in` : ''}` : '';
+  if (!cell) return '';
+  return [cellTold(place, cell), marksTold(place.run, cell), more ? `${more} more here: zoom in` : ''].filter(Boolean).join('; ');
+}
+
+// What happens in a call: how many marks of each kind.
+function marksTold(run, { begin, end }) {
+  const counts = new Map();
+  for (const all of [run.errors, run.marks]) {
+    for (const { what } of marksBetween(all, begin, end)) counts.set(what, (counts.get(what) ?? 0) + 1);
+  }
+  const told = Object.entries(KINDS).filter(([kind]) => counts.has(kind)).map(([kind, [one, more]]) => many(counts.get(kind), one, more));
+  return told.length ? `in it: ${told.join(', ')}` : '';
 }
 
 function markTold({ step, what, count, text }) {

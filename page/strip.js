@@ -3,7 +3,7 @@
 import { Names } from './calls.js';
 import { $, element, say } from './dom.js';
 import { partingOf } from './events.js';
-import { grouped } from './numbers.js';
+import { many } from './numbers.js';
 import { Session } from './sessions.js';
 import { LANE, ROW, StripDrawing, heightOf, topOf } from './strip-drawing.js';
 import { Hands } from './strip-hands.js';
@@ -135,7 +135,7 @@ export class Strip {
     const counts = new Map();
     for (const { what } of marks) counts.set(what, (counts.get(what) ?? 0) + 1);
     const rows = Object.entries(KINDS).filter(([kind]) => counts.has(kind))
-      .map(([kind, name]) => [kind, `${name} (${grouped(counts.get(kind))})`]);
+      .map(([kind, [one, more]]) => [kind, many(counts.get(kind), one, more)]);
     const key = rows.join();
     if (key === this.keyShown) return;
     this.keyShown = key;

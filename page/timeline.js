@@ -38,7 +38,7 @@ class Part {
 export class Timeline {
   // `look` promises replies to lines at a step of a scenario; `changed` is called whenever more is known. A run has so many steps.
   constructor({ look, scenario, last, names, changed }) {
-    Object.assign(this, { scenario, last, names, changed, isWanted: true, isRead: false, fault: null });
+    Object.assign(this, { scenario, last, names, changed, isWanted: true, isRead: false, isDone: false, fault: null });
     Object.assign(this, { first: null, ground: null, every: 0, samples: new Map(), part: null, full: null });
     Object.assign(this, { errors: [], hasAllErrors: false });
     this.reading = new Reading((step, lines) => look(scenario, step, lines), () => this.isWanted);
@@ -57,6 +57,7 @@ export class Timeline {
       this.isRead = true;
       this.changed();
       await this.kinds(this.marks);
+      this.isDone = true;
     });
   }
 
