@@ -25,6 +25,7 @@ export class Hands {
   down(event) {
     if (event.button !== 0) return;
     if (!this.fingers.size) this.isDrag = false;
+    this.canvas.setPointerCapture(event.pointerId);  // so that it is known where the pointer is lifted
     this.fingers.set(event.pointerId, { ...this.place(event), begun: this.place(event) });
     if (this.fingers.size > 1) this.isDrag = true;
   }
@@ -37,7 +38,6 @@ export class Hands {
     }
     const isFar = Math.hypot(now.x - was.begun.x, now.y - was.begun.y) > SLACK;
     if (!this.isDrag && !isFar) return;
-    if (!this.isDrag) this.canvas.setPointerCapture(event.pointerId);
     this.isDrag = true;
     const other = [...this.fingers].find(([id]) => id !== event.pointerId)?.[1];
     if (other) this.pinch(was, now, other);

@@ -39,7 +39,7 @@ export class Strip {
   clear() {
     clearTimeout(this.timer);
     for (const it of [this.plain, this.edited, this.next]) it?.leave();
-    Object.assign(this, { plain: null, edited: null, next: null, here: null, parting: null, opened: null, top: 0, rows: LEAST_ROWS });
+    Object.assign(this, { plain: null, edited: null, next: null, here: null, parting: undefined, opened: null, top: 0, rows: LEAST_ROWS });
     say('strip-told', HINT);
     say('strip-how', '');
   }
@@ -102,29 +102,46 @@ export class Strip {
     this.changed();
   }
 
-  // Draws what is known now, once before the next picture of the screen.
-  changed() { this.drawn ??= requestAnimationFrame(() => this.renew()); }
+  // What is shown has changed.
+  changed() {
+    this.parting = undefined;
+    this.draw();
+  }
+
+  // Draws what is known, once before the next picture of the screen.
+  draw() { this.drawn ??= requestAnimationFrame(() => this.renew()); }
 
   renew() {
     this.drawn = null;
-    const { plain, edited, runs } = this, last = Math.max(1, ...runs.map((it) => it.last));
-    if (last !== this.view.last && runs.length) this.view.resize(last);
-    const isBoth = runs.length > 1, isExact = isBoth && partingOf(plain, edited);
-    this.parting = isBoth ? { step: isExact ?? partingOfSamples(plain, edited), isExact: isExact !== null } : null;
-    const isStale = Boolean(this.scenario?.lines.length) && edited?.scenario !== this.scenario;
-    $('strip-frame').classList.toggle('stale', isStale);
-    const told = [plain, edited].filter(Boolean).map((it) => howTold(it, this.view, this.explain));
-    const names = isBoth && told[0] !== told[1] ? ['unedited: ', 'edited: '] : ['', ''];
-    const each = isBoth && told[0] === told[1] ? [told[0]] : told.map((it, i) => names[i] + it);
-    say('strip-how', [...each, isBoth ? partingTold(plain, edited, this.parting) : '', this.rowsTold()].filter(Boolean).join('; '));
-    this.showKey();
+    const { runs } = this, last = Math.max(1, ...runs.map((it) => it.last));
+    if (runs.length && last !== this.view.last) this.view.resize(last);
+    if (this.parting === undefined) {
+      this.part();
+      this.showKey();
+    }
+    $('strip-frame').classList.toggle('stale', Boolean(this.scenario?.lines.length) && this.edited?.scenario !== this.scenario);
+    say('strip-how', this.told);
     this.drawNow();
     if (document.activeElement === this.canvas) this.tell(this.here);
   }
 
+  // Finds where two runs part.
+  part() {
+    const [one, other] = this.runs, exact = other ? partingOf(one, other) : null;
+    this.parting = other ? { step: exact ?? partingOfSamples(one, other), isExact: exact !== null } : null;
+  }
+
+  // How much of the runs is known, and where they part.
+  get told() {
+    const { plain, edited, runs } = this, each = [plain, edited].filter(Boolean).map((it) => howTold(it, this.view, this.explain));
+    const [one, other] = each, both = one === other ? [one] : [`unedited: ${one}`, `edited: ${other}`];
+    const parting = runs.length > 1 ? partingTold(...runs, this.parting) : '';
+    return [...(edited ? both : each), this.next ? 'reading the edited run' : '', parting, this.rowsTold()].filter(Boolean).join('; ');
+  }
+
   rowsTold() {
-    const deepest = this.deepest;
-    return deepest < this.rows ? '' : `depths ${this.top} to ${this.top + this.rows - 1} of 0 to ${deepest}`;
+    const { deepest } = this, first = Math.round(this.top);
+    return deepest < this.rows ? '' : `depths ${first} to ${first + this.rows - 1} of 0 to ${deepest}`;
   }
 
   get deepest() { return Math.max(0, ...this.runs.map((it) => it.deepest)); }
@@ -152,8 +169,6 @@ export class Strip {
 
   // ---- drawing
 
-  draw() { this.changed(); }
-
   drawNow() {
     const { runs, view, drawing, canvas } = this, count = Math.max(1, runs.length);
     const isRead = [this.plain, this.edited, this.next].every((it) => !it || it.isRead || it.fault);
@@ -165,7 +180,7 @@ export class Strip {
     drawing.begin({ wide: canvas.clientWidth, tall, view, rows: this.rows, top: Math.round(this.top), isDark: DARK.matches });
     runs.forEach((it, i) => drawing.run(i, it, count > 1 ? ['unedited', 'edited'][i] : ''));
     drawing.axis();
-    if (this.parting?.step != null) drawing.line(this.parting.step, 'open', [5, 3]);
+    if (this.parting && this.parting.step !== null) drawing.line(this.parting.step, 'open', [5, 3]);
     if (runs.length) drawing.line(Math.min(this.step, view.last), 'pick', []);
     if (document.activeElement === canvas && this.here) this.ring();
   }
