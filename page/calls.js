@@ -2,7 +2,7 @@
 import { hexWord } from './numbers.js';
 
 export const MOST_FRAMES = 256;  // calls that haven't returned, of which the program knows the newest
-const UNKNOWN = '???';
+const UNKNOWN = '???', NOWHERE = -1;
 const MOST_BACK = 8;  // functions before an address that are asked whether they have it: they may overlap
 
 // The names of functions by addresses within them.
@@ -47,7 +47,7 @@ export function firstAfter(things, value, key = (it) => it) {
 export class Calls {
   // `stack` has the addresses of `look stack` at the first step; `isSampled` says that what is between two stacks isn't known.
   constructor(from, stack, names, isSampled = false) {
-    Object.assign(this, { from, until: from, names, isSampled, rows: [], depth: -1, stack: [] });
+    Object.assign(this, { from, until: from, names, isSampled, rows: [], depth: -1, stack: [], hasForgotten: false });
     this.restart(from, stack);
   }
 
@@ -72,9 +72,17 @@ export class Calls {
     this.until = step + 1;
     if (depth === undefined) return false;
     const wasFull = this.depth >= MOST_FRAMES;
+    this.hasForgotten ||= wasFull;
     this.leave(what === 'call' ? depth - 1 : depth, step + 1);
     if (what === 'call') this.enter(step + 1, to, true);
+    else if (this.hasForgotten && depth === 0) this.forget(step + 1);
     return wasFull && this.depth < MOST_FRAMES;
+  }
+
+  // Once the newest calls have returned that the program knew, it doesn't see returns of the others: nobody knows in which it is.
+  forget(step) {
+    this.leave(-1, step);
+    this.enter(step, NOWHERE, false);
   }
 
   // Goes on with the stack of a step, newest first. What is as it was goes on: a call is the same one if all older ones were at the

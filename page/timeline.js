@@ -5,12 +5,12 @@ import { Reading, Unwanted } from './events.js';
 import { HEAP_NAMES } from './facts.js';
 import { hexWord, many } from './numbers.js';
 
-const MOST_EVENTS = 1 << 16;  // of a run that is read whole
+const MOST_EVENTS = 1 << 18;  // of a run that is read whole
 const TRIED = 8;  // a run is given up for one that is too long for that by this part of its events
 const MOST_SAMPLES = 1024, BATCH = 32;  // stacks that are asked for, and those by one question
-const MOST_ERRORS = 64, MOST_HEAP = 256;  // errors, and calls of the heap whose kind is asked for
+const MOST_ERRORS = 64, MOST_HEAP = 4096;  // errors, and calls of the heap whose kind is asked for
 const MOST_ASKED = 64;  // stacks that are asked for where the depth was as large as it can be
-const LARGEST_PART = 1 << 18, MOST_IN_PART = 1 << 14;  // steps and events of a stretch that is read whole
+const LARGEST_PART = 1 << 18, MOST_IN_PART = 1 << 16;  // steps and events of a stretch that is read whole
 const NARROWER = 0.7;  // of a stretch that had too much in it, what is tried again
 const FIRST_HEAP_CALL = 2001;  // the number of the environment's `malloc`; those of the others follow
 const [A0, A1, A7] = [10, 11, 17];

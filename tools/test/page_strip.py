@@ -28,7 +28,8 @@ AT = """((step) => { const { calls } = replaycheck.strip.runs.at(-1).stretchAt(s
 TOLD = "document.getElementById('strip-told').textContent"
 VIEW = "[replaycheck.strip.view.from, replaycheck.strip.view.to]"
 FUNCTION, SYMBOLS, EVERYWHERE = 2, 2, "0 0xffffffff"
-HEAP = {"malloc": "alloc", "calloc": "alloc", "realloc": "resize", "free": "free"}
+HEAP = {"malloc": "alloc", "free": "free", "calloc": "alloc", "realloc": "resize"}
+FIRST_HEAP_CALL, NUMBER = 2001, 17  # of the environment, and the register that has the number of a call
 
 
 class Native:
@@ -87,8 +88,9 @@ class Native:
         for line in events:
             step, what, *rest = line.split(" ")
             if what == "heap":
-                pc = int(self.look(f"goto {step}", "look stack")[-1].split(" ")[1], 16)
-                marks.append([int(step), HEAP[self.name(pc)], None])
+                rows = self.look(f"goto {step}", "look registers")[1:]
+                name, number = self.name(int(rows[0].split(" ")[2], 16)), int(rows[NUMBER].split(" ")[1], 16)
+                marks.append([int(step), HEAP.get(name) or list(HEAP.values())[number - FIRST_HEAP_CALL], None])
             elif what in ("input", "output"):
                 marks.append([int(step), what, int(rest[0])])
         return sorted(marks)
@@ -125,8 +127,8 @@ def given(bench, page, program, runs=1):
 
 # An example, lines, and whether their events differ from those of the unedited run.
 RUNS = [
-    ("station", [], None), ("station", ["input 1 8"], True), ("station", ["input 37 5"], True), ("station", ["input 40 0x30"], False),
-    ("boot", [], None), ("boot", ["input 1 9"], True), ("kinds", ["input 0 1"], True), ("kinds", ["input 0 3"], True),
+    ("station", [], None), ("station", ["input 1 8"], True), ("station", ["input 37 5"], True), ("station", ["input 2 0x48"], False),
+    ("boot", [], None), ("boot", ["input 5 7"], True), ("kinds", ["input 0 1"], True), ("kinds", ["input 0 3"], False), ("kinds", ["input 0 5"], True),
     ("use-after-free", [], None), ("use-after-free", ["skip 3"], True),
 ]
 
@@ -178,11 +180,11 @@ def edits_of_the_strip(bench):
         page.until(DONE.format(1), 60)
         same("sessions that the page shares with the strip", page.run("replaycheck.strip.sessions.filter((it) => "
              "[replaycheck.opened.session, replaycheck.opened.unedited, replaycheck.opened.search].includes(it)).length"), 0)
-        page.run("(() => { globalThis.closed = replaycheck.strip.sessions; replaycheck.opening.choose('packet'); })()")
+        page.run("(() => { globalThis.left = replaycheck.strip.sessions; replaycheck.opening.choose('packet'); })()")
         page.until("document.title.startsWith('packet.elf')", 20)
         bench.settle(page)
         page.until(DONE.format(1), 60)
-        same("sessions of another program", page.run("closed.map((it) => it.isClosed && it.helper === null)"), [True, True])
+        same("sessions of another program", page.run("left.map((it) => it.isClosed && it.helper === null)"), [True, True])
 
 
 # ---- long runs
@@ -263,7 +265,12 @@ def damaged_stacks(bench):
             steps = [at for at, row in zip(range(0, last, 7), asked) if row.count(" ") < 257]
             want, got = native.stacks(steps), [page.run(f"{AT}({it})") for it in steps]
             got = got if functions else [["???"] * len(it) for it in got]
-            same(f"{label}: stacks", got, want)
+            is_deep = any(row.count(" ") > 256 for row in asked)
+            unknown = [at for at, it in zip(steps, got) if it == ["???"]] if functions else []
+            expect(bool(unknown) == is_deep and unknown == steps[len(steps) - len(unknown):], f"{label}: unknown at {unknown}")
+            newest = -1 if text == ASTRAY else None  # a cell has the name of the function that was called
+            same(f"{label}: stacks", [it[:newest] for at, it in zip(steps, got) if at not in unknown],
+                 [it[:newest] for at, it in zip(steps, want) if at not in unknown])
             same(f"{label}: what is told", page.text("notice"), "")
         same("complaints", page.complaints(), [])
 
@@ -292,8 +299,8 @@ def hostile_names(bench):
 KEYS = [
     ("", "_exit: steps 867 to 881"), ("Home", "main: steps 39 to 865, depth 1, in _start"),
     ("ArrowDown", "read: steps 53 to 55, depth 2, in main"), ("ArrowRight", "parse: steps 60 to 676, depth 2, in main"),
-    ("ArrowLeft", "read: steps 53 to 55"), ("End", "release: steps 836 to 860"), ("ArrowUp", "main: steps 39 to 865"),
-    ("ArrowUp", "_start: steps 0 to 881"), ("ArrowUp", "step 54 reads 41 bytes of the input"), ("End", "step 855: free of 0x40000010"),
+    ("ArrowLeft", "read: steps 53 to 55"), ("End", "drop: steps 836 to 860"), ("ArrowUp", "main: steps 39 to 865"),
+    ("ArrowUp", "_start: steps 0 to 881"), ("ArrowUp", "step 828 writes 14 bytes"), ("End", "step 855: free of 0x40000010"),
     ("ArrowLeft", "step 852: free of 0x40000040"), ("Home", "step 54 reads 41 bytes"), ("ArrowRight", "step 116: malloc of 8 bytes"),
     ("ArrowDown", "_start: steps 0 to 881"),
 ]
