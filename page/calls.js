@@ -99,6 +99,9 @@ export class Calls {
     Object.assign(this, { stack: sites, until: step + 1 });
   }
 
+  // Goes on with calls of which only the number is known.
+  lose(step) { this.restart(step, Array(this.depth + 1).fill(NOWHERE)); }
+
   // Notes that all is known below a step, at which the run ends or the stretch does.
   knownTo(step) { this.until = step; }
 

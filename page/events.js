@@ -63,20 +63,21 @@ export class Reading {
   // The registers at some steps, as the program writes them.
   registers(steps) { return this.atEach(steps, 'look registers'); }
 
-  // Reads the errors that a report counts, so many at most: `take` gets the step of each and what it is. Whether these are all.
+  // Reads the errors that a report counts, of so many steps with errors at most: `take` gets the step of each and what it is. Gives the
+  // step up to which these are all.
   async errors(to, most, take) {
     let before = new Map();
     for (let from = 0, count = 0; from < to; count++) {
       const step = parseStep((await this.ask(from, `look next error ${ANYWHERE} ${to}`))[0]);
-      if (step === null) return true;
-      if (count === most) return false;
+      if (step === null) return to;
+      if (count === most) return step;
       const [text] = await this.ask(step + 1, 'report'), groups = parseReport(text).groups.filter((it) => it.isError);
       const fresh = groups.filter(({ key, count: times }) => before.get(key) !== times);  // none where it is suppressed
       for (const it of fresh) take(step, it.text);
       before = new Map(groups.map((it) => [it.key, it.count]));
       from = step + 1;
     }
-    return true;
+    return to;
   }
 }
 

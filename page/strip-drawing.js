@@ -51,15 +51,14 @@ function tickOf(wide, pixels) {
 }
 
 export class StripDrawing {
-  // `names` has the names of functions, `view` the steps that are shown; `top` is the first row.
   constructor(canvas) {
-    Object.assign(this, { canvas, on: canvas.getContext('2d'), fitted: new Map(), letter: 0 });
+    Object.assign(this, { canvas, on: canvas.getContext('2d'), fitted: new Map(), tones: new Map(), letter: 0 });
   }
 
-  // Begins a drawing of this size in pixels.
+  // Begins a drawing of this size in pixels, of the steps of a view and of some rows from the one at the top on.
   begin({ wide, tall, view, rows, top, isDark }) {
     const scale = devicePixelRatio || 1, { canvas, on } = this, style = getComputedStyle(canvas);
-    if (scale !== this.scale) this.fitted.clear();
+    if (isDark !== this.isDark) this.tones.clear();
     Object.assign(this, { wide, tall, view, rows, top, isDark, scale });
     this.colours = Object.fromEntries(Object.entries(COLOURS).map(([name, it]) => [name, style.getPropertyValue(it)]));
     const size = [wide * scale, tall * scale].map(Math.round);
@@ -100,7 +99,8 @@ export class StripDrawing {
 
   cell(name, x, y, wide) {
     const { on } = this, gap = wide > 3 ? 1 : 0;
-    on.fillStyle = toneOf(name, this.isDark);
+    if (!this.tones.has(name)) this.tones.set(name, toneOf(name, this.isDark));
+    on.fillStyle = this.tones.get(name);
     on.fillRect(x, y, wide - gap, ROW - 1);
     if (wide < LEAST_TEXT) return;
     on.fillStyle = this.colours.ink;

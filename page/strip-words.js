@@ -39,14 +39,18 @@ function markTold({ step, what, count, text }) {
 }
 
 function cellTold({ run, row, stretch }, cell) {
-  const { calls } = stretch, { names } = calls, isWhole = !calls.isSampled;
-  const caller = row > 0 ? calls.cellAt(row - 1, cell.begin) : null;
-  const isBefore = cell.begin === calls.from && cell.begin > 0, isEnd = cell.isOpen && stretch.to === run.last;
-  const steps = isWhole ? stepsTold(cell.begin, cell.end - 1) : `at each sampled step of ${stepsTold(cell.begin, cell.end - 1)}`;
-  const told = [`${shortened(names.of(cell))}: ${steps}`, isWhole && isBefore ? 'called before' : '',
-    isWhole && isEnd ? 'doesn’t return' : isWhole && cell.isOpen ? 'returns later' : '',
-    row > 0 ? `depth ${row}` : '', caller ? `in ${shortened(names.of(caller))}` : ''];
-  return told.filter(Boolean).join(', ');
+  const { calls } = stretch, { names } = calls, caller = row > 0 ? calls.cellAt(row - 1, cell.begin) : null;
+  const steps = stepsTold(cell.begin, cell.end - 1);
+  const when = calls.isSampled ? `at each sampled step of ${steps}` : steps + endsTold(run, calls, cell);
+  const where = [row > 0 ? `depth ${row}` : '', caller ? `in ${shortened(names.of(caller))}` : ''];
+  return [`${shortened(names.of(cell))}: ${when}`, ...where].filter(Boolean).join(', ');
+}
+
+// What is known of a call before the steps that are known of it, and after them.
+function endsTold(run, calls, cell) {
+  const before = cell.begin === calls.from && cell.begin > 0 ? ', called before' : '';
+  if (!cell.isOpen) return before;
+  return `${before}${calls.until < run.last ? ' and on' : cell.row > 0 ? ', hasn’t returned at the end' : ''}`;
 }
 
 // How much of a run is known.
@@ -59,7 +63,7 @@ export function howTold(run, { from, to }, explain) {
   else if (!every) notes.push(many(run.events.length, 'event'));
   if (every && run.isKnown(from, to)) notes.push(`all calls of ${stepsTold(part.from, part.to - 1)}`);
   else if (every) notes.push(`sampled at every ${grouped(every)}th step: what is between shows when you zoom in`);
-  if (run.isRead && !run.hasAllErrors) notes.push(`the first ${run.errors.length} errors are marked`);
+  if (run.isRead && run.errorsTo < last) notes.push(`errors are marked up to step ${grouped(run.errorsTo)}`);
   if (run.deepest >= MOST_FRAMES) notes.push(`of more than ${MOST_FRAMES} calls only the newest are known`);
   return notes.join(', ');
 }

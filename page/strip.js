@@ -15,7 +15,9 @@ import { View } from './view.js';
 const MOST_ROWS = [12, 7], LEAST_ROWS = 3;  // rows of one run, and of each of two
 const ZOOM = 2, PAGE = 0.8;  // what a key or a button zooms by; the part of the steps in view by which a key pages
 const LOOK_AFTER = 150;  // milliseconds after which a stretch that comes into view is read
-const HINT = 'Point, or press arrow keys; a click or Enter goes to the step. Ctrl and the wheel zoom, a drag moves.';
+const HINT = matchMedia('(hover: none)').matches ? 'Tap a call or a mark: it is named, and its step is shown. Two fingers zoom, one moves.'
+  : 'Point, or press arrow keys; a click or Enter goes to the step. Ctrl and the wheel zoom, a drag moves.';
+const NAMES = ['unedited', 'edited'];
 const DARK = matchMedia('(prefers-color-scheme: dark)');
 
 export class Strip {
@@ -89,7 +91,7 @@ export class Strip {
   begin(index, scenario, last) {
     const { names, sessions } = this, look = (...it) => sessions[index].replies(...it);
     const made = new Timeline({ look, scenario, last, names, changed: () => this.more(made) });
-    made.read();
+    made.read().then(() => this.moved());
     return made;
   }
 
@@ -134,7 +136,7 @@ export class Strip {
   // How much of the runs is known, and where they part.
   get told() {
     const { plain, edited, runs } = this, each = [plain, edited].filter(Boolean).map((it) => howTold(it, this.view, this.explain));
-    const [one, other] = each, both = one === other ? [one] : [`unedited: ${one}`, `edited: ${other}`];
+    const [one, other] = each, both = one === other ? [one] : each.map((it, i) => `${NAMES[i]}: ${it}`);
     const parting = runs.length > 1 ? partingTold(...runs, this.parting) : '';
     return [...(edited ? both : each), this.next ? 'reading the edited run' : '', parting, this.rowsTold()].filter(Boolean).join('; ');
   }
@@ -178,7 +180,7 @@ export class Strip {
     const tall = heightOf(count, this.rows);
     if (canvas.style.height !== `${tall}px`) canvas.style.height = `${tall}px`;
     drawing.begin({ wide: canvas.clientWidth, tall, view, rows: this.rows, top: Math.round(this.top), isDark: DARK.matches });
-    runs.forEach((it, i) => drawing.run(i, it, count > 1 ? ['unedited', 'edited'][i] : ''));
+    runs.forEach((it, i) => drawing.run(i, it, count > 1 ? NAMES[i] : ''));
     drawing.axis();
     if (this.parting && this.parting.step !== null) drawing.line(this.parting.step, 'open', [5, 3]);
     if (runs.length) drawing.line(Math.min(this.step, view.last), 'pick', []);
@@ -252,7 +254,11 @@ export class Strip {
     this.draw();
   }
 
-  tell(place) { say('strip-told', (place && placeTold(place)) || HINT); }
+  // Says what is at a place, and of which run where there are two.
+  tell(place) {
+    const told = place && placeTold(place);
+    say('strip-told', told ? (this.runs.length > 1 ? `${NAMES[place.index]}: ` : '') + told : HINT);
+  }
 
   // ---- keys
 

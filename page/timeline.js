@@ -40,7 +40,7 @@ export class Timeline {
   constructor({ look, scenario, last, names, changed }) {
     Object.assign(this, { scenario, last, names, changed, isWanted: true, isRead: false, isDone: false, fault: null });
     Object.assign(this, { first: null, ground: null, every: 0, samples: new Map(), part: null, full: null });
-    Object.assign(this, { errors: [], hasAllErrors: false });
+    Object.assign(this, { errors: [], errorsTo: 0 });
     this.reading = new Reading((step, lines) => look(scenario, step, lines), () => this.isWanted);
   }
 
@@ -53,7 +53,7 @@ export class Timeline {
       if (!await this.whole()) await this.sampled();
       this.changed();
       const error = (step, text) => this.errors.push({ step, what: 'error', text });
-      this.hasAllErrors = await this.reading.errors(this.last, MOST_ERRORS, error);
+      this.errorsTo = await this.reading.errors(this.last, MOST_ERRORS, error);
       this.isRead = true;
       this.changed();
       await this.kinds(this.marks);
@@ -91,7 +91,9 @@ export class Timeline {
     let asked = 0;
     return this.reading.events(part.from, part.to, async (events, known) => {
       for (const it of events) {
-        if (part.add(it) && asked++ < MOST_ASKED) part.calls.restart(it.step + 1, await this.reading.stackAt(it.step + 1));
+        if (!part.add(it)) continue;
+        if (asked++ < MOST_ASKED) part.calls.restart(it.step + 1, await this.reading.stackAt(it.step + 1));
+        else part.calls.lose(it.step + 1);
       }
       part.calls.knownTo(known);
       this.changed();

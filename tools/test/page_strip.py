@@ -28,6 +28,7 @@ AT = """((step) => { const { calls } = replaycheck.strip.runs.at(-1).stretchAt(s
 TOLD = "document.getElementById('strip-told').textContent"
 VIEW = "[replaycheck.strip.view.from, replaycheck.strip.view.to]"
 FUNCTION, SYMBOLS, EVERYWHERE = 2, 2, "0 0xffffffff"
+MOST_FRAMES = 256  # calls that haven't returned, of which the program knows the newest
 HEAP = {"malloc": "alloc", "free": "free", "calloc": "alloc", "realloc": "resize"}
 FIRST_HEAP_CALL, NUMBER = 2001, 17  # of the environment, and the register that has the number of a call
 
@@ -128,8 +129,8 @@ def given(bench, page, program, runs=1):
 # An example, lines, and whether their events differ from those of the unedited run.
 RUNS = [
     ("station", [], None), ("station", ["input 1 8"], True), ("station", ["input 37 5"], True), ("station", ["input 2 0x48"], False),
-    ("boot", [], None), ("boot", ["input 5 7"], True), ("kinds", ["input 0 1"], True), ("kinds", ["input 0 3"], False), ("kinds", ["input 0 5"], True),
-    ("use-after-free", [], None), ("use-after-free", ["skip 3"], True),
+    ("boot", [], None), ("boot", ["input 5 7"], True), ("boot for rv32imc", ["input 5 7"], True), ("kinds", ["input 0 1"], True),
+    ("kinds", ["input 0 3"], False), ("kinds", ["input 0 5"], True), ("use-after-free", [], None), ("use-after-free", ["skip 3"], True),
 ]
 
 
@@ -174,6 +175,11 @@ def edits_of_the_strip(bench):
         same("the run before the last edit, and the unedited one", page.run("[before.isWanted, plain === replaycheck.strip.plain]"),
              [False, True])
         same("the edit of the strip", page.run("replaycheck.strip.edited.scenario.lines"), ["input 1 9"])
+        for lines, errors in ((["input 1 8"], 1), (["input 1 8", "supp add Addr1 fun:set_name"], 0)):
+            edited(bench, page, lines, 2)
+            same(f"errors of {lines}", page.run("replaycheck.strip.edited.errors.length"), errors)
+        page.click_on("#undo")
+        page.click_on("#undo")
         page.click_on("#undo")
         page.click_on("#undo")
         bench.settle(page)
@@ -234,43 +240,51 @@ def long_runs(bench):
 
 # ---- stacks that are no stacks
 
-# A function that is deeper than what is known, and returns from there; one that writes over the place to which it returns; one whose
-# caller is left out; a jump to where nothing is.
+# Functions that are deeper than what is known, and return from there; one that calls and returns there again and again; returns that
+# leave a caller out, and that go elsewhere.
 DEEP = """li s0, 300; jal ra, down; li a0, 0; li a7, 93; ecall
           down: addi sp, sp, -16; sw ra, 12(sp); addi s0, s0, -1; beq s0, zero, up; jal ra, other
           up: lw ra, 12(sp); addi sp, sp, 16; jalr zero, 0(ra)
           other: addi sp, sp, -16; sw ra, 12(sp); addi s0, s0, -1; beq s0, zero, over; jal ra, down
           over: lw ra, 12(sp); addi sp, sp, 16; jalr zero, 0(ra)"""
+BOUNCE = """li s0, 300; li s1, 200; jal ra, down; li a0, 0; li a7, 93; ecall
+            down: addi sp, sp, -16; sw ra, 12(sp); addi s0, s0, -1; beq s0, zero, turn; jal ra, down
+            back: lw ra, 12(sp); addi sp, sp, 16; jalr zero, 0(ra)
+            turn: jal ra, leaf; addi s1, s1, -1; bne s1, zero, turn; j back
+            leaf: jalr zero, 0(ra)"""
 LEAVES = "jal ra, first; end: j end; first: mv s0, ra; jal ra, second; second: mv ra, s0; jalr zero, 0(ra)"
 ASTRAY = "jal ra, first; nop; li a0, 0; li a7, 93; ecall; first: mv s0, ra; jal ra, second; second: addi ra, s0, 4; jalr zero, 0(ra)"
 NOWHERE = "jal ra, first; first: jal ra, second; second: lui ra, 0x50000; jalr zero, 0(ra)"
+# A program, its functions, and what part of the stacks is known at least.
 DAMAGED = [
-    ("deeper than what is known", DEEP, [("_start", 0, 20), ("down", 20, 32), ("other", 52, 32)]),
-    ("a return from two calls", LEAVES, [("_start", 0, 8), ("first", 8, 8), ("second", 16, 8)]),
-    ("a return to another place", ASTRAY, [("_start", 0, 20), ("first", 20, 8), ("second", 28, 8)]),
-    ("a return to nowhere", NOWHERE, [("_start", 0, 4), ("first", 4, 4), ("second", 8, 8)]),
-    ("no symbols", LEAVES, []),
+    ("deeper than what is known", DEEP, [("_start", 0, 20), ("down", 20, 32), ("other", 52, 32)], .8),
+    ("calls there", BOUNCE, [("_start", 0, 24), ("down", 24, 48), ("leaf", 72, 4)], .4),
+    ("a return from two calls", LEAVES, [("_start", 0, 8), ("first", 8, 8), ("second", 16, 8)], 1),
+    ("a return to another place", ASTRAY, [("_start", 0, 20), ("first", 20, 8), ("second", 28, 8)], 1),
+    ("a return to nowhere", NOWHERE, [("_start", 0, 4), ("first", 4, 4), ("second", 8, 8)], 1),
+    ("no symbols", LEAVES, [], 1),
 ]
 
 
 def damaged_stacks(bench):
-    """Where a stack is too deep to be known, or a program returns elsewhere, the strip has the functions of the program's stack."""
+    """If a stack is too deep to be known, or a program returns elsewhere, the strip has the functions of the program's stack, or says of
+    one that it isn't known."""
     with bench.page() as page, tempfile.TemporaryDirectory() as folder:
-        for label, text, functions in DAMAGED:
+        for label, text, functions, least in DAMAGED:
             path = pathlib.Path(folder, "program")
             path.write_bytes(elf(assemble(text), 0x4000, symbols=[(name, ENTRY + at, size) for name, at, size in functions]))
             given(bench, page, path.read_bytes())
-            native, last = Native(bench, [str(path)], []), min(6000, page.run("replaycheck.strip.plain.last"))
-            asked = native.look(*(line for at in range(0, last, 7) for line in (f"goto {at}", "look stack")))[1::2]
-            steps = [at for at, row in zip(range(0, last, 7), asked) if row.count(" ") < 257]
-            want, got = native.stacks(steps), [page.run(f"{AT}({it})") for it in steps]
-            got = got if functions else [["???"] * len(it) for it in got]
-            is_deep = any(row.count(" ") > 256 for row in asked)
-            unknown = [at for at, it in zip(steps, got) if it == ["???"]] if functions else []
-            expect(bool(unknown) == is_deep and unknown == steps[len(steps) - len(unknown):], f"{label}: unknown at {unknown}")
+            native, steps = Native(bench, [str(path)], []), range(0, min(6000, page.run("replaycheck.strip.plain.last")), 7)
             newest = -1 if text == ASTRAY else None  # a cell has the name of the function that was called
-            same(f"{label}: stacks", [it[:newest] for at, it in zip(steps, got) if at not in unknown],
-                 [it[:newest] for at, it in zip(steps, want) if at not in unknown])
+            wants = native.stacks(steps)
+            known, first_deep = 0, next((it for it, want in zip(steps, wants) if len(want) > MOST_FRAMES), None)
+            for at, want in zip(steps, wants):
+                got = page.run(f"{AT}({at})") if functions else ["???" for _ in page.run(f"{AT}({at})")]
+                may_miss = first_deep is not None and at > first_deep
+                seen = [other if it == "???" and may_miss else it for it, other in zip(got, want)] if len(got) == len(want) else got
+                expect(seen[:newest] == want[:newest] or len(want) > MOST_FRAMES, f"{label}: step {at}: {got} and not {want}")
+                known += got[:newest] == want[:newest]
+            expect(known >= least * len(steps), f"{label}: {known} of {len(steps)} stacks are known")
             same(f"{label}: what is told", page.text("notice"), "")
         same("complaints", page.complaints(), [])
 
