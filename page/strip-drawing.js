@@ -13,7 +13,7 @@ const FONT = 'ui-monospace, "DejaVu Sans Mono", monospace';
 const COLOURS = { ink: '--ink', quiet: '--quiet', soft: '--soft', line: '--line', pick: '--pick', part: '--part', open: '--open',
   input: '--read', output: '--good', heap: '--heap', alloc: '--heap', free: '--heap', resize: '--heap', error: '--error' };
 // Which marks are over which, and in which of two lanes: what the heap does is in the lower one.
-const LANES = { heap: 1, free: 1, resize: 1, alloc: 1, output: 0, input: 0, error: 0 };
+export const LANES = { heap: 1, free: 1, resize: 1, alloc: 1, output: 0, input: 0, error: 0 };
 
 // Where the runs of a strip are, in pixels from the top, if each has so many rows.
 export const topOf = (index, rows) => index * (LANE + rows * ROW + BETWEEN);

@@ -1,5 +1,6 @@
 // Places of the strip: a cell of a row, or a mark above the rows. Each is of a run and at a step, and leads to those beside it.
 import { firstAfter } from './calls.js';
+import { LANES } from './strip-drawing.js';
 
 const REACH = 6;  // pixels beside a mark at which it is met
 
@@ -15,11 +16,12 @@ export class Place {
     Object.assign(this, { run, index, row, step, mark, more: 0 });
   }
 
-  // What is at the steps of a pixel: the mark that is nearest, if that isn't far, or a cell, first one that begins there.
-  static at(run, index, row, [begin, end]) {
+  // What is at the steps of a pixel: a cell, first one that begins there, or the nearest mark, if it isn't far, first one of this lane.
+  static at(run, index, row, lane, [begin, end]) {
     const first = Math.max(0, Math.floor(begin)), last = Math.max(first + 1, Math.ceil(end)) - 1, far = REACH * (end - begin);
     if (row >= 0) return Place.inRow(run, index, row, [first, last]);
-    const near = marksOf(run, begin - far, end + far), mark = nearest(near, first);
+    const all = marksOf(run, begin - far, end + far), inLane = all.filter((it) => LANES[it.what] === lane);
+    const near = inLane.length ? inLane : all, mark = nearest(near, first);
     return Object.assign(new Place(run, index, row, mark?.step ?? first, mark), { more: Math.max(0, near.length - 1) });
   }
 

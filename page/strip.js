@@ -237,10 +237,10 @@ export class Strip {
   // What is at a place of the canvas: a run, its row, and the steps of a pixel.
   placeAt(x, y) {
     const { runs, rows } = this, index = Math.max(0, runs.findIndex((_, i) => i + 1 === runs.length || y < topOf(i + 1, rows)));
-    const below = y - topOf(index, rows) - LANE;
+    const below = y - topOf(index, rows) - LANE, lane = below < -LANE / 2 ? 0 : 1;
     const row = below < 0 ? -1 : Math.min(rows - 1, Math.floor(below / ROW)) + Math.round(this.top);
     const steps = [x, x + 1].map((it) => this.stepAt(it));
-    return runs[index] ? Place.at(runs[index], index, row, steps) : null;
+    return runs[index] ? Place.at(runs[index], index, row, lane, steps) : null;
   }
 
   point(x, y) { this.tell(this.placeAt(x, y)); }
