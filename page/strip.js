@@ -15,7 +15,7 @@ import { View } from './view.js';
 const MOST_ROWS = [12, 7], LEAST_ROWS = 3;  // rows of one run, and of each of two
 const ZOOM = 2, PAGE = 0.8;  // what a key or a button zooms by; the part of the steps in view by which a key pages
 const LOOK_AFTER = 150;  // milliseconds after which a stretch that comes into view is read
-const HINT = matchMedia('(hover: none)').matches ? 'Tap a call or a mark: it is named, and its step is shown. Two fingers zoom, one moves.'
+const HINT = matchMedia('(pointer: coarse)').matches ? 'Tap a call or a mark: it is named, and its step is shown. Two fingers zoom, one moves.'
   : 'Point, or press arrow keys; a click or Enter goes to the step. Ctrl and the wheel zoom, a drag moves.';
 const NAMES = ['unedited', 'edited'];
 const DARK = matchMedia('(prefers-color-scheme: dark)');
@@ -67,23 +67,23 @@ export class Strip {
   // Shows a scenario's run of so many steps, beside the unedited one if it has edits.
   show(scenario, last) {
     this.plain ??= this.begin(0, this.opened.plain, this.opened.last);
-    const wanted = this.next ?? this.edited;
-    if (scenario.lines.length && wanted?.scenario !== scenario) {
-      this.next?.leave();
-      this.next = this.begin(1, scenario, last);
-    }
     this.follow(scenario);
+    const isThere = [this.next, this.edited].some((it) => it?.scenario === scenario);
+    if (scenario.lines.length && !isThere) this.next = this.begin(1, scenario, last);
   }
 
-  // Another scenario is wanted: until its run is read, what is shown looks stale. Without edits only the unedited run is left.
+  // Another scenario is wanted: other runs are read no further, and what is shown looks stale until its run is read. Without edits only
+  // the unedited run is left.
   follow(scenario) {
-    if (!scenario.lines.length) {
-      for (const it of [this.next, this.edited]) it?.leave();
-      Object.assign(this, { next: null, edited: null });
-    } else if (this.next && this.next.scenario !== scenario) {
-      this.next.leave();
+    const { next, edited } = this, isEdited = scenario.lines.length > 0, isWanted = (it) => isEdited && it.scenario === scenario;
+    if (next && !isWanted(next)) {
+      next.leave();
       this.next = null;
     }
+    if (edited && !isWanted(edited)) edited.leave();
+    else if (edited?.isRead) edited.isWanted = true;
+    else if (edited && !edited.isWanted) this.next ??= this.begin(1, scenario, edited.last);
+    if (!isEdited) this.edited = null;
     this.scenario = scenario;
     this.changed();
   }
@@ -121,11 +121,13 @@ export class Strip {
       this.part();
       this.showKey();
     }
-    $('strip-frame').classList.toggle('stale', Boolean(this.scenario?.lines.length) && this.edited?.scenario !== this.scenario);
+    $('strip-frame').classList.toggle('stale', this.isStale);
     say('strip-how', this.told);
     this.drawNow();
     if (document.activeElement === this.canvas) this.tell(this.here);
   }
+
+  get isStale() { return Boolean(this.scenario?.lines.length) && this.edited?.scenario !== this.scenario; }
 
   // Finds where two runs part.
   part() {
@@ -179,7 +181,7 @@ export class Strip {
     this.top = Math.max(0, Math.min(this.deepest + 1 - this.rows, this.top));
     const tall = heightOf(count, this.rows);
     if (canvas.style.height !== `${tall}px`) canvas.style.height = `${tall}px`;
-    drawing.begin({ wide: canvas.clientWidth, tall, view, rows: this.rows, top: Math.round(this.top), isDark: DARK.matches });
+    drawing.begin({ wide: canvas.getBoundingClientRect().width, tall, view, rows: this.rows, top: Math.round(this.top), isDark: DARK.matches });
     runs.forEach((it, i) => drawing.run(i, it, count > 1 ? NAMES[i] : ''));
     drawing.axis();
     if (this.parting && this.parting.step !== null) drawing.line(this.parting.step, 'open', [5, 3]);
@@ -212,7 +214,7 @@ export class Strip {
 
   // Moves what is shown by pixels.
   pan(x, y = 0) {
-    this.view.pan(x / this.canvas.clientWidth * this.view.wide);
+    this.view.pan(x / this.drawing.wide * this.view.wide);
     this.top = Math.max(0, Math.min(this.deepest + 1 - this.rows, this.top + y / ROW));
     this.moved();
   }
@@ -239,7 +241,7 @@ export class Strip {
     const { runs, rows } = this, index = Math.max(0, runs.findIndex((_, i) => i + 1 === runs.length || y < topOf(i + 1, rows)));
     const below = y - topOf(index, rows) - LANE, lane = below < -LANE / 2 ? 0 : 1;
     const row = below < 0 ? -1 : Math.min(rows - 1, Math.floor(below / ROW)) + Math.round(this.top);
-    const steps = [x, x + 1].map((it) => this.stepAt(it));
+    const pixel = Math.floor(x), steps = [pixel, pixel + 1].map((it) => this.stepAt(it));
     return runs[index] ? Place.at(runs[index], index, row, lane, steps) : null;
   }
 
@@ -284,7 +286,7 @@ export class Strip {
   }
 
   get keys() {
-    const page = (by) => () => this.pan(by * PAGE * this.canvas.clientWidth), to = (how) => () => this.move(how);
+    const page = (by) => () => this.pan(by * PAGE * this.drawing.wide), to = (how) => () => this.move(how);
     const choose = () => this.choose(this.here.chosen), into = () => this.zoom(1 / ZOOM), out = () => this.zoom(ZOOM);
     return { ArrowLeft: to('before'), ArrowRight: to('after'), ArrowUp: to('above'), ArrowDown: to('below'),
       Home: to('first'), End: to('last'), PageUp: page(-1), PageDown: page(1), Enter: choose, ' ': choose,

@@ -210,6 +210,15 @@ def turning(steps):
     return elf(words, 0x4000, symbols=[("_start", ENTRY, 32), ("first", ENTRY + 32, 28), ("second", ENTRY + 60, 8)])
 
 
+# Has another edit while the run of one is read.
+READ_WHILE_READING = """(async () => { const { strip } = replaycheck, begin = strip.begin;
+  globalThis.made = [];
+  strip.begin = function (...it) { made.push(begin.apply(this, it)); return made.at(-1); };
+  replaycheck.use('mark 1 0x20000 4 undefined');
+  while (!made[0]?.isBegun) await new Promise((done) => { setTimeout(done, 1); });
+  replaycheck.use('mark 2 0x20000 4 undefined'); })()"""
+
+
 def long_runs(bench):
     """A long run is sampled, which the page says: its stacks at these steps are the program's. A stretch of it is read whole."""
     content = turning(900000)
@@ -231,9 +240,11 @@ def long_runs(bench):
         page.until(f"document.getElementById('strip-how').textContent.includes('all calls of steps {begin:,} to {end - 1:,}')", 5)
         chosen = random.Random(4).sample(range(begin, end), 100)
         same("stacks of a stretch", [page.run(f"{AT}({it})") for it in chosen], native.stacks(chosen))
-        page.run("(() => { globalThis.was = replaycheck.strip.plain; replaycheck.use('goto 500\\nmark 1 0x20000 4 undefined'); })()")
-        bench.settle(page)
+        page.run(READ_WHILE_READING)
         page.until(DONE.format(2), 60)
+        same("runs that are read, and whether the first was read to its end", page.run("[made.length, made[0].isWanted, made[0].isRead]"),
+             [2, False, False])
+        same("the run that is shown", page.run("replaycheck.strip.edited.scenario.lines"), ["mark 2 0x00020000 4 undefined"])
         expect("at the sampled steps their stacks are the same" in page.text("strip-how"), f"it says {page.text('strip-how')!r}")
         same("complaints", page.complaints(), [])
 
@@ -353,12 +364,18 @@ def strip_by_keys(bench):
         same("the run below it", page.run("replaycheck.strip.here.index"), 1)
 
 
+def placed(page):
+    """Where the strip is, once nothing above it moves any more: its left edge, its top and its width."""
+    page.until(DONE.format(1), 60)
+    page.until("replaycheck.steps.landmarks.some((it) => it.kinds.includes('end'))", 20)
+    page.run("document.getElementById('strip').scrollIntoView({ block: 'center' })")
+    return page.run("(({ left, top, width }) => [left, top, width])(replaycheck.strip.canvas.getBoundingClientRect())")
+
+
 def strip_by_pointer(bench):
     """A click goes to the step of what is there, a drag moves, Ctrl and the wheel zoom at the pointer; two fingers zoom, one moves."""
     with bench.open() as page:
-        page.until(DONE.format(1), 60)
-        page.run("document.getElementById('strip').scrollIntoView({ block: 'center' })")
-        left, top, wide = page.run("(({ left, top, width }) => [left, top, width])(replaycheck.strip.canvas.getBoundingClientRect())")
+        left, top, wide = placed(page)
         place = page.run("import('./strip-drawing.js').then(({ LANE, ROW }) => [LANE, ROW])")
 
         def at(step, row):
@@ -398,6 +415,12 @@ def strip_by_pointer(bench):
         touch(page, "touchEnd")
         expect(page.run(VIEW)[0] > after[0], f"a finger leads from {after} to {page.run(VIEW)}")
         same("complaints", page.complaints(), [])
+    with bench.open(width=360) as page:
+        for step in (60, 836):
+            left, top, wide = placed(page)
+            page.click(left + wide * (step + .5) / 882, top + place[0] + 2.5 * place[1])
+            bench.settle(page)
+            same("the step of a click where a cell begins in a pixel of three steps", page.run("replaycheck.step"), step)
 
 
 # ---- what it looks like
