@@ -43,3 +43,21 @@ export function hatch(on, colour, isDark, scale) {
   it.stroke();
   return on.createPattern(tile, 'repeat');
 }
+
+// Calm tones for functions, each for light and dark pages. A function has the same one wherever it is shown.
+export const TONES = [
+  ['#ee9ea4', '#623236'], ['#cbe1af', '#546935'], ['#97b8f5', '#2e4268'], ['#ffc5c9', '#884d52'], ['#8bc997', '#244d2e'],
+  ['#bfd8ff', '#48608e'], ['#eda28c', '#623426'], ['#b7e5bf', '#3d6d48'], ['#b1aff2', '#3f3c66'], ['#ffc8b7', '#874f3f'],
+  ['#72cbb1', '#084e3e'], ['#d2d2ff', '#5c5a8c'], ['#e5a978', '#5d3917'], ['#a8e7d3', '#246f5c'], ['#c8a7e7', '#4c385f'],
+  ['#fbcdaa', '#82552e'], ['#65cbca', '#004e4e'], ['#e4ccfc', '#6d5484'], ['#d5b26f', '#553e0e'], ['#a0e7e6', '#0f6e6e'],
+  ['#daa1d4', '#573454'], ['#eed4a3', '#775c25'], ['#6ac6df', '#004b5b'], ['#f3c7ee', '#7a4f76'], ['#c0bb72', '#484411'],
+  ['#a3e3f6', '#196b7e'], ['#e79ebd', '#5e3246'], ['#dedba5', '#676328'], ['#7dc0ee', '#194764'], ['#fdc5dc', '#834d65'],
+  ['#a6c381', '#38491e'], ['#aedeff', '#316689'],
+];
+const MIX = 0x01000193, SEED = 0x811c9dc5;  // of the hash FNV-1a
+
+export function toneOf(name, isDark) {
+  let hash = SEED;
+  for (let i = 0; i < name.length; i++) hash = Math.imul(hash ^ name.charCodeAt(i), MIX);
+  return TONES[(hash >>> 0) % TONES.length][isDark ? 1 : 0];
+}

@@ -20,6 +20,7 @@ import { NoEdit } from './scenario.js';
 import { meetsRegion, notLoaded, sentence } from './sentences.js';
 import { Refused } from './sessions.js';
 import { Search, Steps } from './steps.js';
+import { Strip } from './strip.js';
 import { SweepPart } from './sweep-part.js';
 import { Verdict } from './verdict.js';
 
@@ -29,7 +30,7 @@ const WORKERS = Number(words.get('workers')) || navigator.hardwareConcurrency ||
 const SHORT_RUN = 100000;  // steps of a run whose edits are all made as it is opened
 const QUIET = 300;  // milliseconds after an edit, before landmarks are searched and the link is changed
 const LONG = 600;  // milliseconds after which work is told, with a button that stops it
-const PARTS = ['step', 'input', 'report', 'edits', 'code', 'machine'];
+const PARTS = ['step', 'strip', 'input', 'report', 'edits', 'code', 'machine'];
 // Parts that are one stop of the Tab key each, and what a row is in them.
 const ROVING = [['examples', 'nav'], ['landmarks', 'div'], ['legend-rows'], ['chips', 'li'], ['report', 'li, p'], ['code-rows'],
   ['registers', 'li'], ['bits', '#bits'], ['memory-rows']];
@@ -57,6 +58,7 @@ class App {
     this.verdict = new Verdict({ lineOf: (address) => this.opened.lineOf(address), isa: () => this.opened.isa, go: (step) => this.go(step),
       showPicture: () => { $('picture').scrollIntoView({ block: 'center' }); $('picture').focus({ preventScroll: true }); } });
     this.steps = new Steps({ go: (step) => this.go(step), most: LAST_STEP });
+    this.strip = new Strip({ choose: (step) => this.steps.choose(step), explain: (fault) => sentence(fault, LIMIT) });
     this.edits = new Edits({ edit, clear: () => this.edit(this.opened.plain), use: (text) => this.use(text), refuse,
       tell: (text) => this.notice(text, 'good'),
       link: async () => new URL(await this.opening.link(this.lines), location.href).href,
@@ -165,6 +167,7 @@ class App {
     clearTimeout(this.timer);
     this.opened?.close();
     this.sweeps.close();
+    this.strip.close();
     Object.assign(this, { opened: null, scenario: null, history: null, shown: null, marked: null });
     this.notice('');
     this.showTravel();
@@ -212,6 +215,7 @@ class App {
     const title = [files.program, files.input].filter(Boolean).map((it) => it.name).join(' with ');
     document.title = `${title} — replaycheck`;
     this.steps.open(last, follow);
+    this.strip.open(opened);
     this.code.open(opened, scenario);
     this.machine.open();
     if (lines.length) this.use(lines.join('\n'));
@@ -260,6 +264,7 @@ class App {
     this.bytes.show(scenario, this.shown?.report.read ?? 0);
     this.code.show(scenario);
     this.edits.show(scenario, Math.min(this.step, this.steps.last));
+    this.strip.follow(scenario);
     this.sweeps.showOf();
     this.showCounts();
     this.showTravel();
@@ -302,6 +307,7 @@ class App {
   go(step) {
     this.step = step;
     this.steps.show(step);
+    this.strip.at(this.steps.shown);
     this.refresh();
   }
 
@@ -399,6 +405,7 @@ class App {
     this.reports.show(report, unedited, where);
     this.verdict.show(report, unedited, { fresh: this.reports.groups.filter((it) => it.how === 'new'), time, isLast });
     this.verdict.certify('');
+    this.strip.at(this.steps.shown);
     this.showScenario();
     this.lookAtNew();
     this.showMachine();
@@ -455,6 +462,7 @@ class App {
       const end = await opened.endOf(scenario);
       if (isStale()) return;
       this.steps.showEnd(end);
+      this.strip.show(scenario, end.last);
       await new Search(opened.search, scenario, isStale, (it) => this.steps.add(it)).run(end.last);
     } catch (fault) {
       if (!isStale()) this.notice(sentence(fault, LIMIT));
