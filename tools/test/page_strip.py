@@ -356,6 +356,10 @@ def strip_by_keys(bench):
         expect(page.run(f"((it) => it[1] - it[0])({VIEW})") > end - begin, "- doesn't show more")
         page.press("0")
         same("what 0 shows", page.run(VIEW), [0, 882])
+        page.press("ArrowDown", "ArrowDown", "End", "+", "+", "+", "Home")
+        begin, end, step = page.run("(({ view, here }) => [view.from, view.to, here.step])(replaycheck.strip)")
+        expect(step == 39 and begin <= step <= end, f"the focus is at step {step}, and steps {begin} to {end} are shown")
+        page.press("0")
         for button, wide in (("strip-in", 441), ("strip-in", 220.5), ("strip-out", 441), ("strip-all", 882)):
             page.click_on(f"#{button}")
             same(f"the steps that {button} shows", page.run(f"((it) => it[1] - it[0])({VIEW})"), wide)
@@ -365,9 +369,6 @@ def strip_by_keys(bench):
         same("the uppermost run", page.run("[replaycheck.strip.here.index, replaycheck.strip.here.row]"), [0, -1])
         page.press(*["ArrowDown"] * 9)
         same("the run below it", page.run("replaycheck.strip.here.index"), 1)
-        page.press("+", "+", "+", "Home")
-        begin, end, step = page.run("(({ view, here }) => [view.from, view.to, here.step])(replaycheck.strip)")
-        expect(begin <= step <= end, f"the focus is at step {step}, and steps {begin} to {end} are shown")
     with bench.page() as page:
         given(bench, page, elf(assemble(DEEP), 0x4000))
         page.focus("strip")
