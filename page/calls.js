@@ -66,8 +66,8 @@ export class Calls {
     row.entries.push(isEntry);
   }
 
-  // Takes what happens in a step. Whether the stack has to be asked for after it: once the program knew only the newest calls, none
-  // of them may be the one that it was taken for.
+  // Takes what happens in a step. Whether the stack has to be asked for after it: once the program knew only the newest calls, each may
+  // be another one than it was taken for.
   add({ step, what, to, depth }) {
     this.until = step + 1;
     if (depth === undefined) return false;
@@ -83,6 +83,12 @@ export class Calls {
   forget(step) {
     this.leave(-1, step);
     this.enter(step, NOWHERE, false);
+  }
+
+  // Notes that calls may have been forgotten before the first step.
+  doubt() {
+    this.hasForgotten = true;
+    if (this.depth === 0) this.forget(this.from);
   }
 
   // Goes on with the stack of a step, newest first. What is as it was goes on: a call is the same one if all older ones were at the

@@ -9,7 +9,7 @@ const ANYWHERE = '0 0xffffffff';  // addresses, for a search for errors of all i
 export class Unwanted extends Error {}
 
 // The events of a reply to `look calls`, and where the next look has to begin, null at the end.
-export function parseCalls(text) {
+function parseCalls(text) {
   const lines = text.trimEnd().split('\n'), last = lines.pop();
   const events = lines.map((line) => {
     const [, step, what, to, number] = EVENT.exec(line);
@@ -19,10 +19,10 @@ export function parseCalls(text) {
   return { events, next: last === 'end' ? null : Number(last.split(' ')[1]) };
 }
 
-export const parseStack = (text) => text.trimEnd().split(' ').slice(1).map(Number);
+const parseStack = (text) => text.trimEnd().split(' ').slice(1).map(Number);
 
 // The step that a search has found, null where it has found none.
-export const parseStep = (text) => (text.startsWith('step ') ? Number(text.slice(5)) : null);
+const parseStep = (text) => (text.startsWith('step ') ? Number(text.slice(5)) : null);
 
 export class Reading {
   // `ask` promises the replies to lines at a step; `isWanted` says whether somebody still wants what is read.

@@ -1,6 +1,6 @@
 // What is read of a run in time, and how far: its calls as cells, marks of what happens, errors. A short run is read whole; of a long one
 // the stack at some steps, and whole the stretch that is looked at.
-import { Calls } from './calls.js';
+import { Calls, MOST_FRAMES } from './calls.js';
 import { Reading, Unwanted } from './events.js';
 import { HEAP_NAMES } from './facts.js';
 import { hexWord, many } from './numbers.js';
@@ -140,6 +140,7 @@ export class Timeline {
     if (begin >= end) return;
     await this.trying(async () => {
       const part = new Part(begin, end, await this.reading.stackAt(begin), this.names);
+      if (this.ground.deepest >= MOST_FRAMES) part.calls.doubt();
       const isAll = await this.fill(part, MOST_IN_PART, () => asked === this.asked);
       if (asked !== this.asked) return;
       if (isAll) this.part = part;

@@ -251,17 +251,20 @@ def long_runs(bench):
 
 # ---- stacks that are no stacks
 
-# Functions that are deeper than what is known, and return from there; one that calls and returns there again and again; returns that
-# leave a caller out, and that go elsewhere.
+# Functions that are deeper than what is known, and return from there; some that call and return there again and again, and then go deeper;
+# returns that leave a caller out, and that go elsewhere.
 DEEP = """li s0, 300; jal ra, down; li a0, 0; li a7, 93; ecall
           down: addi sp, sp, -16; sw ra, 12(sp); addi s0, s0, -1; beq s0, zero, up; jal ra, other
           up: lw ra, 12(sp); addi sp, sp, 16; jalr zero, 0(ra)
           other: addi sp, sp, -16; sw ra, 12(sp); addi s0, s0, -1; beq s0, zero, over; jal ra, down
           over: lw ra, 12(sp); addi sp, sp, 16; jalr zero, 0(ra)"""
-BOUNCE = """li s0, 300; li s1, 200; jal ra, down; li a0, 0; li a7, 93; ecall
-            down: addi sp, sp, -16; sw ra, 12(sp); addi s0, s0, -1; beq s0, zero, turn; jal ra, down
-            back: lw ra, 12(sp); addi sp, sp, 16; jalr zero, 0(ra)
-            turn: jal ra, leaf; addi s1, s1, -1; bne s1, zero, turn; j back
+BOUNCE = """li s0, 300; li s1, 200; li s2, 42; jal ra, down; li a0, 0; li a7, 93; ecall
+            down: addi sp, sp, -16; sw ra, 12(sp); addi s0, s0, -1; beq s0, zero, up; jal ra, other
+            up: lw ra, 12(sp); addi sp, sp, 16; jalr zero, 0(ra)
+            other: addi sp, sp, -16; sw ra, 12(sp); addi s0, s0, -1; beq s0, zero, turn; jal ra, down
+            over: lw ra, 12(sp); addi sp, sp, 16; jalr zero, 0(ra)
+            turn: beq s1, zero, over
+            again: jal ra, leaf; addi s1, s1, -1; bne s1, zero, again; mv s0, s2; jal ra, down; j over
             leaf: jalr zero, 0(ra)"""
 LEAVES = "jal ra, first; end: j end; first: mv s0, ra; jal ra, second; second: mv ra, s0; jalr zero, 0(ra)"
 ASTRAY = "jal ra, first; nop; li a0, 0; li a7, 93; ecall; first: mv s0, ra; jal ra, second; second: addi ra, s0, 4; jalr zero, 0(ra)"
@@ -269,7 +272,7 @@ NOWHERE = "jal ra, first; first: jal ra, second; second: lui ra, 0x50000; jalr z
 # A program, its functions, and what part of the stacks is known at least.
 DAMAGED = [
     ("deeper than what is known", DEEP, [("_start", 0, 20), ("down", 20, 32), ("other", 52, 32)], .8),
-    ("calls there", BOUNCE, [("_start", 0, 24), ("down", 24, 48), ("leaf", 72, 4)], .4),
+    ("calls there", BOUNCE, [("_start", 0, 28), ("down", 28, 32), ("other", 60, 60), ("leaf", 120, 4)], .3),
     ("a return from two calls", LEAVES, [("_start", 0, 8), ("first", 8, 8), ("second", 16, 8)], 1),
     ("a return to another place", ASTRAY, [("_start", 0, 20), ("first", 20, 8), ("second", 28, 8)], 1),
     ("a return to nowhere", NOWHERE, [("_start", 0, 4), ("first", 4, 4), ("second", 8, 8)], 1),
@@ -353,6 +356,10 @@ def strip_by_keys(bench):
         expect(page.run(f"((it) => it[1] - it[0])({VIEW})") > end - begin, "- doesn't show more")
         page.press("0")
         same("what 0 shows", page.run(VIEW), [0, 882])
+        page.press("ArrowDown", "ArrowDown", "End", "+", "+", "+", "Home")
+        begin, end, step = page.run("(({ view, here }) => [view.from, view.to, here.step])(replaycheck.strip)")
+        expect(step == 39 and begin <= step <= end, f"the focus is at step {step}, and steps {begin} to {end} are shown")
+        page.press("0")
         for button, wide in (("strip-in", 441), ("strip-in", 220.5), ("strip-out", 441), ("strip-all", 882)):
             page.click_on(f"#{button}")
             same(f"the steps that {button} shows", page.run(f"((it) => it[1] - it[0])({VIEW})"), wide)
@@ -362,6 +369,13 @@ def strip_by_keys(bench):
         same("the uppermost run", page.run("[replaycheck.strip.here.index, replaycheck.strip.here.row]"), [0, -1])
         page.press(*["ArrowDown"] * 9)
         same("the run below it", page.run("replaycheck.strip.here.index"), 1)
+    with bench.page() as page:
+        given(bench, page, elf(assemble(DEEP), 0x4000))
+        page.focus("strip")
+        page.press("Home", *["ArrowDown"] * 20)
+        row, top, rows = page.run("(({ here, top, rows }) => [here.row, top, rows])(replaycheck.strip)")
+        expect(row >= 20 and top <= row < top + rows, f"row {row} has the focus, and {rows} from {top} on are shown")
+        page.until(f"document.getElementById('strip-how').textContent.includes('depths {top} to {top + rows - 1} of 0 to 256')", 5)
 
 
 def placed(page):
@@ -421,6 +435,10 @@ def strip_by_pointer(bench):
             page.click(left + wide * (step + .5) / 882, top + place[0] + 2.5 * place[1])
             bench.settle(page)
             same("the step of a click where a cell begins in a pixel of three steps", page.run("replaycheck.step"), step)
+        left, top, wide = placed(page)
+        for below, told in ((place[0] / 4, "step 828 writes 14 bytes"), (place[0] * 3 / 4, "step 846: free of 0x40000070")):
+            page.point("mouseMoved", left + wide * 839 / 882, top + below)
+            expect(page.run(TOLD).startswith(told), f"{below} pixels below its top it says {page.run(TOLD)!r}")
 
 
 # ---- what it looks like
