@@ -1,0 +1,244 @@
+// Values as text, in gdb's words: by a variable's type and its bytes. A text is in parts, each of which says whether its bits are defined.
+import { AT, TAG, isBlock } from './dwarf.js';
+import { Reader } from './reader.js';
+import { hexWord } from './numbers.js';
+import { dimensionsOf, isPointer, isReference, plain, sizeOf, typeOf } from './types.js';
+
+export const OPTIMIZED_OUT = '<optimized out>';
+const MOST_ELEMENTS = 24, MOST_AGGREGATES = 4;  // elements that are shown: of numbers and letters, and of what has fields itself
+const MOST_FIELDS = 40, MOST_PARTS = 400, MOST_SCALAR = 16;
+const DEEPEST = 6;  // arrays in arrays
+const ENCODING = { address: 1, boolean: 2, float: 4, signed: 5, signedLetter: 6, unsignedLetter: 8, letter: 0x10 };
+const ESCAPES = new Map([[7, 'a'], [8, 'b'], [9, 't'], [10, 'n'], [11, 'v'], [12, 'f'], [13, 'r'], [0x5c, '\\']]);
+const PLUS_NUMBER = 0x23;  // the operation by which old files say where a member is
+const ANYWHERE = '{...}';
+
+const HOW = { lost: 'lost', inaccessible: 'inaccessible', undefined: 'undefined' };
+
+// A letter within quotes.
+function letterOf(code, quote) {
+  if (code === quote.charCodeAt(0)) return `\\${quote}`;
+  if (ESCAPES.has(code)) return `\\${ESCAPES.get(code)}`;
+  return code >= 32 && code < 127 ? String.fromCharCode(code) : `\\${code.toString(8).padStart(3, '0')}`;
+}
+
+// The number of bytes, the lowest first.
+const numberIn = (bytes) => bytes.reduceRight((sum, it) => sum * 256n + BigInt(it.value), 0n);
+
+// What is known of some bits of bytes, of which `mask` has those that count.
+function knownOf(bytes, mask = (1n << BigInt(8 * bytes.length)) - 1n) {
+  if (bytes.some((it) => it.isLost)) return { how: HOW.lost };
+  if (bytes.some((it) => it.undef === null)) return { how: HOW.inaccessible };
+  const bits = numberIn(bytes.map(({ undef }) => ({ value: undef }))) & mask;
+  return bits ? { how: HOW.undefined, bits } : { how: '' };
+}
+
+export class Values {
+  // `read` promises bytes of memory, and `nameAt` tells the function that has an address.
+  constructor({ read, nameAt }) {
+    Object.assign(this, { read, nameAt, parts: [] });
+  }
+
+  add(text, known = { how: '' }) {
+    const last = this.parts.at(-1);
+    if (last?.how === known.how && !last.bits && !known.bits) last.text += text;
+    else this.parts.push({ text, ...known });
+  }
+
+  get isFull() { return this.parts.length > MOST_PARTS; }
+
+  // Adds the value of a type that a content has at an offset. `depth` is the number of structures around it, and `nested` that of arrays.
+  async show(type, content, offset = 0, depth = 0, nested = 0) {
+    const it = plain(type);
+    if (!it) this.add('void');
+    else if (it.tag === TAG.array) await this.array(it, content, offset, depth, nested);
+    else if ([TAG.structure, TAG.classType, TAG.union].includes(it.tag)) await this.structure(it, content, offset, depth);
+    else await this.scalar(it, content, offset);
+  }
+
+  // ---- one number
+
+  async scalar(type, content, offset) {
+    const size = sizeOf(type);
+    if (!size || size > MOST_SCALAR) {
+      this.add(ANYWHERE);
+      return;
+    }
+    const bytes = await content.bytes(offset, size), known = knownOf(bytes);
+    if (known.how === HOW.lost) this.add(OPTIMIZED_OUT, known);
+    else if (isPointer(type)) await this.pointer(type, numberIn(bytes), known);
+    else if (isReference(type)) await this.reference(type, numberIn(bytes), known);
+    else this.add(textOf(type, numberIn(bytes), size), known);
+  }
+
+  async pointer(type, value, known) {
+    const address = Number(value), target = plain(typeOf(type));
+    const isCode = target?.tag === TAG.functionType, name = isCode && this.nameAt(address);
+    this.add(`0x${value.toString(16)}${name ? ` <${name}>` : ''}`, known);
+    if (known.how || !address || !isLetter(target)) return;
+    const bytes = await this.textAt(address);
+    if (!bytes) return;
+    this.add(' ');
+    this.letters(bytes);
+  }
+
+  // The bytes of a text up to its zero, as far as they are shown; null where the first is inaccessible.
+  async textAt(address) {
+    const most = Math.min(MOST_ELEMENTS + 1, 2 ** 32 - address), { bytes, undefined: undefs } = await this.read(address, most);
+    const found = Array.from(bytes, (value, i) => ({ value, undef: undefs[i] })), end = found.findIndex((it) => it.undef === null);
+    if (end === 0) return null;
+    return end < 0 ? found : found.slice(0, end);
+  }
+
+  async reference(type, value, known) {
+    this.add(`@0x${value.toString(16)}`, known);
+    const target = typeOf(type), size = sizeOf(target), address = Number(value);
+    if (known.how || !size || isPointer(plain(target)) || ![TAG.base, TAG.enumeration].includes(plain(target)?.tag)) return;
+    this.add(': ');
+    await this.scalar(plain(target), { bytes: async (at, length) => this.bytesOf(address + at, length) }, 0);
+  }
+
+  async bytesOf(address, length) {
+    const { bytes, undefined: undefs } = await this.read(address >>> 0, length);
+    return Array.from(bytes, (value, i) => ({ value, undef: undefs[i] }));
+  }
+
+  // ---- many
+
+  // Adds letters in quotes, up to a zero that is defined.
+  letters(bytes) {
+    const zero = bytes.findIndex((it) => it.value === 0 && it.undef === 0), shown = zero < 0 ? bytes : bytes.slice(0, zero);
+    this.add('"');
+    for (const it of shown.slice(0, MOST_ELEMENTS)) this.add(letterOf(it.value, '"'), { how: knownOf([it]).how });
+    this.add(`"${shown.length > MOST_ELEMENTS ? '...' : ''}`);
+  }
+
+  async array(type, content, offset, depth, nested) {
+    const counts = dimensionsOf(type), element = typeOf(type), size = sizeOf(element);
+    if (!size || counts.includes(null) || !counts.length || nested + counts.length > DEEPEST) this.add(ANYWHERE);
+    else await this.dimension(counts, { element, size }, content, { offset, depth, nested });
+  }
+
+  async dimension([count, ...more], it, content, where) {
+    const { element, size } = it, { offset, depth, nested } = where, isInner = !more.length, target = plain(element);
+    if (isInner && isLetter(target)) {
+      this.letters(await content.bytes(offset, Math.min(count, MOST_ELEMENTS + 1)));
+      return;
+    }
+    const isWhole = isInner && target && [TAG.base, TAG.enumeration, TAG.pointer].includes(target.tag);
+    const shown = Math.min(count, isWhole ? MOST_ELEMENTS : MOST_AGGREGATES), step = more.reduce((product, n) => product * n, size);
+    this.add('{');
+    let i = 0;
+    for (; i < shown && !this.isFull; i++) {
+      if (i) this.add(', ');
+      const next = offset + step * i;
+      if (!isInner) await this.dimension(more, it, content, { offset: next, depth, nested: nested + 1 });
+      else if (isByte(target)) await this.byte(content, next);
+      else await this.show(element, content, next, depth, nested + 1);
+    }
+    this.add(i < count ? '...}' : '}');
+  }
+
+  // A byte that is no letter, in an array.
+  async byte(content, offset) {
+    const bytes = await content.bytes(offset, 1), known = knownOf(bytes);
+    this.add(known.how === HOW.lost ? OPTIMIZED_OUT : `0x${bytes[0].value.toString(16).padStart(2, '0')}`, known);
+  }
+
+  async structure(type, content, offset, depth) {
+    if (depth > 0) {
+      this.add(ANYWHERE);
+      return;
+    }
+    const all = type.children.filter((it) => isMember(it)), members = all.slice(0, MOST_FIELDS);
+    this.add('{');
+    for (const [i, member] of members.entries()) {
+      if (i) this.add(', ');
+      if (this.isFull) break;
+      const name = member.unit.name(member);
+      if (member.tag === TAG.inheritance) this.add(`<${typeOf(member)?.unit.name(typeOf(member)) ?? '?'}> = `);
+      else if (name) this.add(`${name} = `);
+      await this.member(member, content, offset, depth + 1);
+    }
+    this.add(all.length > members.length || this.isFull ? '...}' : '}');
+  }
+
+  async member(member, content, offset, depth) {
+    const at = placeOf(member), bits = member.unit.number(member, AT.bitSize), type = typeOf(member);
+    if (at === null) this.add(ANYWHERE);
+    else if (bits === undefined) await this.show(type, content, offset + at, depth);
+    else await this.bitField(member, bits, content, 8 * (offset + at), type);
+  }
+
+  async bitField(member, count, content, from, type) {
+    const it = plain(type), { unit } = member, size = sizeOf(it);
+    const inOrder = unit.number(member, AT.dataBitOffset), fromTop = unit.number(member, AT.bitOffset);
+    if (!it || !size || size > 8 || count < 1 || count > 64) {
+      this.add(ANYWHERE);
+      return;
+    }
+    const begin = inOrder ?? (fromTop === undefined ? from : from + 8 * (unit.number(member, AT.byteSize) ?? size) - fromTop - count);
+    const first = Math.floor(begin / 8), shift = BigInt(begin % 8), mask = (1n << BigInt(count)) - 1n;
+    const bytes = await content.bytes(first, Math.ceil((begin % 8 + count) / 8)), known = knownOf(bytes, mask << shift);
+    const value = numberIn(bytes) >> shift & mask;
+    if (known.how === HOW.lost) this.add(OPTIMIZED_OUT, known);
+    else this.add(textOf(it, value, size, count), known.bits ? { ...known, bits: known.bits >> shift } : known);
+  }
+}
+
+// Whether an entry is a part of each value of a structure.
+function isMember(entry) {
+  const isOne = entry.tag === TAG.member || entry.tag === TAG.inheritance;
+  return isOne && !entry.fields.has(AT.external) && !entry.fields.has(AT.declaration);
+}
+
+// The offset of a member in its structure, null where it isn't a number.
+function placeOf(member) {
+  const field = member.fields.get(AT.memberLocation);
+  if (!field) return 0;
+  if (!isBlock(field)) return member.unit.number(member, AT.memberLocation);
+  const reader = new Reader(member.unit.elf, field.value.at);
+  return reader.byte() === PLUS_NUMBER ? reader.unsigned() : null;
+}
+
+const encodingOf = (type) => (type?.tag === TAG.base ? type.unit.number(type, AT.encoding) : undefined);
+const isLetter = (type) => type?.tag === TAG.base && type.unit.name(type) === 'char' && type.unit.number(type, AT.byteSize) === 1;
+const isByte = (type) => [ENCODING.signedLetter, ENCODING.unsignedLetter].includes(encodingOf(type)) && sizeOf(type) === 1;
+
+// The text of a number of a type, of which `count` bits are there.
+function textOf(type, value, size, count = 8 * size) {
+  if (type.tag === TAG.enumeration) return enumText(type, value, count);
+  const encoding = encodingOf(type), isSigned = encoding === ENCODING.signed || encoding === ENCODING.signedLetter;
+  const number = isSigned ? BigInt.asIntN(count, value) : value;
+  if (encoding === ENCODING.boolean) return value > 1n ? String(value) : value ? 'true' : 'false';
+  if (encoding === ENCODING.float) return floatText(value, size);
+  if (encoding === ENCODING.letter && size > 1) return `${number} ${size === 2 ? 'u' : 'U'}'${wideLetter(Number(value))}'`;
+  if (size === 1 && (isByte(type) || encoding === ENCODING.letter)) return `${number} '${letterOf(Number(value), "'")}'`;
+  if (type.tag !== TAG.base) return `0x${value.toString(16)}`;
+  return encoding === ENCODING.address ? hexWord(Number(value)) : String(number);
+}
+
+const wideLetter = (code) => (code < 127 ? letterOf(code, "'") : code <= 0x10ffff ? String.fromCodePoint(code) : '?');
+
+// The name of an enumerator, or names of such as are single bits, or the number.
+function enumText(type, value, count) {
+  const all = type.children.filter((it) => it.tag === TAG.enumerator)
+    .map((it) => ({ name: it.unit.name(it) ?? '?', is: BigInt(Math.trunc(it.unit.number(it, AT.constValue) ?? 0)) }));
+  const isSigned = all.some(({ is }) => is < 0n), number = isSigned ? BigInt.asIntN(count, value) : value;
+  const exact = all.find(({ is }) => is === number);
+  if (exact) return exact.name;
+  if (!value || !all.length || isSigned || all.some(({ is }) => is & is - 1n)) return String(number);
+  const parts = all.filter(({ is }) => is & value), rest = parts.reduce((left, { is }) => left & ~is, value);
+  return `(${[...parts.map(({ name }) => name), ...(rest ? [`unknown: 0x${rest.toString(16)}`] : [])].join(' | ')})`;
+}
+
+function floatText(value, size) {
+  const view = new DataView(new ArrayBuffer(8));
+  if (size === 4) view.setUint32(0, Number(value));
+  else if (size === 8) view.setBigUint64(0, value);
+  else return `0x${value.toString(16)}`;
+  const number = size === 4 ? view.getFloat32(0) : view.getFloat64(0);
+  if (Number.isNaN(number)) return 'nan';
+  if (!Number.isFinite(number)) return number < 0 ? '-inf' : 'inf';
+  return String(size === 4 ? Number(number.toPrecision(9)) : number);
+}
