@@ -47,11 +47,17 @@ export class Unit {
     return this;
   }
 
-  // Reads all entries, once.
+  // Reads all entries, once; of a damaged unit those until there.
   read() {
-    if (this.entries) return this;
+    if (!this.entries) {
+      this.entries = new Map();
+      attempt(() => this.readEntries());
+    }
+    return this;
+  }
+
+  readEntries() {
     const reader = new Reader(this.elf, this.first), within = [];
-    this.entries = new Map();
     do {
       const entry = this.entry(reader, within.at(-1) ?? null);
       if (!entry) within.pop();
@@ -62,7 +68,6 @@ export class Unit {
         if (entry.hasChildren) within.push(entry);
       }
     } while (within.length && reader.at < this.end);
-    return this;
   }
 
   // The next entry, null at the end of those of one parent.

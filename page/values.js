@@ -121,8 +121,9 @@ export class Values {
 
   async dimension([count, ...more], it, content, where) {
     const { element, size } = it, { offset, depth, nested } = where, isInner = !more.length, target = plain(element);
-    if (isInner && isLetter(target)) {
-      this.letters(await content.bytes(offset, Math.min(count, MOST_ELEMENTS + 1)));
+    const letters = isInner && isLetter(target) ? await content.bytes(offset, Math.min(count, MOST_ELEMENTS + 1)) : [];
+    if (letters.length && !letters.some((it) => it.isLost)) {
+      this.letters(letters);
       return;
     }
     const isWhole = isInner && target && [TAG.base, TAG.enumeration, TAG.pointer].includes(target.tag);
