@@ -30,6 +30,7 @@ const STRINGS = new Map([[FORM.strp, '.debug_str'], [FORM.lineStrp, '.debug_line
 const ADDRESS_SIZE = 4, LONG_LENGTH = 0xfffffff0;
 const COMPILE = 1, PARTIAL = 3;  // kinds of a unit that are read
 const USUAL_BASE = 8;  // where the first entry of a table of version 5 is, if a unit doesn't say
+const LONGEST_NAME = 256;
 const MOST_FIELDS = 5000000;  // of all that is read of a file
 const MOST_LINKS = 8;  // references from one entry to the next one that has what is wanted
 
@@ -78,7 +79,7 @@ export class Unit {
     const known = this.table.get(code);
     if (!known) throw new Unknown(`abbreviation ${code}`);
     this.dwarf.spend(known.fields.length);
-    const entry = { unit: this, at, tag: known.tag, parent, hasChildren: known.hasChildren, children: [], fields: new Map(), ranges: null };
+    const entry = { unit: this, at, tag: known.tag, parent, hasChildren: known.hasChildren, children: [], fields: new Map(), ranges: null, called: undefined };
     for (const { name, form, value } of known.fields) {
       const field = fieldOf(reader, form, value);
       if (WANTED.has(name)) entry.fields.set(name, field);
@@ -106,9 +107,13 @@ export class Unit {
     return null;
   }
 
+  // What an entry is called, or null. Each name is read once.
   name(entry) {
-    const found = this.found(entry, AT.name);
-    return found && found.unit.text(found.field);
+    if (entry.called === undefined) {
+      const found = this.found(entry, AT.name), text = found && attempt(() => found.unit.text(found.field));
+      entry.called = text && text.length > LONGEST_NAME ? `${text.slice(0, LONGEST_NAME)}…` : text;
+    }
+    return entry.called;
   }
 
   text({ form, value, at }) {
@@ -230,6 +235,16 @@ function headOf(reader) {
   else [abbreviations, size] = [reader.word(), reader.byte()];
   if (size !== ADDRESS_SIZE || (kind !== COMPILE && kind !== PARTIAL)) return null;
   return { version, abbreviations, first: reader.at };
+}
+
+const known = new WeakMap();
+
+// What a function returns of an entry, which is asked once for each `what`.
+export function once(entry, what, does) {
+  if (!known.has(entry)) known.set(entry, new Map());
+  const all = known.get(entry);
+  if (!all.has(what)) all.set(what, does(entry));
+  return all.get(what);
 }
 
 // What a function returns; `otherwise` where the file is damaged, or has something newer than is read here.

@@ -1,7 +1,8 @@
 // Types of debugging information: what they are called, and how long they are.
-import { AT, TAG, isBlock } from './dwarf.js';
+import { AT, TAG, isBlock, once } from './dwarf.js';
 
-const MOST_LINKS = 32, MOST_NAMED = 16, MOST_PARAMETERS = 12;  // types that are followed, or named within one another
+const MOST_LINKS = 32, MOST_NAMED = 16;  // types that are followed, or named within one another
+const MOST_PARAMETERS = 12, DEEPEST_PARAMETERS = 4, MOST_DIMENSIONS = 8;
 const QUALIFIERS = new Map([[TAG.constant, 'const'], [TAG.volatile, 'volatile'], [TAG.atomic, '_Atomic'], [TAG.restrict, 'restrict']]);
 const POINTERS = new Map([[TAG.pointer, '*'], [TAG.reference, '&'], [TAG.rvalueReference, '&&']]);
 const AGGREGATES = new Map([[TAG.structure, 'struct'], [TAG.classType, 'class'], [TAG.union, 'union'], [TAG.enumeration, 'enum']]);
@@ -29,8 +30,10 @@ export const isPointer = (type) => type?.tag === TAG.pointer;
 export const isReference = (type) => type?.tag === TAG.reference || type?.tag === TAG.rvalueReference;
 
 // How many elements each dimension of an array has, null where that isn't known before it runs.
-export function dimensionsOf(type) {
-  return type.children.filter((it) => it.tag === TAG.subrange).map((it) => {
+export const dimensionsOf = (type) => once(type, 'dimensions', countsOf);
+
+function countsOf(type) {
+  return type.children.filter((it) => it.tag === TAG.subrange).slice(0, MOST_DIMENSIONS).map((it) => {
     const [count, upper] = [AT.count, AT.upperBound].map((name) => it.fields.get(name));
     const field = count ?? upper;
     if (!field || isBlock(field) || it.unit.reference(it, count ? AT.count : AT.upperBound)) return null;
@@ -53,16 +56,19 @@ export function sizeOf(type, links = 0) {
   return element === null || counts.includes(null) ? null : counts.reduce((product, count) => product * count, element);
 }
 
-// What a type is called, as C declares it: `inner` is what is declared, such as `*` for a pointer to it.
-export function typeName(type, inner = '', depth = 0) {
+// What a type is called.
+export const typeName = (type) => (type ? once(type, 'name', () => declared(type)) : declared(null));
+
+// A declaration as C writes it, of `inner`, such as `*` for a pointer to the type.
+function declared(type, inner = '', depth = 0) {
   const after = inner && `${inner.startsWith('[') || /^[*&(]/.test(inner) ? ' ' : ''}${inner}`;
   if (!type) return `void${after}`;
   if (depth > MOST_NAMED) return `…${after}`;
   const { tag } = type, target = () => typeOf(type), own = type.unit.name(type);
   if (POINTERS.has(tag)) return pointerName(POINTERS.get(tag), target(), inner, depth);
   if (QUALIFIERS.has(tag)) return qualified(QUALIFIERS.get(tag), target(), inner, depth);
-  if (tag === TAG.array) return typeName(target(), `${inner}${dimensionsOf(type).map((it) => `[${it ?? ''}]`).join('')}`, depth + 1);
-  if (tag === TAG.functionType || tag === TAG.subprogram) return typeName(target(), `${inner}(${parametersOf(type, depth)})`, depth + 1);
+  if (tag === TAG.array) return declared(target(), `${inner}${dimensionsOf(type).map((it) => `[${it ?? ''}]`).join('')}`, depth + 1);
+  if (tag === TAG.functionType || tag === TAG.subprogram) return declared(target(), `${inner}(${parametersOf(type, depth)})`, depth + 1);
   if (!AGGREGATES.has(tag)) return `${own ?? '?'}${after}`;
   const word = AGGREGATES.get(tag);
   if (own === null) return `${word} {...}${after}`;
@@ -72,19 +78,20 @@ export function typeName(type, inner = '', depth = 0) {
 function pointerName(sign, target, inner, depth) {
   const isWithin = target && (target.tag === TAG.array || target.tag === TAG.functionType);
   const before = `${sign}${inner}`;
-  return typeName(target, isWithin ? `(${before})` : before, depth + 1);
+  return declared(target, isWithin ? `(${before})` : before, depth + 1);
 }
 
 // `const` is before what it is about, but after the sign of a pointer.
 function qualified(word, target, inner, depth) {
-  if (!target || !POINTERS.has(target.tag)) return `${word} ${typeName(target, inner, depth + 1)}`;
+  if (!target || !POINTERS.has(target.tag)) return `${word} ${declared(target, inner, depth + 1)}`;
   const sign = POINTERS.get(target.tag);
   return pointerName(sign, typeOf(target), ` ${word}${inner && ` ${inner}`}`, depth + 1);
 }
 
 function parametersOf(type, depth) {
+  if (depth > DEEPEST_PARAMETERS) return '…';
   const found = type.children.filter((it) => it.tag === TAG.parameter || it.tag === TAG.moreParameters);
-  const names = found.slice(0, MOST_PARAMETERS).map((it) => (it.tag === TAG.parameter ? typeName(typeOf(it), '', depth + 1) : '...'));
+  const names = found.slice(0, MOST_PARAMETERS).map((it) => (it.tag === TAG.parameter ? declared(typeOf(it), '', depth + 1) : '...'));
   if (found.length > MOST_PARAMETERS) names.push('…');
   return names.length ? names.join(', ') : 'void';
 }

@@ -1,5 +1,5 @@
 // Values as text, in gdb's words: by a variable's type and its bytes. A text is in parts, each of which says whether its bits are defined.
-import { AT, TAG, isBlock } from './dwarf.js';
+import { AT, TAG, isBlock, once } from './dwarf.js';
 import { Reader } from './reader.js';
 import { hexWord } from './numbers.js';
 import { dimensionsOf, isPointer, isReference, plain, sizeOf, typeOf } from './types.js';
@@ -151,7 +151,7 @@ export class Values {
       this.add(ANYWHERE);
       return;
     }
-    const all = type.children.filter((it) => isMember(it)), members = all.slice(0, MOST_FIELDS);
+    const all = once(type, 'members', (it) => it.children.filter(isMember)), members = all.slice(0, MOST_FIELDS);
     this.add('{');
     for (const [i, member] of members.entries()) {
       if (i) this.add(', ');
@@ -221,16 +221,25 @@ function textOf(type, value, size, count = 8 * size) {
 
 const wideLetter = (code) => (code < 127 ? letterOf(code, "'") : code <= 0x10ffff ? String.fromCodePoint(code) : '?');
 
+// The enumerators of a type: their names by value, whether one is negative, and whether each is one bit.
+function enumeratorsOf(type) {
+  const names = new Map();
+  for (const it of type.children.filter(({ tag }) => tag === TAG.enumerator)) {
+    const value = BigInt(Math.trunc(it.unit.number(it, AT.constValue) ?? 0));
+    if (!names.has(value)) names.set(value, it.unit.name(it) ?? '?');
+  }
+  const values = [...names.keys()];
+  return { names, isSigned: values.some((it) => it < 0n), areBits: values.length > 0 && values.every((it) => it >= 0n && !(it & it - 1n)) };
+}
+
 // The name of an enumerator, or names of such as are single bits, or the number.
 function enumText(type, value, count) {
-  const all = type.children.filter((it) => it.tag === TAG.enumerator)
-    .map((it) => ({ name: it.unit.name(it) ?? '?', is: BigInt(Math.trunc(it.unit.number(it, AT.constValue) ?? 0)) }));
-  const isSigned = all.some(({ is }) => is < 0n), number = isSigned ? BigInt.asIntN(count, value) : value;
-  const exact = all.find(({ is }) => is === number);
-  if (exact) return exact.name;
-  if (!value || !all.length || isSigned || all.some(({ is }) => is & is - 1n)) return String(number);
-  const parts = all.filter(({ is }) => is & value), rest = parts.reduce((left, { is }) => left & ~is, value);
-  return `(${[...parts.map(({ name }) => name), ...(rest ? [`unknown: 0x${rest.toString(16)}`] : [])].join(' | ')})`;
+  const { names, isSigned, areBits } = once(type, 'enumerators', enumeratorsOf);
+  const number = isSigned ? BigInt.asIntN(count, value) : value;
+  if (names.has(number)) return names.get(number);
+  if (!value || !areBits) return String(number);
+  const parts = [...names].filter(([it]) => it & value), rest = parts.reduce((left, [it]) => left & ~it, value);
+  return `(${[...parts.map(([, name]) => name), ...(rest ? [`unknown: 0x${rest.toString(16)}`] : [])].join(' | ')})`;
 }
 
 function floatText(value, size) {
