@@ -4,8 +4,7 @@ const MOST_FILES = 20000, DEEPEST = 20;  // of what is in folders
 const listed = (reader) => new Promise((done, fail) => { reader.readEntries(done, fail); });
 const fileOf = (entry) => new Promise((done, fail) => { entry.file(done, fail); });
 
-// The files of a drop, each of which may be what a user drops it for; and those in its folders, each with its path, that is to be asked for.
-// It is called while the drop is told, since the browser gives nothing later.
+// The files and the folders of a drop. It is called at once: the browser gives nothing later.
 export function givenBy(transfer) {
   const items = [...transfer.items ?? []].filter((it) => it.kind === 'file');
   if (!items.length) return { files: [...transfer.files], folders: [] };

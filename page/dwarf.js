@@ -79,7 +79,8 @@ export class Unit {
     const known = this.table.get(code);
     if (!known) throw new Unknown(`abbreviation ${code}`);
     this.dwarf.spend(known.fields.length);
-    const entry = { unit: this, at, tag: known.tag, parent, hasChildren: known.hasChildren, children: [], fields: new Map(), ranges: null, called: undefined };
+    const { tag, hasChildren } = known;
+    const entry = { unit: this, at, tag, parent, hasChildren, children: [], fields: new Map(), ranges: null, called: undefined };
     for (const { name, form, value } of known.fields) {
       const field = fieldOf(reader, form, value);
       if (WANTED.has(name)) entry.fields.set(name, field);
@@ -152,7 +153,10 @@ function fieldOf(reader, form, constant) {
   const size = SIZE_OF.get(form), { at } = reader;
   if (form === FORM.implicitConst) return { form, value: constant, at };
   if (size !== undefined) return { form, value: form === FORM.flagPresent ? 1 : reader.fixed(size), at };
-  if (BLOCKS.has(form)) return { form, value: reader.block(BLOCKS.get(form) ? reader.fixed(BLOCKS.get(form)) : reader.unsigned()), at };
+  if (BLOCKS.has(form)) {
+    const length = BLOCKS.get(form) ? reader.fixed(BLOCKS.get(form)) : reader.unsigned();
+    return { form, value: reader.block(length), at };
+  }
   if (COUNTED.has(form)) return { form, value: reader.unsigned(), at };
   if (form === FORM.sdata) return { form, value: reader.signed(), at };
   if (form === FORM.string) {

@@ -18,7 +18,7 @@ import { Reports } from './reports.js';
 import { Roving } from './roving.js';
 import { NoEdit } from './scenario.js';
 import { meetsRegion, notLoaded, sentence } from './sentences.js';
-import { Refused } from './sessions.js';
+import { Refused, Stopped } from './sessions.js';
 import { Source } from './source.js';
 import { Search, Steps } from './steps.js';
 import { SweepPart } from './sweep-part.js';
@@ -430,6 +430,7 @@ class App {
     this.code.showPc(pc, step);
     this.source.follow(pc, step);
     this.variables.show(pc, seen.registers, async (address, length) => {
+      if (shown.step !== this.step || shown.scenario !== this.scenario) throw new Stopped();  // or the session would have to go back
       const [text] = await session.replies(shown.scenario, shown.step, [`look memory ${hexWord(address)} ${length}`]);
       const bytes = parseMemory(text);
       return { bytes: bytes.map((it) => it.value), undefined: bytes.map((it) => it.undef) };

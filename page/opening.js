@@ -27,6 +27,8 @@ async function sumOf(bytes) {
   return [...sum].map((it) => it.toString(16).padStart(2, '0')).join('').slice(0, SUM_DIGITS);
 }
 
+class TooLarge extends Error {}
+
 const hasFiles = (event) => event.dataTransfer?.types.includes('Files');
 
 export class Opening {
@@ -91,11 +93,14 @@ export class Opening {
   async readAll(files) {
     const found = [];
     for (const file of files) {
-      if (file.size > LARGEST) return this.refuse(`“${file.name}” has ${size(file.size)}, which is too much for any file here.`) ?? null;
       try {
+        if (file.size > LARGEST) throw new TooLarge();
         found.push({ name: file.name, bytes: new Uint8Array(await file.arrayBuffer()) });
       } catch (fault) {
-        return this.refuse(`“${file.name}” can’t be read (${fault.message}). Is it a folder?`) ?? null;
+        const told = fault instanceof TooLarge ? `has ${size(file.size)}, which is too much for any file here.`
+          : `can’t be read (${fault.message}). Is it a folder?`;
+        this.refuse(`“${file.name}” ${told}`);
+        return null;
       }
     }
     return found;

@@ -19,8 +19,9 @@ const NUMBERS = new Map(Object.entries({
 }).map(([code, does]) => [Number(code), does]));
 const shifted = (does, beyond) => (a, b) => (b < 32 ? does(a, b) : beyond(a));
 const TWO = new Map(Object.entries({
-  0x1a: (a, b) => a & b, 0x1b: (a, b) => (b ? Math.trunc((a | 0) / (b | 0)) : NaN), 0x1c: (a, b) => a - b, 0x1d: (a, b) => (b ? a % b : NaN),
-  0x1e: (a, b) => Math.imul(a, b), 0x21: (a, b) => a | b, 0x22: (a, b) => a + b, 0x24: shifted((a, b) => a << b, () => 0),
+  0x1a: (a, b) => a & b, 0x1b: (a, b) => (b ? Math.trunc((a | 0) / (b | 0)) : NaN), 0x1c: (a, b) => a - b,
+  0x1d: (a, b) => (b ? a % b : NaN), 0x1e: (a, b) => Math.imul(a, b), 0x21: (a, b) => a | b, 0x22: (a, b) => a + b,
+  0x24: shifted((a, b) => a << b, () => 0),
   0x25: shifted((a, b) => a >>> b, () => 0), 0x26: shifted((a, b) => a >> b, (a) => a >> 31), 0x27: (a, b) => a ^ b,
   0x29: (a, b) => a === b, 0x2a: (a, b) => (a | 0) >= (b | 0), 0x2b: (a, b) => (a | 0) > (b | 0), 0x2c: (a, b) => (a | 0) <= (b | 0),
   0x2d: (a, b) => (a | 0) < (b | 0), 0x2e: (a, b) => a !== b,

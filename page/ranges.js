@@ -1,5 +1,5 @@
-// Where an entry of debugging information holds: the addresses of a function or a block, and the place of a variable at an address. Lists of
-// both are in sections of their own, one kind up to version 4 and another one in version 5.
+// Where an entry of debugging information holds: the addresses of a function or a block, and the place of a variable at an address. Lists
+// of both are in sections of their own, one kind up to version 4 and another one in version 5.
 import { AT, isAddress, isBlock, isIndex } from './dwarf.js';
 import { Reader, Unknown } from './reader.js';
 

@@ -109,7 +109,8 @@ export class Source {
     if (!place) return 'There is no line for this address.';
     const name = nameIn(place.path);
     if (!file) return `Drop ${name} anywhere on this page to see its lines, or choose it here.`;
-    return `${name} has ${many(file.lines.length, 'line')} here, and the program comes from line ${place.line} of it: it is another version.`;
+    const has = many(file.lines.length, 'line');
+    return `This ${name} has ${has} and the program is built from its line ${place.line}: it must be another version.`;
   }
 
   // The lines at which functions of a file begin, in order.
@@ -122,7 +123,8 @@ export class Source {
   render(file, path, begin, end) {
     const { elf, lines } = this.opened, { address, size } = elf.functionAt(this.address) ?? { address: 0, size: 0 };
     const starts = lines.linesIn(path, address, address + size);
-    $('source-rows').replaceChildren(...file.lines.slice(begin - 1, end).map((text, i) => this.row(begin + i, text, starts.get(begin + i))));
+    const rows = file.lines.slice(begin - 1, end).map((text, i) => this.row(begin + i, text, starts.get(begin + i)));
+    $('source-rows').replaceChildren(...rows);
   }
 
   row(line, text, address) {

@@ -63,7 +63,8 @@ export class VariablesPart {
     const told = address === null ? '' : `${name}: show its memory, at ${hexWord(address)}`;
     const shown = address === null ? name
       : element('button', { className: 'plain', title: told, 'aria-label': told, onclick: () => this.showMemory(address) }, name);
-    return element('tr', {}, element('th', { scope: 'row' }, shown), element('td', { className: 'value' }, ...parts.flatMap((it) => part(it))),
+    return element('tr', {}, element('th', { scope: 'row' }, shown),
+      element('td', { className: 'value' }, ...parts.flatMap((it) => part(it))),
       element('td', { className: 'quiet' }, kind === 'parameter' ? `${type}, a parameter` : type));
   }
 }

@@ -8,7 +8,7 @@ import { sizeOf, typeName, typeOf } from './types.js';
 import { OPTIMIZED_OUT, Values } from './values.js';
 
 export const SOMEWHERE = 'somewhere else';
-const CHUNK = 64;  // bytes of memory that are asked for at once: a multiple of this, at a multiple of this
+const CHUNK = 256;  // bytes of memory that are asked for at once: a multiple of this, at a multiple of this
 const MOST_ROWS = 300, MOST_DEPTH = 64, MOST_LINKS = 8;
 const BLOCKS = new Set([TAG.block, TAG.inlined, TAG.tryBlock, TAG.catchBlock]);
 const VARIABLES = new Set([TAG.variable, TAG.parameter]);
@@ -44,11 +44,11 @@ export class Variables {
   // Whether the file says anything of variables.
   get are() { return this.elf.section('.debug_info') !== undefined; }
 
-  // Promises the variables in scope at an instruction, those of the innermost block first. `registers` are those of the step, each with its
-  // `value` and its undefined bits, `undef`; `read(address, length)` promises `bytes`, and of each its bits that are `undefined`, null where
-  // it is inaccessible. A row has the `name`, the `type`, the value as `text`, whether a bit of it is `undefined`, and its `address`, null
-  // where it isn't in memory; besides, `parts` of the text, each with `how` its bits are known, the `kind`, and the name of an inlined
-  // function that it is of.
+  // Promises the variables in scope at an instruction, those of the innermost block first. `registers` are those of the step, each with
+  // its `value` and its undefined bits, `undef`. `read(address, length)` promises the `bytes` there, and the bits of each that are
+  // `undefined`, null where it is inaccessible. A row has the `name`, the `type`, the value as `text`, whether a bit of it is `undefined`,
+  // and its `address`, null where it isn't in memory. Besides, it has the `parts` of the text, each with `how` its bits are known, the
+  // `kind`, and the name of the function if that is `inlined`.
   async at(pc, registers, read) {
     const scope = this.scopeAt(pc);
     return scope ? this.rows(scope.variables, { pc, registers, read: byChunks(read), base: scope.base }) : [];

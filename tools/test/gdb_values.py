@@ -1,13 +1,15 @@
-"""Whether the page's text of a value and gdb's say the same, for page_variables.py. The page writes as gdb does, but for what it leaves out:
-`{...}` for what is deeper, `...` for further elements, a text behind an address; and bytes that aren't of type `char` are numbers."""
+"""Whether the page's text of a value and gdb's say the same, for page_variables.py. The page writes as gdb does, but leaves things out: it
+has `{...}` for what is deeper, `...` for further elements, and may have no text after an address. Bytes that aren't of type `char` are
+numbers."""
 import math
 import re
 
 LOST = "<optimized out>"
-TOKEN = re.compile(r"""\s*("(?:\\.|[^"\\])*"(?:\.\.\.)?|\{\.\.\.\}|<[^<>]*>|'(?:\\.|[^'\\])*'|\.\.\.|[{},=()|@:]|(?:(?!\.\.\.)[^\s{},=()|"<])+)""")
+TEXT, LETTER, REST, WORD = r'"(?:\\.|[^"\\])*"(?:\.\.\.)?', r"'(?:\\.|[^'\\])*'", r"\{\.\.\.\}", r'(?:(?!\.\.\.)[^\s{},=()|"<])+'
+TOKEN = re.compile(rf"\s*({TEXT}|{REST}|<[^<>]*>|{LETTER}|\.\.\.|[{{}},=()|@:]|{WORD})")
 ESCAPES = {"a": 7, "b": 8, "t": 9, "n": 10, "v": 11, "f": 12, "r": 13, "\\": 92, '"': 34, "'": 39}
 NAMED = re.compile(r"\\([0-7]{3}|.)|(.)", re.S)
-BEHIND = "\"'<"  # how what is behind a number begins
+BEHIND = "\"'<"  # how what follows a number begins
 
 
 class Differs(Exception):
@@ -151,16 +153,19 @@ def agree(ours, gdb):
 # Two texts, and whether they say the same.
 AGREEING = [
     ("a number", "5", "5", True), ("another number", "5", "6", False), ("a letter", "99 'c'", "99 'c'", True),
-    ("another letter", "99 'c'", "99 'd'", False), ("a real number", "3.1400001", "3.14000010", True), ("another one", "3.14", "3.15", False),
+    ("another letter", "99 'c'", "99 'd'", False), ("a real number", "3.1400001", "3.14000010", True),
+    ("another real number", "3.14", "3.15", False),
     ("nowhere", LOST, LOST, True), ("somewhere", LOST, "0", False), ("nowhere in gdb", "0", LOST, False),
     ("a text", '0x10 "ab"', '0x10 "ab"', True), ("another text", '0x10 "ab"', '0x10 "ac"', False),
     ("a text that is left out", "0x10", '0x10 "ab"', True), ("a text that gdb doesn't have", '0x10 "ab"', "0x10", False),
     ("a text up to its zero", '"ab"', r'"ab\000cd"', True), ("a text that goes on", '"ab"', '"abc"', False),
-    ("a text that is cut", '"ab"...', '"abc"', True), ("bytes", "{0x01, 0x00}", r'"\001"', True), ("other bytes", "{0x01, 0x00}", r'"\002"', False),
+    ("a text that is cut", '"ab"...', '"abc"', True), ("bytes", "{0x01, 0x00}", r'"\001"', True),
+    ("other bytes", "{0x01, 0x00}", r'"\002"', False),
     ("too many bytes", "{0x01, 0x00, 0x00}", r'"\001"', False), ("a structure", "{a = 1, b = 2}", "{a = 1, b = 2}", True),
     ("another value in it", "{a = 1, b = 2}", "{a = 1, b = 3}", False), ("another name in it", "{a = 1, b = 2}", "{a = 1, c = 2}", False),
     ("one more in it", "{a = 1}", "{a = 1, b = 2}", False), ("what is deeper", "{a = {...}, b = 2}", "{a = {1, {2}}, b = 2}", True),
-    ("what is deeper, and another one", "{a = {...}, b = 2}", "{a = {1, {2}}, b = 3}", False), ("further elements", "{1, 2...}", "{1, 2, 3}", True),
+    ("what is deeper, and another one", "{a = {...}, b = 2}", "{a = {1, {2}}, b = 3}", False),
+    ("further elements", "{1, 2...}", "{1, 2, 3}", True),
     ("other elements before", "{1, 3...}", "{1, 2, 3}", False), ("bits with names", "(READ | RUN)", "(READ | RUN)", True),
     ("other bits", "(READ | RUN)", "(READ | WRITE)", False), ("code", "0x10 <add>", "0x10 <add>", True),
     ("other code", "0x10 <add>", "0x10 <sub>", False),

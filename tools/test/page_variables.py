@@ -221,7 +221,8 @@ const sections = new Elf(content).sections.filter((it) => it.name.startsWith('.d
 let seed = 7;
 const chance = (most) => (seed = (Math.imul(seed, 1103515245) + 12345) >>> 0, (seed >>> 8) % most);
 const registers = Array.from({ length: 32 }, (_, i) => ({ value: 0x7fffff00 + 4 * i, undef: 0 }));
-const read = async (address, length) => ({ bytes: Array.from({ length }, (_, i) => address + i & 255), undefined: new Array(length).fill(0) });
+const read = async (address, length) => ({ bytes: Array.from({ length }, (_, i) => address + i & 255),
+  undefined: new Array(length).fill(0) });
 const told = { longest: 0, rows: 0 };
 for (let turn = 0; turn < TURNS; turn++) {
   const bytes = content.slice();
@@ -275,7 +276,8 @@ TYPES = [
     ("a typedef of itself", [4, 0x16, 0, 0x49, 0x13, 0, 0], [4, 43 - 4, 0, 0, 0]),
     ("an array of itself", [4, 0x01, 1, 0x49, 0x13, 0, 0, 5, 0x21, 0, 0x37, 0x0B, 0, 0], [4, 39, 0, 0, 0, 5, 200, 0]),
     ("a structure with itself", [4, 0x13, 1, 0x0B, 0x0B, 0, 0, 5, 0x0D, 0, 0x49, 0x13, 0, 0], [4, 8, *[5, 39, 0, 0, 0] * 5000, 0]),
-    ("a function of functions", [4, 0x15, 1, 0x49, 0x13, 0, 0, 5, 0x05, 0, 0x49, 0x13, 0, 0], [4, 39, 0, 0, 0, *[5, 39, 0, 0, 0] * 5000, 0]),
+    ("a function of functions", [4, 0x15, 1, 0x49, 0x13, 0, 0, 5, 0x05, 0, 0x49, 0x13, 0, 0],
+     [4, 39, 0, 0, 0, *[5, 39, 0, 0, 0] * 5000, 0]),
     ("a pointer to itself", [4, 0x0F, 0, 0x49, 0x13, 0, 0], [4, 39, 0, 0, 0]),
     ("fields without an end", [4, 0x13, 1, *[0x3F, 0x19] * 5000, 0, 0], [4] * 20000),
 ]

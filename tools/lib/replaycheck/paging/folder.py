@@ -49,7 +49,8 @@ def examples():
     """The examples that the page offers, with their files, and the text of their sources."""
     made, sources = [], {}
     for it in json.loads((SOURCES / "examples.json").read_text()):
-        example = {"name": it["name"], "about": " ".join(it["about"]), **{role: it[role] for role in ("goal", "isa", "sources") if role in it}}
+        optional = {role: it[role] for role in ("goal", "isa", "sources") if role in it}
+        example = {"name": it["name"], "about": " ".join(it["about"]), **optional}
         for role in ("program", "input"):
             if role in it:
                 path = EXAMPLES / it[role]
