@@ -44,7 +44,7 @@ export class Unit {
   begin() {
     const reader = new Reader(this.elf, this.first);
     this.table = this.dwarf.tableAt(this.abbreviations);
-    this.root = this.entry(reader, null);
+    this.root = this.entry(reader);
     return this;
   }
 
@@ -60,7 +60,7 @@ export class Unit {
   readEntries() {
     const reader = new Reader(this.elf, this.first), within = [];
     do {
-      const entry = this.entry(reader, within.at(-1) ?? null);
+      const entry = this.entry(reader);
       if (!entry) within.pop();
       else {
         this.entries.set(entry.at, entry);
@@ -72,7 +72,7 @@ export class Unit {
   }
 
   // The next entry, null at the end of those of one parent.
-  entry(reader, parent) {
+  entry(reader) {
     const { at } = reader, code = reader.unsigned();
     this.dwarf.spend(1);
     if (!code) return null;
@@ -80,7 +80,7 @@ export class Unit {
     if (!known) throw new Unknown(`abbreviation ${code}`);
     this.dwarf.spend(known.fields.length);
     const { tag, hasChildren } = known;
-    const entry = { unit: this, at, tag, parent, hasChildren, children: [], fields: new Map(), ranges: null, called: undefined };
+    const entry = { unit: this, at, tag, hasChildren, children: [], fields: new Map(), ranges: null, called: undefined };
     for (const { name, form, value } of known.fields) {
       const field = fieldOf(reader, form, value);
       if (WANTED.has(name)) entry.fields.set(name, field);

@@ -42,7 +42,7 @@ export class Values {
   add(text, known = { how: '' }) {
     const last = this.parts.at(-1);
     if (last?.how === known.how && !last.bits && !known.bits) last.text += text;
-    else this.parts.push({ text, ...known });
+    else this.parts.push({ text, how: known.how, ...(known.bits && { bits: `0x${known.bits.toString(16)}` }) });
   }
 
   get isFull() { return this.parts.length > MOST_PARTS; }
@@ -105,9 +105,10 @@ export class Values {
 
   // ---- many
 
-  // Adds letters in quotes, up to a zero that is defined.
+  // Adds letters in quotes, up to a zero; the zero, too, where it isn't defined.
   letters(bytes) {
-    const zero = bytes.findIndex((it) => it.value === 0 && it.undef === 0), shown = zero < 0 ? bytes : bytes.slice(0, zero);
+    const zero = bytes.findIndex((it) => it.value === 0);
+    const shown = zero < 0 ? bytes : bytes.slice(0, zero + (bytes[zero].undef === 0 ? 0 : 1));
     this.add('"');
     for (const it of shown.slice(0, MOST_ELEMENTS)) this.add(letterOf(it.value, '"'), { how: knownOf([it]).how });
     this.add(`"${shown.length > MOST_ELEMENTS ? '...' : ''}`);

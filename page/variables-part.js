@@ -72,7 +72,7 @@ export class VariablesPart {
 // A part of a value, which says how its bits are known.
 function part({ text, how, bits }) {
   if (!how) return [text];
-  const known = how === 'undefined' ? `undefined${bits ? ` bits 0x${bits.toString(16)}` : ''}` : how === 'inaccessible' ? how : '';
+  const known = how === 'undefined' ? `undefined${bits ? ` bits ${bits}` : ''}` : how === 'inaccessible' ? how : '';
   const made = element('span', { className: HOW[how], title: known }, text);
   return known ? [made, element('span', { className: 'unseen' }, ` (${known})`)] : [made];
 }

@@ -83,6 +83,8 @@ class Pair:
 
     def text(self, ours, gdb):
         (own, is_cut), (other, _) = letters(ours), letters(gdb)
+        if own and own[-1] == 0:  # an undefined zero, which ends the text but is shown
+            own.pop()
         if other[:len(own)] != own or not is_cut and len(other) > len(own) and other[len(own)] != 0:
             raise Differs(f"{ours} {gdb}")
 
@@ -159,6 +161,7 @@ AGREEING = [
     ("a text", '0x10 "ab"', '0x10 "ab"', True), ("another text", '0x10 "ab"', '0x10 "ac"', False),
     ("a text that is left out", "0x10", '0x10 "ab"', True), ("a text that gdb doesn't have", '0x10 "ab"', "0x10", False),
     ("a text up to its zero", '"ab"', r'"ab\000cd"', True), ("a text that goes on", '"ab"', '"abc"', False),
+    ("a zero at the end", r'"ab\000"', r'"ab"', True), ("two zeros at the end", r'"\000\000\000"', r'"\000"', False),
     ("a text that is cut", '"ab"...', '"abc"', True), ("bytes", "{0x01, 0x00}", r'"\001"', True),
     ("other bytes", "{0x01, 0x00}", r'"\002"', False),
     ("too many bytes", "{0x01, 0x00, 0x00}", r'"\001"', False), ("a structure", "{a = 1, b = 2}", "{a = 1, b = 2}", True),

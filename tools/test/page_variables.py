@@ -87,7 +87,7 @@ def built(folder, label, source, flags):
     """A program from its source, or as it is."""
     if flags is None:
         return source
-    made = folder / f"{label}.elf"
+    made = folder / f"{re.sub('[^a-z0-9]+', '-', label)}.elf"
     others = [FIRMWARE / it for it in ("start.S", "system.c", "memory.c", "heap_by_name.c")]
     subprocess.run([GCC, *FLAGS, *flags.split(), "-T", FIRMWARE / "firmware.ld", *others, source, "-lgcc", "-o", made], check=True)
     return made
@@ -111,9 +111,13 @@ def facts_of(program, words, steps, edits=()):
 
 
 def length_of(program, words):
-    """How many steps a run has."""
-    ran = subprocess.run([program, "run", *words], capture_output=True, text=True, check=True)
-    return int(re.search(r"at step (\d+)", ran.stdout)[1])
+    """How many steps a run has, of which 100,000 are looked at."""
+    low, high = 0, 100_000
+    while low < high:
+        middle = (low + high) // 2
+        is_running = looked(program, words, [f"goto {middle}", "look registers"])[-1].startswith("state running")
+        low, high = (middle + 1, high) if is_running else (low, middle)
+    return low
 
 
 def in_node(elf, facts):
@@ -190,11 +194,11 @@ def beside_gdb(program):
 STATION = words_of("station")
 # Edits, a step, a variable, its text, whether a bit of it is undefined, and its address.
 UNDEFINED = [
-    ("the unit, which is written", [], 684, "unit", "99 'c'", False, 0x7FFFFFC7),
-    ("the unit, which isn't", ["input 37 5"], 684, "unit", r"0 '\000'", True, 0x7FFFFFC7),
-    ("the unit that is handed over", ["input 37 5"], 686, "unit", r"0 '\000'", True, None),
-    ("the text before it is written", [], 690, "text", None, True, 0x7FFFFF9C),
-    ("all of the station", [], 684, "station", None, False, 0x7FFFFFC8),
+    ("a unit that is written", [], 684, "unit", "99 'c'", False, 0x7FFFFFC7),
+    ("a unit that isn't", ["input 37 5"], 676, "unit", r"0 '\000'", True, 0x7FFFFFC7),
+    ("that unit in a register", ["input 37 5"], 680, "unit", r"0 '\000'", True, None),
+    ("a text before it is written", ["input 37 5"], 680, "text", None, True, 0x7FFFFF90),
+    ("a structure that is written", [], 684, "station", None, False, 0x7FFFFFC8),
 ]
 
 
