@@ -61,7 +61,7 @@ export class Opening {
     const { files, folders } = givenBy(event.dataTransfer);
     const read = await this.readAll(files);
     if (!read) return;
-    const program = read.find(({ bytes }) => isElf(bytes)), paths = this.source.pathsOf(program?.bytes);
+    const program = read.findLast(({ bytes }) => isElf(bytes)), paths = this.source.pathsOf(program?.bytes);
     const isOne = ({ name, bytes }) => !isElf(bytes) && this.source.isOne(name, paths);
     const inFolders = await this.readFolders(folders, paths);
     const sources = [...read.filter(isOne).map(({ name, bytes }) => ({ path: name, bytes })), ...inFolders];

@@ -24,7 +24,7 @@ export class Source {
 
   // Shows the sources of a program, of which an example has some itself.
   open(opened, own = []) {
-    Object.assign(this, { opened, own: new Sources(), pc: null, step: null, address: null, drawn: null });
+    Object.assign(this, { opened, own: new Sources(), pc: null, step: null, address: null, drawn: null, found: new Map() });
     for (const { path, text } of own) this.own.add(path, text);
     this.draw();
   }
@@ -41,8 +41,12 @@ export class Source {
   take(files, program = this.program) {
     if (!this.given.has(program)) this.given.set(program, new Sources());
     for (const { path, bytes } of files) this.given.get(program).add(path, new TextDecoder().decode(bytes));
-    this.drawn = null;
-    if (this.opened) this.draw();
+    Object.assign(this, { drawn: null, found: new Map() });
+    this.draw();
+    const names = files.slice(0, MOST_TOLD).map(({ path }) => `“${nameIn(path)}”`), more = files.length - names.length;
+    const told = listed(more ? [...names, many(more, 'other file')] : names, 'and');
+    const [is, it] = files.length === 1 ? ['is', 'it'] : ['are', 'them'];
+    if (program === this.program) this.refuse(`${told} ${is} shown beside the code that comes from ${it}.`, 'good');
   }
 
   // Reads files that are chosen, of which those are taken that are sources.
@@ -58,7 +62,7 @@ export class Source {
   noSource(count, paths) {
     const names = [...new Set([...paths].map(nameIn))], told = names.slice(0, MOST_TOLD).map((it) => `“${it}”`);
     if (!names.length) return `“${this.program}” names no source files. A program that is built with -g does.`;
-    const more = names.length > MOST_TOLD ? [`${many(names.length - MOST_TOLD, 'other file')}`] : [];
+    const more = names.length > MOST_TOLD ? [many(names.length - MOST_TOLD, 'other file')] : [];
     const none = count === 1 ? 'This file isn’t a source' : 'None of these files is a source';
     return `${none} of “${this.program}”, which was built from ${listed([...told, ...more], 'and')}.`;
   }
@@ -99,8 +103,9 @@ export class Source {
   }
 
   find(path) {
-    const { paths } = this.opened.lines;
-    return this.given.get(this.program)?.find(path, paths) ?? this.own.find(path, paths);
+    const { found } = this, { paths } = this.opened.lines;
+    if (!found.has(path)) found.set(path, this.given.get(this.program)?.find(path, paths) ?? this.own.find(path, paths));
+    return found.get(path);
   }
 
   // What to say where no line is shown.

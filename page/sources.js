@@ -22,8 +22,14 @@ export function tailOf(one, other) {
   return count;
 }
 
+const nameOf = (path) => partsOf(path).at(-1) ?? '';
+const names = new WeakMap();  // of the paths of a program
+
 // Whether a file is one of a program's, by its name.
-export const isSource = (path, paths) => [...paths].some((it) => tailOf(it, path) > 0);
+export function isSource(path, paths) {
+  if (!names.has(paths)) names.set(paths, new Set([...paths].map(nameOf)));
+  return names.get(paths).has(nameOf(path));
+}
 
 export class Sources {
   constructor() { this.files = []; }
