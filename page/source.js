@@ -6,7 +6,7 @@ import { Lines, nameIn } from './lines.js';
 import { hexWord, listed, many } from './numbers.js';
 import { Sources, isSource, spanOf } from './sources.js';
 
-const LONGEST = 1 << 22;  // bytes of a source file
+const LONGEST = 1 << 22, LONGEST_LINE = 1000;  // bytes of a source file, and letters of a line
 const MOST_TOLD = 6;  // names in a sentence
 
 export class Source {
@@ -38,7 +38,8 @@ export class Source {
   isOne(name, paths) { return isSource(name, paths); }
 
   // Takes source files for a program, by its name: each with a path and bytes.
-  take(files, program = this.program) {
+  take(all, program = this.program) {
+    const files = all.filter(({ bytes }) => bytes.length <= LONGEST);
     if (!this.given.has(program)) this.given.set(program, new Sources());
     for (const { path, bytes } of files) this.given.get(program).add(path, new TextDecoder().decode(bytes));
     Object.assign(this, { drawn: null, found: new Map() });
@@ -51,8 +52,8 @@ export class Source {
 
   // Reads files that are chosen, of which those are taken that are sources.
   async choose(files) {
-    const paths = this.pathsOf(), found = files.map((file) => ({ path: file.webkitRelativePath || file.name, file }))
-      .filter(({ path, file }) => isSource(path, paths) && file.size <= LONGEST);
+    const paths = this.pathsOf(), named = files.map((file) => ({ path: file.webkitRelativePath || file.name, file }));
+    const found = named.filter(({ path, file }) => isSource(path, paths) && file.size <= LONGEST);
     const read = await Promise.all(found.map(async ({ path, file }) => ({ path, bytes: new Uint8Array(await file.arrayBuffer()) })));
     if (read.length) this.take(read);
     else if (files.length) this.refuse(this.noSource(files.length, paths));
@@ -136,7 +137,7 @@ export class Source {
     const number = address === undefined ? String(line)
       : element('button', { onclick: () => this.visitCode(address), title: `the code of this line, at ${hexWord(address)}`,
         'aria-label': `line ${line}: show its code` }, String(line));
-    return element('tr', {}, element('td', { className: 'quiet number' }, number), element('td', { className: 'text' }, text || ' '));
+    return element('tr', {}, element('td', { className: 'quiet number' }, number), element('td', { className: 'text' }, text.slice(0, LONGEST_LINE) || ' '));
   }
 
   // Marks the line where the run is, and the one that is looked at, which comes into view.

@@ -20,7 +20,7 @@ TAILS = [
     ("the same name", "/home/me/src/main.c", "main.c", 1), ("a folder, too", "/home/me/src/main.c", "src/main.c", 2),
     ("another folder", "/home/me/src/main.c", "lib/main.c", 1), ("another name", "/home/me/src/main.c", "main.h", 0),
     ("only the end of a name", "/home/me/src/main.c", "ain.c", 0),
-    ("a path that leads back", "../firmware/../packet.s", "examples/packet.s", 1),
+    ("a path that leads back", "src/x/../main.c", "src/main.c", 2),
     ("a path of Windows", r"C:\work\src\main.c", "src/main.c", 2), ("a dot", "./src/./main.c", "src/main.c", 2),
 ]
 # The files that are there, the program's paths, the path that is looked for, the file that is found, and whether it may be another one.
@@ -84,8 +84,9 @@ def source_follows(bench):
               const box = document.getElementById('source').getBoundingClientRect();
               return row.top >= box.top - 1 && row.bottom <= box.bottom + 1; })()"""), f"the line of step {step} isn't in view")
         page.run("replaycheck.code.visit(replaycheck.opened.elf.functions.find((it) => it.name === 'set_name').address)")
-        first = page.run("document.querySelector('#source-rows tr.at .text').textContent")
-        expect(first.startswith("static int set_name("), f"of set_name it shows {first!r}")
+        name, line = page.run("replaycheck.opened.lineOf(replaycheck.code.at)").split(":")
+        same("the line of set_name", page.run("document.querySelector('#source-rows tr.at .text').textContent"), texts[name][int(line) - 1])
+        expect(page.run("document.getElementById('source-rows').textContent").count("set_name(") == 1, "set_name isn't shown as a whole")
         page.run("[...document.querySelectorAll('#source-rows button')].at(-1).focus()")
         page.press("Home", modifiers=2)
         page.press("ArrowDown", "Enter")
@@ -123,7 +124,7 @@ def sources_dropped(bench):
         drop(bench, page, source)
         same("files after a source", page.run(files), {"program": "a.elf", "input": "given"})
         same("edits after a source", page.run("replaycheck.lines"), ["goto 684", "input 37 5"])
-        same("the line", page.run(NOW), ["        show(&station, unit);"])
+        same("the line", page.run(NOW)[0][:20], "    if (unit == 'i')")
         drop(bench, page, ("notes.c", b"no source of it"))
         same("files after one that is no source", page.run(files), {"program": "a.elf", "input": "notes.c"})
         drop(bench, page, source, ("b.elf", elf[1]), given, ("heap_by_name.c", bytes_of("heap_by_name.c")))
