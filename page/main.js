@@ -1,4 +1,5 @@
 // The page: holds the scenario and the step, asks sessions for reports, and has the parts of the page show them.
+import { inBatches } from './batches.js';
 import { regionAdvice } from './boards.js';
 import { Bytes } from './bytes.js';
 import { Code } from './code.js';
@@ -429,10 +430,12 @@ class App {
     const { shown, seen } = this.machine, { session } = this.opened;
     this.code.showPc(pc, step);
     this.source.follow(pc, step);
-    this.variables.show(pc, seen.registers, async (address, length) => {
+    const look = inBatches((lines) => {
       if (shown.step !== this.step || shown.scenario !== this.scenario) throw new Stopped();  // or the session would have to go back
-      const [text] = await session.replies(shown.scenario, shown.step, [`look memory ${hexWord(address)} ${length}`]);
-      const bytes = parseMemory(text);
+      return session.replies(shown.scenario, shown.step, lines);
+    });
+    this.variables.show(pc, seen.registers, async (address, length) => {
+      const bytes = parseMemory(await look(`look memory ${hexWord(address)} ${length}`));
       return { bytes: bytes.map((it) => it.value), undefined: bytes.map((it) => it.undef) };
     });
   }

@@ -61,10 +61,8 @@ export class Variables {
     return this.rows(found.map((entry) => ({ entry, place: entry, kind: 'global', inlined: '' })), { pc, registers, read: byChunks(read) });
   }
 
-  async rows(variables, where) {
-    const rows = [];
-    for (const it of variables.slice(0, MOST_ROWS)) rows.push(await this.row(it, where));
-    return rows;
+  rows(variables, where) {
+    return Promise.all(variables.slice(0, MOST_ROWS).map((it) => this.row(it, where)));
   }
 
   // ---- what is in scope
@@ -190,9 +188,20 @@ function ownOf(entry, inlined) {
   const origin = entry.unit.reference(entry, AT.origin);
   if (origin) {
     const known = new Set(entry.children.map((it) => originOf(it)).filter(Boolean));
-    own.push(...origin.children.filter((it) => isVariable(it) && !known.has(it)).map((it) => ({ entry: it, place: it })));
+    own.push(...allIn(origin.children.filter((it) => !known.has(it))).map((it) => ({ entry: it, place: it })));
   }
   return own.map((it) => ({ ...it, inlined, kind: it.entry.tag === TAG.parameter ? 'parameter' : 'local' }));
+}
+
+// The variables among entries, and in the blocks among them.
+function allIn(entries) {
+  const found = [];
+  let left = entries;
+  for (let depth = 0; left.length && depth < MOST_DEPTH; depth++) {
+    found.push(...left.filter(isVariable));
+    left = left.filter((it) => it.tag === TAG.block).flatMap((it) => it.children);
+  }
+  return found;
 }
 
 const originOf = (entry) => entry.unit.reference(entry, AT.origin);

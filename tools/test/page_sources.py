@@ -35,7 +35,12 @@ SPANS = [
     ("a function and what is above it", 5, [4, 9], [3, 6]), ("the next one", 11, [4, 9], [8, 12]),
     ("a line of none", 2, [4, 9], [1, 2]), ("no functions", 5, [], [1, 12]),
 ]
+# Files, and a path that each names.
+PATHS = [("examples/firmware/station.elf", "../firmware/station.c"), ("examples/packet.elf", "../firmware/../packet.s")]
 NODE = """
+import { readFileSync } from 'node:fs';
+import { Elf } from './elf.js';
+import { Lines } from './lines.js';
 import { Sources, spanOf, tailOf } from './sources.js';
 const found = FOUND.map(([, files, paths, path]) => {
   const sources = new Sources();
@@ -44,13 +49,15 @@ const found = FOUND.map(([, files, paths, path]) => {
   return [it?.path ?? null, it?.isUnsure ?? null];
 });
 console.log(JSON.stringify([TAILS.map(([, one, other]) => tailOf(one, other)), found,
-  SPANS.map(([, line, openings]) => Object.values(spanOf(line, openings, TEXT)))]));
+  SPANS.map(([, line, openings]) => Object.values(spanOf(line, openings, TEXT))),
+  PATHS.map(([file]) => [...new Lines(new Elf(new Uint8Array(readFileSync(file)))).paths])]));
 """
 
 
 def source_names(_):
     """Files are found by the ends of their paths, and of a function all lines are shown that belong to it."""
-    tables = {"TAILS": TAILS, "FOUND": FOUND, "SPANS": SPANS, "TEXT": TEXT}
+    files = [[str(TOP / file), path] for file, path in PATHS]
+    tables = {"TAILS": TAILS, "FOUND": FOUND, "SPANS": SPANS, "TEXT": TEXT, "PATHS": files}
     told = page_modules.answered("".join(f"const {name} = {json.dumps(it)};\n" for name, it in tables.items()) + NODE)
     for (label, *_, want), got in zip(TAILS, told[0]):
         same(label, got, want)
@@ -58,6 +65,8 @@ def source_names(_):
         same(label, got, [path, is_unsure])
     for (label, *_, want), got in zip(SPANS, told[2]):
         same(label, got, want)
+    for (file, path), got in zip(PATHS, told[3]):
+        expect(path in got, f"{file} names {got}, and not {path}")
 
 
 # ---- the source
