@@ -137,7 +137,8 @@ export class Source {
     const number = address === undefined ? String(line)
       : element('button', { onclick: () => this.visitCode(address), title: `the code of this line, at ${hexWord(address)}`,
         'aria-label': `line ${line}: show its code` }, String(line));
-    return element('tr', {}, element('td', { className: 'quiet number' }, number), element('td', { className: 'text' }, text.slice(0, LONGEST_LINE) || ' '));
+    return element('tr', {}, element('td', { className: 'quiet number' }, number),
+      element('td', { className: 'text' }, text.slice(0, LONGEST_LINE) || ' '));
   }
 
   // Marks the line where the run is, and the one that is looked at, which comes into view.

@@ -10,6 +10,7 @@ const MOST_FIELDS = 40, MOST_PARTS = 400, MOST_SCALAR = 16;
 const DEEPEST = 6;  // arrays in arrays
 const ENCODING = { address: 1, boolean: 2, float: 4, signed: 5, signedLetter: 6, unsignedLetter: 8, letter: 0x10 };
 const ESCAPES = new Map([[7, 'a'], [8, 'b'], [9, 't'], [10, 'n'], [11, 'v'], [12, 'f'], [13, 'r'], [0x5c, '\\']]);
+const MANTISSA = new Map([[4, (1n << 23n) - 1n], [8, (1n << 52n) - 1n]]);  // bits of a float, by its bytes
 const PLUS_NUMBER = 0x23;  // the operation by which old files say where a member is
 const ANYWHERE = '{...}';
 
@@ -249,7 +250,7 @@ function floatText(value, size) {
   else if (size === 8) view.setBigUint64(0, value);
   else return `0x${value.toString(16)}`;
   const number = size === 4 ? view.getFloat32(0) : view.getFloat64(0);
-  if (Number.isNaN(number)) return 'nan';
+  if (Number.isNaN(number)) return `${value >> BigInt(8 * size - 1) ? '-' : ''}nan(0x${(value & MANTISSA.get(size)).toString(16)})`;
   if (!Number.isFinite(number)) return number < 0 ? '-inf' : 'inf';
   return String(size === 4 ? Number(number.toPrecision(9)) : number);
 }

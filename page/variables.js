@@ -171,23 +171,24 @@ function inScope(base, pc) {
   return found.slice(0, MOST_ROWS);
 }
 
-// The blocks in an entry that have an instruction, or say nothing of where they are. `inlined` is the inlined function of each.
+// What is in an entry; of a block that doesn't say where it is, what is in the block instead.
+function partsOf(entry, depth = 0) {
+  const isOpen = (it) => it.tag === TAG.block && depth < MOST_DEPTH && !rangesOf(it);
+  return entry.children.flatMap((it) => (isOpen(it) ? partsOf(it, depth + 1) : [it]));
+}
+
+// The blocks in an entry that have an instruction. `inlined` is the inlined function of each.
 function blocksIn(entry, inlined, pc) {
-  const found = [];
-  for (const it of entry.children) {
-    if (!BLOCKS.has(it.tag)) continue;
-    const ranges = rangesOf(it), isHere = ranges ? isWithin(ranges, pc) : it.tag !== TAG.inlined;
-    if (isHere) found.push({ entry: it, inlined: it.tag === TAG.inlined ? it.unit.name(it) ?? '?' : inlined });
-  }
-  return found;
+  const found = partsOf(entry).filter((it) => BLOCKS.has(it.tag) && isWithin(rangesOf(it) ?? [], pc));
+  return found.map((it) => ({ entry: it, inlined: it.tag === TAG.inlined ? it.unit.name(it) ?? '?' : inlined }));
 }
 
 // The variables that an entry declares: its own, and those of what it is an instance of that it doesn't mention, which aren't anywhere.
 function ownOf(entry, inlined) {
-  const own = entry.children.filter(isVariable).map((it) => ({ entry: it, place: it }));
+  const own = partsOf(entry).filter(isVariable).map((it) => ({ entry: it, place: it }));
   const origin = entry.unit.reference(entry, AT.origin);
   if (origin) {
-    const known = new Set(entry.children.map((it) => originOf(it)).filter(Boolean));
+    const known = new Set([...entry.children, ...partsOf(entry)].map((it) => originOf(it)).filter(Boolean));
     own.push(...allIn(origin.children.filter((it) => !known.has(it))).map((it) => ({ entry: it, place: it })));
   }
   return own.map((it) => ({ ...it, inlined, kind: it.entry.tag === TAG.parameter ? 'parameter' : 'local' }));

@@ -5,7 +5,7 @@ import math
 import re
 
 LOST = "<optimized out>"
-TEXT, LETTER, REST, WORD = r'"(?:\\.|[^"\\])*"(?:\.\.\.)?', r"'(?:\\.|[^'\\])*'", r"\{\.\.\.\}", r'(?:(?!\.\.\.)[^\s{},=()|"<])+'
+TEXT, LETTER, REST, WORD = r'"(?:\\.|[^"\\])*"(?:\.\.\.)?', r"'(?:\\.|[^'\\])*'", r"\{\.\.\.\}", r'-?nan\(\w+\)|(?:(?!\.\.\.)[^\s{},=()|"<])+'
 TOKEN = re.compile(rf"\s*({TEXT}|{REST}|<[^<>]*>|{LETTER}|\.\.\.|[{{}},=()|@:]|{WORD})")
 ESCAPES = {"a": 7, "b": 8, "t": 9, "n": 10, "v": 11, "f": 12, "r": 13, "\\": 92, '"': 34, "'": 39}
 NAMED = re.compile(r"\\([0-7]{3}|.)|(.)", re.S)
@@ -156,7 +156,8 @@ def agree(ours, gdb):
 AGREEING = [
     ("a number", "5", "5", True), ("another number", "5", "6", False), ("a letter", "99 'c'", "99 'c'", True),
     ("another letter", "99 'c'", "99 'd'", False), ("a real number", "3.1400001", "3.14000010", True),
-    ("another real number", "3.14", "3.15", False),
+    ("another real number", "3.14", "3.15", False), ("no number", "nan(0x8)", "nan(0x8)", True),
+    ("another one that is none", "nan(0x8)", "-nan(0x8)", False),
     ("nowhere", LOST, LOST, True), ("somewhere", LOST, "0", False), ("nowhere in gdb", "0", LOST, False),
     ("a text", '0x10 "ab"', '0x10 "ab"', True), ("another text", '0x10 "ab"', '0x10 "ac"', False),
     ("a text that is left out", "0x10", '0x10 "ab"', True), ("a text that gdb doesn't have", '0x10 "ab"', "0x10", False),
