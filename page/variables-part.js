@@ -46,11 +46,19 @@ export class VariablesPart {
     return rows.length ? '' : 'None is in scope here.';
   }
 
-  render(id, rows) {
+  // Shows rows, and in one row the names of those that have no value here.
+  render(id, all) {
+    const isLost = ({ parts }) => parts.length === 1 && parts[0].how === 'lost', rows = all.filter((it) => !isLost(it));
+    const lost = [...new Set(all.filter(isLost).map(({ name }) => name))];
     const inlined = (it, i) => it.inlined && rows[i - 1]?.inlined !== it.inlined;
-    $(id).parentElement.hidden = !rows.length;
+    $(id).parentElement.hidden = !all.length;
     $(id).replaceChildren(...rows.flatMap((it, i) => [...(inlined(it, i) ? [this.head(it.inlined)] : []),
-      ...(!it.inlined && rows[i - 1]?.inlined ? [this.head('')] : []), this.row(it)]));
+      ...(!it.inlined && rows[i - 1]?.inlined ? [this.head('')] : []), this.row(it)]), ...(lost.length ? [this.lost(lost)] : []));
+  }
+
+  lost(names) {
+    return element('tr', {}, element('th', { scope: 'row', className: 'quiet' }, 'optimized out'),
+      element('td', { colSpan: 2, className: 'value quiet' }, names.join(', ')));
   }
 
   // A row above the variables of an inlined function, and one above those of the function itself after them.

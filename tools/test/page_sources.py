@@ -5,7 +5,7 @@ import json
 
 import page_modules
 from page_bench import expect, same, words_of
-from page_variables import facts_of, in_node
+from page_variables import LOST, facts_of, in_node
 from replaycheck.guest_files import TOP
 
 FIRMWARE = TOP / "examples/firmware"
@@ -84,6 +84,7 @@ def source_follows(bench):
     """The line at which the run is is marked, and in view, at each step; a line leads to its code, and code to its line."""
     texts = {path.name: path.read_text().split("\n") for path in FIRMWARE.iterdir() if path.suffix in (".c", ".h", ".S")}
     with bench.open() as page:
+        page.run("(() => { document.getElementById('source').style.maxHeight = '6rem'; })()")
         for step in STEPS:
             go(bench, page, step)
             name, line = page.run("replaycheck.opened.lineOf(replaycheck.machine.seen.pc)").split(":")
@@ -190,7 +191,8 @@ def variables_shown(bench):
             page.run(f"replaycheck.use({json.dumps(chr(10).join([*edits, f'goto {step}']))})")
             bench.settle(page)
             [told] = in_node(STATION[0], facts_of(bench.program, STATION, [step], edits))
-            want = [[it["name"], it["text"]] for it in told["rows"]]
+            lost = list(dict.fromkeys(it["name"] for it in told["rows"] if it["text"] == LOST))
+            want = [[it["name"], it["text"]] for it in told["rows"] if it["text"] != LOST] + [["optimized out", ", ".join(lost)]][:len(lost)]
             page.until(f"JSON.stringify({ROWS}) === {json.dumps(json.dumps(want, separators=(',', ':'), ensure_ascii=False))}", 10)
             marked = page.run("[...document.querySelectorAll('#variable-rows .undefined')].length > 0")
             same(f"undefined values at step {step}", marked, any(it["undefined"] for it in told["rows"]))
