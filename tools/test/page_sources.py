@@ -5,6 +5,7 @@ import json
 
 import page_modules
 from page_bench import expect, same, words_of
+from page_looks import CONTRASTS
 from page_variables import LOST, facts_of, in_node
 from replaycheck.guest_files import TOP
 
@@ -192,7 +193,8 @@ def variables_shown(bench):
             bench.settle(page)
             [told] = in_node(STATION[0], facts_of(bench.program, STATION, [step], edits))
             lost = list(dict.fromkeys(it["name"] for it in told["rows"] if it["text"] == LOST))
-            want = [[it["name"], it["text"]] for it in told["rows"] if it["text"] != LOST] + [["optimized out", ", ".join(lost)]][:len(lost)]
+            want = [[it["name"], it["text"]] for it in told["rows"] if it["text"] != LOST]
+            want += [["optimized out", ", ".join(lost)]] if lost else []
             page.until(f"JSON.stringify({ROWS}) === {json.dumps(json.dumps(want, separators=(',', ':'), ensure_ascii=False))}", 10)
             marked = page.run("[...document.querySelectorAll('#variable-rows .undefined')].length > 0")
             same(f"undefined values at step {step}", marked, any(it["undefined"] for it in told["rows"]))
@@ -209,3 +211,19 @@ def variables_shown(bench):
         page.until("document.getElementById('variables-told').textContent.startsWith('The run has ended')", 10)
         same("variables after the end", page.run(ROWS), [])
         same("complaints", page.complaints(), [])
+
+
+def sections_seen(bench):
+    """With values of each kind, undefined ones among them, both sections are read in light and dark, and fit into a narrow page."""
+    for width, dark in ((360, False), (360, True), (2560, False)):
+        with bench.open(width=width, dark=dark) as page:
+            page.run("replaycheck.use('input 37 5\\ngoto 676')")
+            bench.settle(page)
+            page.until("document.querySelector('#variable-rows .undefined') && document.querySelector('#source-rows .now') && true", 10)
+            page.run("(() => { document.getElementById('globals').open = true; })()")
+            page.until("document.getElementById('global-rows').children.length", 10)
+            same("texts of poor contrast", [it for it in page.run(CONTRASTS) if it[0] < 4.5], [])
+            same("the width", page.run("document.documentElement.scrollWidth"), width)
+            for part in ("variables-part", "source-part"):
+                beyond = page.run(f"(({{ scrollWidth, clientWidth }}) => scrollWidth - clientWidth)(document.getElementById('{part}'))")
+                same(f"what is beyond {part} at {width}", beyond, 0)
