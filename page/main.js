@@ -19,11 +19,11 @@ import { Reports } from './reports.js';
 import { Roving } from './roving.js';
 import { NoEdit } from './scenario.js';
 import { meetsRegion, notLoaded, sentence } from './sentences.js';
-import { Refused, Stopped } from './sessions.js';
+import { Refused } from './sessions.js';
 import { Source } from './source.js';
 import { Search, Steps } from './steps.js';
 import { SweepPart } from './sweep-part.js';
-import { VariablesPart } from './variables-part.js';
+import { Stale, VariablesPart } from './variables-part.js';
 import { Verdict } from './verdict.js';
 
 const words = new URLSearchParams(location.search);
@@ -431,7 +431,7 @@ class App {
     this.code.showPc(pc, step);
     this.source.follow(pc, step);
     const look = inBatches((lines) => {
-      if (shown.step !== this.step || shown.scenario !== this.scenario) throw new Stopped();  // or the session would have to go back
+      if (shown.step !== this.step || shown.scenario !== this.scenario) throw new Stale();  // or the session would have to go back
       return session.replies(shown.scenario, shown.step, lines);
     });
     this.variables.show(pc, seen.registers, async (address, length) => {

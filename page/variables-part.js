@@ -4,6 +4,9 @@ import { hexWord } from './numbers.js';
 
 const HOW = { undefined: 'undefined', inaccessible: 'inaccessible', lost: 'quiet', elsewhere: 'quiet', '': '' };
 
+// What was asked for is no longer wanted.
+export class Stale extends Error {}
+
 export class VariablesPart {
   // `show` has the memory at an address shown, and `fail` takes a fault.
   constructor({ show, fail }) {
@@ -36,7 +39,7 @@ export class VariablesPart {
       this.render('global-rows', globals);
       say('variables-told', this.told(rows, isEnd));
     } catch (fault) {
-      if (asked === this.asked) this.fail(fault);
+      if (asked === this.asked && !(fault instanceof Stale)) this.fail(fault);
     }
   }
 
