@@ -9,7 +9,8 @@ import { OPTIMIZED_OUT, Values } from './values.js';
 
 export const SOMEWHERE = 'somewhere else';
 const CHUNK = 256;  // bytes of memory that are asked for at once: a multiple of this, at a multiple of this
-const MOST_ROWS = 300, MOST_DEPTH = 64, MOST_LINKS = 8;
+const MOST_ROWS = 300, MOST_DEPTH = 64;
+const MOST_SCOPES = 10000;  // that are remembered
 const BLOCKS = new Set([TAG.block, TAG.inlined, TAG.tryBlock, TAG.catchBlock]);
 const VARIABLES = new Set([TAG.variable, TAG.parameter]);
 const HIGHEST = 2 ** 32;
@@ -58,7 +59,7 @@ export class Variables {
   async globals(pc, registers, read) {
     const root = this.scopeAt(pc)?.base.unit.root;
     const found = (root?.children ?? []).filter((it) => it.tag === TAG.variable && it.fields.has(AT.location));
-    return this.rows(found.map((entry) => ({ entry, place: entry, kind: 'global', inlined: '' })), { pc, registers, read: byChunks(read) });
+    return this.rows(found.map((entry) => ({ entry, kind: 'global', inlined: '' })), { pc, registers, read: byChunks(read) });
   }
 
   rows(variables, where) {
@@ -80,6 +81,7 @@ export class Variables {
   scopeAt(pc) {
     if (!this.scopes.has(pc)) {
       const found = this.functionAt(pc);
+      if (this.scopes.size >= MOST_SCOPES) this.scopes.clear();
       this.scopes.set(pc, found && { base: found.entry, variables: attempt(() => inScope(found.entry, pc), []) });
     }
     return this.scopes.get(pc);
@@ -95,11 +97,12 @@ export class Variables {
 
   // ---- what a variable has
 
-  async row({ entry, place, kind, inlined }, where) {
-    const type = typeOf(entry), row = { name: entry.unit.name(entry) ?? '?', type: typeName(type), kind, inlined, address: null };
+  async row({ entry, kind, inlined }, where) {
+    const type = typeOf(entry), called = attempt(() => typeName(type), '?');
+    const row = { name: entry.unit.name(entry) ?? '?', type: called, kind, inlined, address: null };
     let parts;
     try {
-      const content = await this.content(place, type, where);
+      const content = await this.content(entry, type, where);
       parts = content && await this.shown(type, content, where.read);
       row.address = content?.address ?? null;
     } catch (fault) {
@@ -129,7 +132,7 @@ export class Variables {
 
   context(unit, where) {
     const context = { registers: where.registers, read: where.read, addressOf: (index) => unit.address(index),
-      frameAddress: () => this.frameAddress(unit, where) };
+      frameAddress: () => this.frameAddress(where) };
     context.frameBase = () => this.frameBase(where, context);
     return context;
   }
@@ -143,7 +146,7 @@ export class Variables {
   }
 
   // The address of the frame itself, as the rules of the instruction say.
-  async frameAddress(unit, where) {
+  async frameAddress(where) {
     const rule = this.frames.ruleAt(where.pc);
     if (!rule) throw new Elsewhere();
     const isOfNone = () => { throw new Elsewhere(); };
@@ -185,13 +188,13 @@ function blocksIn(entry, inlined, pc) {
 
 // The variables that an entry declares: its own, and those of what it is an instance of that it doesn't mention, which aren't anywhere.
 function ownOf(entry, inlined) {
-  const own = partsOf(entry).filter(isVariable).map((it) => ({ entry: it, place: it }));
+  const own = partsOf(entry).filter(isVariable);
   const origin = entry.unit.reference(entry, AT.origin);
   if (origin) {
     const known = new Set([...entry.children, ...partsOf(entry)].map((it) => originOf(it)).filter(Boolean));
-    own.push(...allIn(origin.children.filter((it) => !known.has(it))).map((it) => ({ entry: it, place: it })));
+    own.push(...allIn(origin.children.filter((it) => !known.has(it))));
   }
-  return own.map((it) => ({ ...it, inlined, kind: it.entry.tag === TAG.parameter ? 'parameter' : 'local' }));
+  return own.map((it) => ({ entry: it, inlined, kind: it.tag === TAG.parameter ? 'parameter' : 'local' }));
 }
 
 // The variables among entries, and in the blocks among them.
