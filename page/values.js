@@ -180,7 +180,8 @@ export class Values {
       this.add(ANYWHERE);
       return;
     }
-    const begin = inOrder ?? (fromTop === undefined ? from : from + 8 * (unit.number(member, AT.byteSize) ?? size) - fromTop - count);
+    const old = fromTop === undefined ? 0 : 8 * (unit.number(member, AT.byteSize) ?? size) - fromTop - count;
+    const begin = from + (inOrder ?? old);
     const first = Math.floor(begin / 8), shift = BigInt(begin % 8), mask = (1n << BigInt(count)) - 1n;
     const bytes = await content.bytes(first, Math.ceil((begin % 8 + count) / 8)), known = knownOf(bytes, mask << shift);
     const value = numberIn(bytes) >> shift & mask;

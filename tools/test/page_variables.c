@@ -96,6 +96,7 @@ __attribute__((noinline)) static int kinds(int given)
     enum colour colour = given > 1 ? BLUE : GREEN;
     enum flags flags = READ | RUN, none = 0;
     struct bits bits = { 5, -9, true, GREEN, 0x123456789a };
+    struct bits more_bits[2] = { { 1, 2, false, RED, 3 }, { 6, -5, true, BLUE, 0xfedcba9876 } };
     union either either = { .real = 1.5f };
     int numbers[30], table[2][3] = { { 1, 2, 3 }, { 4, 5, given } };
     named pair[2] = { { 1, { 2, 3 }, names[0] }, { 4, { 5, 6 }, names[2] } };
@@ -109,8 +110,8 @@ __attribute__((noinline)) static int kinds(int given)
     for (int i = 0; i < 30; i++)
         numbers[i] = i * given;
     sink = minus + letter + zero + high + quote + line + yes + no + low + half + (int)far + (int)farther + (int)real + (int)more
-        + (int)colour + (int)flags + (int)none + bits.middle + either.number + numbers[3] + table[1][2] + pair[1].number + text[0] + raw[2]
-        + all[1][0] + does(given, 2) + (nothing != NULL) + *(int *)where + (*row)[1];
+        + (int)colour + (int)flags + (int)none + bits.middle + more_bits[1].low + either.number + numbers[3] + table[1][2]
+        + pair[1].number + text[0] + raw[2] + all[1][0] + does(given, 2) + (nothing != NULL) + *(int *)where + (*row)[1];
     if (given > 100)
         unset = 4;
     return sink + (given > 100 ? unset : 0);
