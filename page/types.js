@@ -1,8 +1,8 @@
 // Types of debugging information: what they are called, and how long they are.
 import { AT, TAG, isBlock, once } from './dwarf.js';
 
-const MOST_LINKS = 32, MOST_NAMED = 16;  // types that are followed, or named within one another
-const MOST_PARAMETERS = 12, DEEPEST_PARAMETERS = 4, MOST_DIMENSIONS = 8;
+const MOST_LINKS = 32, MOST_NAMED = 64;  // types that are followed, or named in one type
+const MOST_PARAMETERS = 12, MOST_DIMENSIONS = 8;
 const QUALIFIERS = new Map([[TAG.constant, 'const'], [TAG.volatile, 'volatile'], [TAG.atomic, '_Atomic'], [TAG.restrict, 'restrict']]);
 const POINTERS = new Map([[TAG.pointer, '*'], [TAG.reference, '&'], [TAG.rvalueReference, '&&']]);
 const AGGREGATES = new Map([[TAG.structure, 'struct'], [TAG.classType, 'class'], [TAG.union, 'union'], [TAG.enumeration, 'enum']]);
@@ -57,41 +57,40 @@ export function sizeOf(type, links = 0) {
 }
 
 // What a type is called.
-export const typeName = (type) => (type ? once(type, 'name', () => declared(type)) : declared(null));
+export const typeName = (type) => (type ? once(type, 'name', () => declared(type, '', { left: MOST_NAMED })) : 'void');
 
-// A declaration as C writes it, of `inner`, such as `*` for a pointer to the type.
-function declared(type, inner = '', depth = 0) {
-  const after = inner && `${inner.startsWith('[') || /^[*&(]/.test(inner) ? ' ' : ''}${inner}`;
+// A declaration as C writes it, of `inner`, such as `*` for a pointer to the type. `room` has how many types are named besides.
+function declared(type, inner, room) {
+  const after = inner && `${/^[[*&(]/.test(inner) ? ' ' : ''}${inner}`;
   if (!type) return `void${after}`;
-  if (depth > MOST_NAMED) return `…${after}`;
+  if (room.left-- <= 0) return `…${after}`;
   const { tag } = type, target = () => typeOf(type), own = type.unit.name(type);
-  if (POINTERS.has(tag)) return pointerName(POINTERS.get(tag), target(), inner, depth);
-  if (QUALIFIERS.has(tag)) return qualified(QUALIFIERS.get(tag), target(), inner, depth);
-  if (tag === TAG.array) return declared(target(), `${inner}${dimensionsOf(type).map((it) => `[${it ?? ''}]`).join('')}`, depth + 1);
-  if (tag === TAG.functionType || tag === TAG.subprogram) return declared(target(), `${inner}(${parametersOf(type, depth)})`, depth + 1);
+  if (POINTERS.has(tag)) return pointerName(POINTERS.get(tag), target(), inner, room);
+  if (QUALIFIERS.has(tag)) return qualified(QUALIFIERS.get(tag), target(), inner, room);
+  if (tag === TAG.array) return declared(target(), `${inner}${dimensionsOf(type).map((it) => `[${it ?? ''}]`).join('')}`, room);
+  if (tag === TAG.functionType || tag === TAG.subprogram) return declared(target(), `${inner}(${parametersOf(type, room)})`, room);
   if (!AGGREGATES.has(tag)) return `${own ?? '?'}${after}`;
   const word = AGGREGATES.get(tag);
   if (own === null) return `${word} {...}${after}`;
   return `${WITH_TAGS.has(type.unit.language) ? `${word} ` : ''}${own}${after}`;
 }
 
-function pointerName(sign, target, inner, depth) {
+function pointerName(sign, target, inner, room) {
   const isWithin = target && (target.tag === TAG.array || target.tag === TAG.functionType);
   const before = `${sign}${inner}`;
-  return declared(target, isWithin ? `(${before})` : before, depth + 1);
+  return declared(target, isWithin ? `(${before})` : before, room);
 }
 
 // `const` is before what it is about, but after the sign of a pointer.
-function qualified(word, target, inner, depth) {
-  if (!target || !POINTERS.has(target.tag)) return `${word} ${declared(target, inner, depth + 1)}`;
+function qualified(word, target, inner, room) {
+  if (!target || !POINTERS.has(target.tag)) return `${word} ${declared(target, inner, room)}`;
   const sign = POINTERS.get(target.tag);
-  return pointerName(sign, typeOf(target), ` ${word}${inner && ` ${inner}`}`, depth + 1);
+  return pointerName(sign, typeOf(target), ` ${word}${inner && ` ${inner}`}`, room);
 }
 
-function parametersOf(type, depth) {
-  if (depth > DEEPEST_PARAMETERS) return '…';
+function parametersOf(type, room) {
   const found = type.children.filter((it) => it.tag === TAG.parameter || it.tag === TAG.moreParameters);
-  const names = found.slice(0, MOST_PARAMETERS).map((it) => (it.tag === TAG.parameter ? declared(typeOf(it), '', depth + 1) : '...'));
+  const names = found.slice(0, MOST_PARAMETERS).map((it) => (it.tag === TAG.parameter ? declared(typeOf(it), '', room) : '...'));
   if (found.length > MOST_PARAMETERS) names.push('…');
   return names.length ? names.join(', ') : 'void';
 }

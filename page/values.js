@@ -6,7 +6,8 @@ import { dimensionsOf, isPointer, isReference, plain, sizeOf, typeOf } from './t
 
 export const OPTIMIZED_OUT = '<optimized out>';
 const MOST_ELEMENTS = 24, MOST_AGGREGATES = 4;  // elements that are shown: of numbers and letters, and of what has fields itself
-const MOST_FIELDS = 40, MOST_PARTS = 400, MOST_SCALAR = 16;
+const MOST_FIELDS = 40, MOST_SHOWN = 600, MOST_LETTERS = 20000;  // fields of one structure; values and letters of a variable's text
+const MOST_SCALAR = 16;  // bytes of one number
 const DEEPEST = 6;  // arrays in arrays
 const ENCODING = { address: 1, boolean: 2, float: 4, signed: 5, signedLetter: 6, unsignedLetter: 8, letter: 0x10 };
 const ESCAPES = new Map([[7, 'a'], [8, 'b'], [9, 't'], [10, 'n'], [11, 'v'], [12, 'f'], [13, 'r'], [0x5c, '\\']]);
@@ -37,29 +38,31 @@ function knownOf(bytes, mask = (1n << BigInt(8 * bytes.length)) - 1n) {
 export class Values {
   // `read` promises bytes of memory, and `nameAt` tells the function that has an address.
   constructor({ read, nameAt }) {
-    Object.assign(this, { read, nameAt, parts: [] });
+    Object.assign(this, { read, nameAt, parts: [], shown: 0, length: 0 });
   }
 
   add(text, known = { how: '' }) {
     const last = this.parts.at(-1);
+    this.length += text.length;
     if (last?.how === known.how && !last.bits && !known.bits) last.text += text;
     else this.parts.push({ text, how: known.how, ...(known.bits && { bits: `0x${known.bits.toString(16)}` }) });
   }
 
-  get isFull() { return this.parts.length > MOST_PARTS; }
+  get isFull() { return this.shown > MOST_SHOWN || this.length > MOST_LETTERS; }
 
   // Adds the value of a type that a content has at an offset. `depth` is the number of structures around it, and `nested` that of arrays.
   async show(type, content, offset = 0, depth = 0, nested = 0) {
     const it = plain(type);
+    this.shown++;
     if (!it) this.add('void');
     else if (it.tag === TAG.array) await this.array(it, content, offset, depth, nested);
-    else if ([TAG.structure, TAG.classType, TAG.union].includes(it.tag)) await this.structure(it, content, offset, depth);
-    else await this.scalar(it, content, offset);
+    else if ([TAG.structure, TAG.classType, TAG.union].includes(it.tag)) await this.structure(it, content, offset, depth, nested);
+    else await this.scalar(it, content, offset, { depth, nested });
   }
 
   // ---- one number
 
-  async scalar(type, content, offset) {
+  async scalar(type, content, offset, where) {
     const size = sizeOf(type);
     if (!size || size > MOST_SCALAR) {
       this.add(ANYWHERE);
@@ -68,7 +71,7 @@ export class Values {
     const bytes = await content.bytes(offset, size), known = knownOf(bytes);
     if (known.how === HOW.lost) this.add(OPTIMIZED_OUT, known);
     else if (isPointer(type)) await this.pointer(type, numberIn(bytes), known);
-    else if (isReference(type)) await this.reference(type, numberIn(bytes), known);
+    else if (isReference(type)) await this.reference(type, numberIn(bytes), known, where);
     else this.add(textOf(type, numberIn(bytes), size), known);
   }
 
@@ -91,12 +94,13 @@ export class Values {
     return end < 0 ? found : found.slice(0, end);
   }
 
-  async reference(type, value, known) {
+  // Adds the address to which a reference leads, and what is there, unless the reference is in a structure.
+  async reference(type, value, known, { depth, nested }) {
     this.add(`@0x${value.toString(16)}`, known);
-    const target = typeOf(type), size = sizeOf(target), address = Number(value);
-    if (known.how || !size || isPointer(plain(target)) || ![TAG.base, TAG.enumeration].includes(plain(target)?.tag)) return;
+    const target = typeOf(type), address = Number(value);
+    if (known.how || depth > 0 || nested > DEEPEST || !sizeOf(target)) return;
     this.add(': ');
-    await this.scalar(plain(target), { bytes: async (at, length) => this.bytesOf(address + at, length) }, 0);
+    await this.show(target, { bytes: (at, length) => this.bytesOf(address + at, length) }, 0, depth, nested + 1);
   }
 
   async bytesOf(address, length) {
@@ -145,11 +149,12 @@ export class Values {
   // A byte that is no letter, in an array.
   async byte(content, offset) {
     const bytes = await content.bytes(offset, 1), known = knownOf(bytes);
+    this.shown++;
     this.add(known.how === HOW.lost ? OPTIMIZED_OUT : `0x${bytes[0].value.toString(16).padStart(2, '0')}`, known);
   }
 
-  async structure(type, content, offset, depth) {
-    if (depth > 0) {
+  async structure(type, content, offset, depth, nested) {
+    if (depth > 0 || nested > DEEPEST) {
       this.add(ANYWHERE);
       return;
     }
@@ -161,15 +166,17 @@ export class Values {
       const name = member.unit.name(member);
       if (member.tag === TAG.inheritance) this.add(`<${typeOf(member)?.unit.name(typeOf(member)) ?? '?'}> = `);
       else if (name) this.add(`${name} = `);
-      await this.member(member, content, offset, depth + 1);
+      await this.member(member, content, offset, { depth: depth + 1, nested: nested + 1 });
     }
     this.add(all.length > members.length || this.isFull ? '...}' : '}');
   }
 
-  async member(member, content, offset, depth) {
+  // Adds what a member has. The fields of a base class are shown as if they were the class's own.
+  async member(member, content, offset, { depth, nested }) {
     const at = placeOf(member), bits = member.unit.number(member, AT.bitSize), type = typeOf(member);
     if (at === null) this.add(ANYWHERE);
-    else if (bits === undefined) await this.show(type, content, offset + at, depth);
+    else if (member.tag === TAG.inheritance) await this.show(type, content, offset + at, depth - 1, nested);
+    else if (bits === undefined) await this.show(type, content, offset + at, depth, nested);
     else await this.bitField(member, bits, content, 8 * (offset + at), type);
   }
 
