@@ -31,6 +31,7 @@ const ADDRESS_SIZE = 4, LONG_LENGTH = 0xfffffff0;
 const COMPILE = 1, PARTIAL = 3;  // kinds of a unit that are read
 const USUAL_BASE = 8;  // where the first entry of a table of version 5 is, if a unit doesn't say
 const LONGEST_NAME = 256;
+const MOST_UNITS = 50000;
 const MOST_FIELDS = 5000000;  // of all that is read of a file
 const MOST_LINKS = 8;  // references from one entry to the next one that has what is wanted
 
@@ -191,7 +192,7 @@ export class Dwarf {
   readUnits() {
     if (!this.info) return;
     const { begin, size } = this.info, sectionEnd = Math.min(begin + size, this.elf.bytes.length);
-    for (let at = begin; at < sectionEnd;) {
+    for (let at = begin; at < sectionEnd && this.units.length < MOST_UNITS;) {
       const reader = new Reader(this.elf, at), length = reader.word(), end = reader.at + length;
       if (length >= LONG_LENGTH || end > sectionEnd) break;
       const head = headOf(reader);

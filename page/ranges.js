@@ -61,17 +61,23 @@ function* newRows(unit, start, kinds, hasPlaces) {
 // The addresses of a function, a block or a unit, as pairs; null where none are given.
 export function rangesOf(entry) {
   const { unit } = entry, low = unit.number(entry, AT.lowPc), high = entry.fields.get(AT.highPc), list = entry.fields.get(AT.ranges);
-  if (entry.ranges) return entry.ranges;
-  if (list) {
-    const rows = unit.version < 5 ? oldRows(unit, list, OLD_RANGES, false)
-      : newRows(unit, startOf(unit, list, RANGES, AT.rangesBase), RANGE_ROWS, false);
-    entry.ranges = [...rows].map(({ begin, end }) => [begin, end]);
-    unit.dwarf.spend(entry.ranges.length);
-    return entry.ranges;
-  }
+  if (list) return entry.ranges ?? listed(entry, list);
   if (low === undefined || !high) return null;
   const value = unit.number(entry, AT.highPc);
   return [[low, isAddress(high) ? value : low + value]];
+}
+
+// Reads a list of addresses once: one that can't be read is empty from then on.
+function listed(entry, list) {
+  const { unit } = entry;
+  entry.ranges = [];
+  unit.dwarf.spend(1);
+  const rows = unit.version < 5 ? oldRows(unit, list, OLD_RANGES, false)
+    : newRows(unit, startOf(unit, list, RANGES, AT.rangesBase), RANGE_ROWS, false);
+  const ranges = [...rows].map(({ begin, end }) => [begin, end]);
+  unit.dwarf.spend(ranges.length);
+  entry.ranges = ranges;
+  return ranges;
 }
 
 export const isWithin = (ranges, address) => ranges.some(([begin, end]) => begin <= address && address < end);
