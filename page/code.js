@@ -11,9 +11,10 @@ const MOST_ROWS = 1500;
 const HALF_DIGITS = /^0[xX][0-9a-fA-F]{4}$/, SHORT_DIGITS = /^(?:0[xX][0-9a-fA-F]{1,4}|[0-9]{1,5})$/;
 
 export class Code {
-  // `edit` takes the scenario after an edit, `alter` a line that alters the run at its step; `refuse` a sentence.
-  constructor({ edit, alter, refuse }) {
-    Object.assign(this, { edit, alter, refuse, isa: USUAL, shown: null, at: null, writing: null, pc: null, step: 0 });
+  // `edit` takes the scenario after an edit, `alter` a line that alters the run at its step; `refuse` a sentence. `shows` is told the
+  // address whose function is shown.
+  constructor({ edit, alter, refuse, shows }) {
+    Object.assign(this, { edit, alter, refuse, shows, isa: USUAL, shown: null, at: null, writing: null, pc: null, step: 0 });
     $('function').addEventListener('change', () => this.visit(Number($('function').value)));
   }
 
@@ -39,6 +40,7 @@ export class Code {
     if (scrolls) $('code-part').scrollIntoView({ block: 'nearest' });
     const row = $('code-rows').querySelector('.at');
     if (row) $('code').scrollTop = row.offsetTop - $('code').clientHeight / 2;
+    this.shows(address);
   }
 
   // The words, or the instructions of either length, that are shown; null where no function is. `starts` are their addresses.

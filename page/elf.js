@@ -46,8 +46,8 @@ export class Elf {
     for (let i = 0; i < segmentCount; i++) this.readSegment(segments + i * segmentSize);
     for (let i = 0; i < sectionCount; i++) {
       const at = sections + i * sectionSize;
-      const [name, kind, , , begin, size, link] = [0, 1, 2, 3, 4, 5, 6].map((field) => this.word(at + 4 * field));
-      this.sections.push({ name, kind, begin, size, link });
+      const [name, kind, , address, begin, size, link] = [0, 1, 2, 3, 4, 5, 6].map((field) => this.word(at + 4 * field));
+      this.sections.push({ name, kind, address, begin, size, link });
     }
     const strings = this.sections[names]?.begin ?? this.bytes.length;
     for (const it of this.sections) it.name = this.string(strings + it.name);

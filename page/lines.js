@@ -1,89 +1,42 @@
 // Source lines of addresses, from the rows of .debug_line: versions 2 to 5 of DWARF. Nothing proves them.
+import { Reader, Unknown } from './reader.js';
+
 const COPY = 1, ADVANCE_PC = 2, ADVANCE_LINE = 3, SET_FILE = 4, CONST_ADD_PC = 8, FIXED_ADVANCE_PC = 9;
 const END_SEQUENCE = 1, SET_ADDRESS = 2;
-const PATH = 1;
+const PATH = 1, FOLDER = 2;
 const MOST_ROWS = 2000000;
-const FORM = { string: 0x08, line_strp: 0x1f, strp: 0x0e, data1: 0x0b, data2: 0x05, udata: 0x0f, data16: 0x1e };
 
-class Unknown extends Error {}
-
-class Reader {
-  constructor(elf, at) {
-    Object.assign(this, { elf, at });
-  }
-
-  byte() { return this.elf.view.getUint8(this.at++); }
-  signedByte() { return this.elf.view.getInt8(this.at++); }
-  half() { return this.elf.half((this.at += 2) - 2); }
-  word() { return this.elf.word((this.at += 4) - 4); }
-
-  unsigned() {
-    let value = 0, byte, scale = 1;
-    do {
-      byte = this.byte();
-      value += (byte & 127) * scale;
-      scale *= 128;
-    } while (byte & 128);
-    return value;
-  }
-
-  signed() {
-    let value = 0, byte, scale = 1;
-    do {
-      byte = this.byte();
-      value += (byte & 127) * scale;
-      scale *= 128;
-    } while (byte & 128);
-    return byte & 64 ? value - scale : value;
-  }
-
-  string() {
-    const text = this.elf.string(this.at);
-    while (this.byte());
-    return text;
-  }
-
-  form(form) {
-    const strings = { [FORM.line_strp]: '.debug_line_str', [FORM.strp]: '.debug_str' }[form];
-    if (strings) {
-      const section = this.elf.section(strings), at = this.word();
-      return section ? this.elf.string(section.begin + at) : '?';
+// A table of folders or files, as version 5 has it: each path, and the number of its folder.
+function pathsOf(reader) {
+  const kinds = Array.from({ length: reader.byte() }, () => [reader.unsigned(), reader.unsigned()]);
+  if (!kinds.length) throw new Unknown('paths of no form');
+  return Array.from({ length: reader.unsigned() }, () => {
+    const it = { path: '?', folder: 0 };
+    for (const [kind, form] of kinds) {
+      const value = reader.form(form);
+      if (kind === PATH) it.path = value;
+      else if (kind === FOLDER) it.folder = value;
     }
-    switch (form) {
-      case FORM.string: return this.string();
-      case FORM.data1: return this.byte();
-      case FORM.data2: return this.half();
-      case FORM.udata: return this.unsigned();
-      case FORM.data16: return (this.at += 16, 0);
-      default: throw new Unknown(`form ${form}`);
-    }
-  }
+    return it;
+  });
+}
 
-  // A table of folders or files, as version 5 has it: the paths.
-  paths() {
-    const kinds = Array.from({ length: this.byte() }, () => [this.unsigned(), this.unsigned()]);
-    if (!kinds.length) throw new Unknown('paths of no form');
-    return Array.from({ length: this.unsigned() }, () => {
-      let path = '?';
-      for (const [kind, form] of kinds) {
-        const value = this.form(form);
-        if (kind === PATH) path = value;
-      }
-      return path;
-    });
+// The paths of an older version, which count from 1. Those of files have more fields.
+function oldPathsOf(reader, areFiles) {
+  const paths = [{ path: areFiles ? '?' : '', folder: 0 }];
+  while (reader.elf.bytes[reader.at]) {
+    const path = reader.string(), [folder] = areFiles ? [reader.unsigned(), reader.unsigned(), reader.unsigned()] : [0];
+    paths.push({ path, folder });
   }
+  reader.at++;
+  return paths;
+}
 
-  // The files of an older version, which count from 1.
-  oldPaths() {
-    while (this.elf.bytes[this.at]) this.string();
-    this.at++;
-    const paths = ['?'];
-    while (this.elf.bytes[this.at]) {
-      paths.push(this.string());
-      this.unsigned(), this.unsigned(), this.unsigned();
-    }
-    return paths;
-  }
+// The paths of files, each with its folder and that of the unit before it, as far as they are known.
+function whole(folders, files) {
+  const under = (folder, path) => (folder && folder !== '?' && !path.startsWith('/') ? `${folder}/${path}` : path);
+  const places = folders.map(({ path }, i) => (i ? under(folders[0].path, path) : path));
+  return files.map(({ path, folder }) => under(places[folder], path));
 }
 
 function head(reader) {
@@ -97,16 +50,15 @@ function head(reader) {
   reader.at++;
   const [base, range, first] = [reader.signedByte(), reader.byte(), reader.byte()];
   const fields = [0, ...Array.from({ length: first - 1 }, () => reader.byte())];
-  if (version < 5) return { end, program, least, base, range, first, fields, paths: reader.oldPaths() };
-  reader.paths();
-  return { end, program, least, base, range, first, fields, paths: reader.paths() };
+  const [folders, files] = version < 5 ? [oldPathsOf(reader, false), oldPathsOf(reader, true)] : [pathsOf(reader), pathsOf(reader)];
+  return { end, program, least, base, range, first, fields, paths: whole(folders, files) };
 }
 
 // The rows of one unit.
 function* rowsOf(reader, it) {
   reader.at = it.program;
   let address = 0, file = 1, line = 1;
-  const row = (isEnd) => ({ address, line, isEnd, file: (it.paths[file] ?? '?').replace(/.*\//, '') });
+  const row = (isEnd) => ({ address, line, isEnd, path: it.paths[file] ?? '?' });
   while (reader.at < it.end) {
     const code = reader.byte();
     if (code >= it.first) {
@@ -150,18 +102,64 @@ function allRows(elf) {
   return rows;
 }
 
-// A function that tells the place of an address, such as `station.c:34`, or null.
-export function sourceLines(elf) {
-  const rows = allRows(elf).filter((it) => it.address).map((it, order) => ({ ...it, order }));
-  rows.sort((a, b) => a.address - b.address || b.isEnd - a.isEnd || a.order - b.order);
-  return (address) => {
-    let low = 0, high = rows.length;
+// The name of a file without its folders.
+export const nameIn = (path) => path.replace(/.*\//, '');
+
+// The lines of a program's sources: where an address comes from.
+export class Lines {
+  constructor(elf) {
+    this.rows = allRows(elf).filter((it) => it.address).map((it, order) => ({ ...it, order }));
+    this.rows.sort((a, b) => a.address - b.address || b.isEnd - a.isEnd || a.order - b.order);
+  }
+
+  // How many rows begin at an address or before it.
+  countTo(address) {
+    let low = 0, high = this.rows.length;
     while (low < high) {
       const middle = (low + high) >> 1;
-      if (rows[middle].address <= address) low = middle + 1;
+      if (this.rows[middle].address <= address) low = middle + 1;
       else high = middle;
     }
-    const found = rows[low - 1];
-    return found && !found.isEnd && found.line ? `${found.file}:${found.line}` : null;
-  };
+    return low;
+  }
+
+  // The path and the line of an address, or null.
+  placeAt(address) {
+    const found = this.rows[this.countTo(address) - 1];
+    return found && !found.isEnd && found.line ? { path: found.path, line: found.line } : null;
+  }
+
+  // The path and the line of the first row of an address: where a function begins, if it is the function's.
+  openingAt(address) {
+    const found = this.rows[this.countTo(address - 1)];
+    return found?.address === address && !found.isEnd && found.line ? { path: found.path, line: found.line } : this.placeAt(address);
+  }
+
+  // The place of an address as text, such as `station.c:34`.
+  lineOf(address) {
+    const place = this.placeAt(address);
+    return place && `${nameIn(place.path)}:${place.line}`;
+  }
+
+  // The paths of all files of which there is a line.
+  get paths() {
+    this.all ??= new Set(this.rows.map((it) => it.path));
+    return this.all;
+  }
+
+  // The lines of a file that have code from one address on, below another one, each with its first address.
+  linesIn(path, begin, end) {
+    const found = new Map();
+    for (let i = this.countTo(begin - 1); i < this.rows.length && this.rows[i].address < end; i++) {
+      const { address, line, isEnd, path: other } = this.rows[i];
+      if (!isEnd && other === path && !found.has(line)) found.set(line, address);
+    }
+    return found;
+  }
+}
+
+// A function that tells the place of an address, such as `station.c:34`, or null.
+export function sourceLines(elf) {
+  const lines = new Lines(elf);
+  return (address) => lines.lineOf(address);
 }

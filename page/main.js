@@ -1,4 +1,5 @@
 // The page: holds the scenario and the step, asks sessions for reports, and has the parts of the page show them.
+import { inBatches } from './batches.js';
 import { regionAdvice } from './boards.js';
 import { Bytes } from './bytes.js';
 import { Code } from './code.js';
@@ -8,8 +9,8 @@ import { Elf } from './elf.js';
 import { ERROR_KINDS, LAST_STEP, LEAK_KINDS, MODULE_SUM } from './facts.js';
 import { History } from './history.js';
 import { isaIn, isaLines, unitOf } from './isa.js';
-import { Machine } from './machine.js';
-import { grouped, hexByte, many } from './numbers.js';
+import { Machine, parseMemory } from './machine.js';
+import { grouped, hexByte, hexWord, many } from './numbers.js';
 import { Opened } from './opened.js';
 import { Opening } from './opening.js';
 import { loadModule, makeWorker } from './resources.js';
@@ -19,9 +20,11 @@ import { Roving } from './roving.js';
 import { NoEdit } from './scenario.js';
 import { meetsRegion, notLoaded, sentence } from './sentences.js';
 import { Refused } from './sessions.js';
+import { Source } from './source.js';
 import { Search, Steps } from './steps.js';
 import { Strip } from './strip.js';
 import { SweepPart } from './sweep-part.js';
+import { Stale, VariablesPart } from './variables-part.js';
 import { Verdict } from './verdict.js';
 
 const words = new URLSearchParams(location.search);
@@ -30,10 +33,10 @@ const WORKERS = Number(words.get('workers')) || navigator.hardwareConcurrency ||
 const SHORT_RUN = 100000;  // steps of a run whose edits are all made as it is opened
 const QUIET = 300;  // milliseconds after an edit, before landmarks are searched and the link is changed
 const LONG = 600;  // milliseconds after which work is told, with a button that stops it
-const PARTS = ['step', 'strip', 'input', 'report', 'edits', 'code', 'machine'];
+const PARTS = ['step', 'strip', 'input', 'report', 'edits', 'code', 'source', 'machine', 'variables'];
 // Parts that are one stop of the Tab key each, and what a row is in them.
 const ROVING = [['examples', 'nav'], ['landmarks', 'div'], ['legend-rows'], ['chips', 'li'], ['report', 'li, p'], ['code-rows'],
-  ['registers', 'li'], ['bits', '#bits'], ['memory-rows']];
+  ['registers', 'li'], ['bits', '#bits'], ['memory-rows'], ['source-rows'], ['variable-rows'], ['global-rows']];
 const CHANGES_NOTHING = /^(?:#.*|report|worked|)$/;  // lines of a text that are no edits
 const BEYOND_STEPS = 5;  // the number with which a session refuses a step
 
@@ -46,13 +49,15 @@ class App {
     const edit = (scenario, series) => this.edit(scenario, series);
     const refuse = (text, how) => this.notice(text, how);
     const make = (...edit) => this.make(...edit);
-    this.opening = new Opening({ open: (files, how) => this.open(files, how), refuse });
+    this.source = new Source({ visit: (address) => this.code.visit(address), refuse });
+    this.opening = new Opening({ open: (files, how) => this.open(files, how), refuse, source: this.source });
     this.bytes = new Bytes({ edit, tell: (at) => this.byteTold(at), moved: () => this.sweeps?.picture.draw() });
     const alter = (line) => this.edit(this.scenario.after(line));
-    this.code = new Code({ edit, alter, refuse });
+    this.code = new Code({ edit, alter, refuse, shows: (address) => this.source.visit(address) });
     this.machine = new Machine({ look: (lines) => this.opened.session.replies(this.shown.scenario, this.shown.step, lines),
-      again: () => this.showMachine(), alter, refuse, showPc: (pc, step) => this.code.showPc(pc, step),
+      again: () => this.showMachine(), alter, refuse, showPc: (pc, step) => this.showPlace(pc, step),
       visit: (address) => this.code.visit(address) });
+    this.variables = new VariablesPart({ show: (address) => this.machine.goTo(hexWord(address)), fail: (fault) => this.unread(fault) });
     this.reports = new Reports({ lineOf: (address) => this.opened.lineOf(address), visit: (address) => this.code.visit(address),
       suppress: (text) => this.edit(this.scenario.withSuppression(text)), kinds: { errors: ERROR_KINDS, leaks: LEAK_KINDS } });
     this.verdict = new Verdict({ lineOf: (address) => this.opened.lineOf(address), isa: () => this.opened.isa, go: (step) => this.go(step),
@@ -216,6 +221,8 @@ class App {
     document.title = `${title} — replaycheck`;
     this.steps.open(last, follow);
     this.strip.open(opened);
+    this.source.open(opened, this.opening.ownSources);
+    this.variables.open(opened.variables);
     this.code.open(opened, scenario);
     this.machine.open();
     if (lines.length) this.use(lines.join('\n'));
@@ -423,6 +430,26 @@ class App {
       const isWanted = shown === this.shown && shown.scenario === this.scenario && shown.step === this.step;
       if (turn === this.turn && isWanted) this.notice(sentence(fault, LIMIT));
     }
+  }
+
+  // Shows where the run is: its code, its line and its variables.
+  showPlace(pc, step) {
+    const { shown, seen } = this.machine, { session } = this.opened;
+    this.code.showPc(pc, step);
+    this.source.follow(pc, step);
+    const look = inBatches((lines) => {
+      if (shown.step !== this.step || shown.scenario !== this.scenario) throw new Stale();  // or the session would have to go back
+      return session.replies(shown.scenario, shown.step, lines);
+    });
+    this.variables.show(pc, seen.registers, async (address, length) => {
+      const bytes = parseMemory(await look(`look memory ${hexWord(address)} ${length}`));
+      return { bytes: bytes.map((it) => it.value), undefined: bytes.map((it) => it.undef) };
+    });
+  }
+
+  // Tells a fault of a look, unless what was looked at is no longer wanted.
+  unread(fault) {
+    if (this.shown?.scenario === this.scenario && this.shown?.step === this.step) this.notice(sentence(fault, LIMIT));
   }
 
   // Asks the program whether uninitialised memory has an influence on what is shown.

@@ -3,11 +3,12 @@ import { LAST_STEP } from './facts.js';
 import { Elf } from './elf.js';
 import { boardAdvice } from './boards.js';
 import { unseenHeap } from './heap.js';
-import { sourceLines } from './lines.js';
+import { Lines } from './lines.js';
 import { parseReport } from './report.js';
 import { Scenario } from './scenario.js';
 import { Session } from './sessions.js';
 import { endOf } from './steps.js';
+import { Variables } from './variables.js';
 
 const BEYOND = 4096;  // steps after the end of the unedited run, and three times as many as it has
 const MOST_BEFORE = 500;  // reports of the unedited run that are kept
@@ -19,10 +20,11 @@ export class Opened {
   // `base` is the input as it is read, a value of its own for each opening: scenarios over it are of these files and of this
   // instruction set.
   constructor(files, module, base, { isa, limit, again, lines, makeWorker }) {
-    const elf = new Elf(files.program.bytes);
+    const elf = new Elf(files.program.bytes), lineTable = new Lines(elf);
     const given = Object.fromEntries(Object.entries(files).map(([role, it]) => [role, it.bytes]));
     this.program = { module, files: given, isa, base, elf, limit, again, makeWorker, loaded: (at, length) => elf.loaded(at, length) };
-    Object.assign(this, { files, isa, elf, base, plain: new Scenario(base), before: new Map(), lineOf: remembered(sourceLines(elf)) });
+    Object.assign(this, { files, isa, elf, base, plain: new Scenario(base), before: new Map() });
+    Object.assign(this, { lines: lineTable, lineOf: remembered((address) => lineTable.lineOf(address)), variables: new Variables(elf) });
     this.session = new Session(this.program, lines);
     this.unedited = new Session(this.program);
     this.search = new Session(this.program);

@@ -1,6 +1,7 @@
 // The files that are given: from the disk, dropped, from an example, or named by a link.
 import { $, element } from './dom.js';
-import { EXAMPLES } from './examples.js';
+import { filesIn, givenBy } from './dropped.js';
+import { EXAMPLES, SOURCES } from './examples.js';
 import { ISAS } from './facts.js';
 import { USUAL } from './isa.js';
 import { Kept } from './kept.js';
@@ -26,12 +27,15 @@ async function sumOf(bytes) {
   return [...sum].map((it) => it.toString(16).padStart(2, '0')).join('').slice(0, SUM_DIGITS);
 }
 
+class TooLarge extends Error {}
+
 const hasFiles = (event) => event.dataTransfer?.types.includes('Files');
 
 export class Opening {
-  // `open` takes files by their roles, each with a name and bytes, and gives whether they were opened; `refuse` a sentence.
-  constructor({ open, refuse }) {
-    Object.assign(this, { open, refuse, files: {}, example: null, isa: USUAL, wanted: null, kept: new Kept() });
+  // `open` takes files by their roles, each with a name and bytes, and gives whether they were opened; `refuse` a sentence; `source` has
+  // the source files.
+  constructor({ open, refuse, source }) {
+    Object.assign(this, { open, refuse, source, files: {}, example: null, isa: USUAL, wanted: null, kept: new Kept() });
     this.isForgotten = false;
     for (const role of ROLES) {
       $(`open-${role}`).addEventListener('change', (event) => this.chosen(role, event.target));
@@ -54,25 +58,56 @@ export class Opening {
 
   async dropped(event) {
     event.preventDefault();
-    await this.takeRead([...event.dataTransfer.files], ({ name, bytes }) => {
-      if (isElf(bytes)) return 'program';
-      return isSuppressions(name, bytes) ? 'supp' : 'input';
-    });
+    const { files, folders } = givenBy(event.dataTransfer);
+    const read = await this.readAll(files);
+    if (!read) return;
+    const program = read.findLast(({ bytes }) => isElf(bytes)), paths = this.source.pathsOf(program?.bytes);
+    const isOne = ({ name, bytes }) => !isElf(bytes) && this.source.isOne(name, paths);
+    const inFolders = await this.readFolders(folders, paths);
+    const sources = [...read.filter(isOne).map(({ name, bytes }) => ({ path: name, bytes })), ...inFolders];
+    if (sources.length) this.source.take(sources, program?.name);
+    else if (folders.length) this.refuse(this.source.noSource(0, paths));
+    const roleOf = ({ name, bytes }) => (isElf(bytes) ? 'program' : isSuppressions(name, bytes) ? 'supp' : 'input');
+    await this.takeAll(read.filter((it) => !isOne(it)), roleOf);
+  }
+
+  // Reads the source files in folders.
+  async readFolders(folders, paths) {
+    try {
+      const found = await filesIn(folders, (path) => this.source.isOne(path, paths));
+      const read = await this.readAll(found.map(({ file }) => file)) ?? [];
+      return read.map(({ bytes }, i) => ({ path: found[i].path, bytes }));
+    } catch (fault) {
+      this.refuse(`The folder can’t be read (${fault.message}).`);
+      return [];
+    }
   }
 
   // Reads files and takes each in its role.
   async takeRead(files, roleOf) {
-    const found = {};
+    const read = await this.readAll(files);
+    return read ? this.takeAll(read, roleOf) : undefined;
+  }
+
+  // The names and bytes of files, null where one can't be read, which a sentence says.
+  async readAll(files) {
+    const found = [];
     for (const file of files) {
-      if (file.size > LARGEST) return this.refuse(`“${file.name}” has ${size(file.size)}, which is too much for any file here.`);
       try {
-        const it = { name: file.name, bytes: new Uint8Array(await file.arrayBuffer()) };
-        found[roleOf(it)] = it;
+        if (file.size > LARGEST) throw new TooLarge();
+        found.push({ name: file.name, bytes: new Uint8Array(await file.arrayBuffer()) });
       } catch (fault) {
-        return this.refuse(`“${file.name}” can’t be read (${fault.message}). Is it a folder?`);
+        const told = fault instanceof TooLarge ? `has ${size(file.size)}, which is too much for any file here.`
+          : `can’t be read (${fault.message}). Is it a folder?`;
+        this.refuse(`“${file.name}” ${told}`);
+        return null;
       }
     }
-    return files.length ? this.take(found) : undefined;
+    return found;
+  }
+
+  takeAll(read, roleOf) {
+    return read.length ? this.take(Object.fromEntries(read.map((it) => [roleOf(it), it]))) : undefined;
   }
 
   // Takes files beside those that are there. Another program begins without the old one's input and suppressions; what is
@@ -137,6 +172,9 @@ export class Opening {
     if (notice && files === this.files) this.refuse(notice);
     if (this.wanted) this.refuse(`Still missing is ${this.missing(files)}`);
   }
+
+  // The sources of the example that is open, which are part of the page.
+  get ownSources() { return (this.example?.sources ?? []).map((path) => ({ path, text: SOURCES[path] })); }
 
   // Notes what is open now.
   hold(files, example, isa) {

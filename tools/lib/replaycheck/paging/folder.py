@@ -46,16 +46,18 @@ def encoded(path):
 
 
 def examples():
-    """The examples that the page offers, with their files."""
-    made = []
+    """The examples that the page offers, with their files, and the text of their sources."""
+    made, sources = [], {}
     for it in json.loads((SOURCES / "examples.json").read_text()):
-        example = {"name": it["name"], "about": " ".join(it["about"]), **{role: it[role] for role in ("goal", "isa") if role in it}}
+        optional = {role: it[role] for role in ("goal", "isa", "sources") if role in it}
+        example = {"name": it["name"], "about": " ".join(it["about"]), **optional}
         for role in ("program", "input"):
             if role in it:
                 path = EXAMPLES / it[role]
                 example[role], example[f"{role}Bytes"] = path.name, encoded(path)
         made.append(example)
-    return constant("EXAMPLES", made)
+        sources.update((path, (EXAMPLES / path).read_text()) for path in it.get("sources", ()))
+    return constant("EXAMPLES", made) + constant("SOURCES", sources)
 
 
 def modules_of(module):
