@@ -46,6 +46,7 @@ export class Blocks {
   // `callerOf` tells which function a trace is of, beside those of the heap; `show` shows the memory at an address.
   constructor({ callerOf, show }) {
     Object.assign(this, { callerOf, showMemory: show, canvas: $('blocks'), blocks: [], isWhole: true, changed: new Map(), picked: 0 });
+    Object.assign(this, { frame: null, map: null });
     this.canvas.addEventListener('pointermove', (event) => this.point(event));
     this.canvas.addEventListener('click', (event) => {
       this.point(event);
@@ -94,20 +95,35 @@ export class Blocks {
 
   // ---- the map
 
+  // Draws the map in the next frame, however often it is asked to until then.
   draw() {
-    const scale = devicePixelRatio || 1, wide = $('blocks-frame').clientWidth;
-    if (!wide || !this.blocks.length) return;
+    this.frame ??= requestAnimationFrame(() => {
+      this.frame = null;
+      this.paint();
+    });
+  }
+
+  // Where the blocks that are shown are in the map, null where none is seen.
+  get places() {
+    const wide = $('blocks-frame').clientWidth;
+    if (!wide || !this.blocks.length) return null;
     if (this.map?.blocks !== this.blocks || this.map.wide !== wide) this.map = new BlockMap(this.blocks, wide);
-    this.canvas.style.height = `${this.map.rows * TALL}px`;
-    this.canvas.width = Math.round(wide * scale);
-    this.canvas.height = Math.round(this.map.rows * TALL * scale);
+    return this.map;
+  }
+
+  paint() {
+    const scale = devicePixelRatio || 1, map = this.places;
+    if (!map) return;
+    this.canvas.style.height = `${map.rows * TALL}px`;
+    this.canvas.width = Math.round(map.wide * scale);
+    this.canvas.height = Math.round(map.rows * TALL * scale);
     const on = this.canvas.getContext('2d'), style = getComputedStyle(this.canvas);
     const [live, freed, ink, pick] = ['--heap', '--quiet', '--ink', '--pick'].map((it) => style.getPropertyValue(it));
     on.scale(scale, scale);
     this.blocks.forEach((block, index) => {
-      for (const part of this.map.partsOf(index)) this.drawPart(on, block, part, { live, freed, ink });
+      for (const part of map.partsOf(index)) this.drawPart(on, block, part, { live, freed, ink });
     });
-    for (const part of this.map.partsOf(this.picked)) this.outline(on, part, pick);
+    for (const part of map.partsOf(this.picked)) this.outline(on, part, pick);
   }
 
   drawPart(on, { start, isLive }, { x, row, wide }, { live, freed, ink }) {
@@ -127,7 +143,7 @@ export class Blocks {
     if (!this.changed.has(start)) return;
     on.fillStyle = ink;
     on.beginPath();
-    on.arc(x + Math.min(wide, LISTED) / 2, row * TALL + DOT + 0.5, DOT, 0, 2 * Math.PI);
+    on.arc(x + wide / 2, row * TALL + DOT + 0.5, DOT, 0, 2 * Math.PI);
     on.fill();
   }
 
@@ -139,12 +155,14 @@ export class Blocks {
 
   point({ clientX, clientY }) {
     const { left, top } = this.canvas.getBoundingClientRect();
-    if (this.map && this.blocks.length) this.pick(this.map.at(clientX - left, Math.floor((clientY - top) / TALL)));
+    const { places } = this;
+    if (places) this.pick(places.at(clientX - left, Math.floor((clientY - top) / TALL)));
   }
 
   key(event) {
-    if (!this.blocks.length || event.ctrlKey || event.altKey || event.metaKey) return;
-    const next = this.map?.next(this.picked, event.key) ?? null;
+    const { places } = this;
+    if (!places || event.ctrlKey || event.altKey || event.metaKey) return;
+    const next = places.next(this.picked, event.key);
     if (next !== null) this.pick(next);
     else if (event.key === 'Enter') this.choose();
     else return;
@@ -154,7 +172,7 @@ export class Blocks {
 
   // Has the row of the block that is picked in view.
   scroll() {
-    const [part] = this.map.partsOf(this.picked), frame = $('blocks-frame'), top = part.row * TALL;
+    const [part] = this.places.partsOf(this.picked), frame = $('blocks-frame'), top = part.row * TALL;
     if (top < frame.scrollTop) frame.scrollTop = top;
     else if (top + TALL > frame.scrollTop + frame.clientHeight) frame.scrollTop = top + TALL - frame.clientHeight;
   }
@@ -210,7 +228,7 @@ export class Blocks {
     const button = element('button', { className: index === this.picked ? 'here' : '', onclick: choose }, hexWord(block.start));
     button.dataset.held = `block ${block.start}`;
     return element('tr', {}, element('td', {}, button), element('td', { className: 'number' }, grouped(block.size)),
-      element('td', {}, element('span', { className: this.changed.has(block.start) ? 'changed' : '' }, this.how(block))),
+      element('td', {}, element(this.changed.has(block.start) ? 'strong' : 'span', {}, this.how(block))),
       element('td', {}, this.callerOf(block.trace)));
   }
 }

@@ -13,7 +13,7 @@ const HALF_DIGITS = /^0[xX][0-9a-fA-F]{4}$/, SHORT_DIGITS = /^(?:0[xX][0-9a-fA-F
 export class Code {
   // `edit` takes the scenario after an edit, `alter` a line that alters the run at its step; `refuse` a sentence.
   constructor({ edit, alter, refuse }) {
-    Object.assign(this, { edit, alter, refuse, isa: USUAL, shown: null, at: null, writing: null, pc: null, step: 0, rows: new Map() });
+    Object.assign(this, { edit, alter, refuse, isa: USUAL, shown: null, at: null, writing: null, pc: null, step: 0, rows: new Map(), frame: null });
     $('function').addEventListener('change', () => this.visit(Number($('function').value)));
   }
 
@@ -87,15 +87,16 @@ export class Code {
     Object.assign(this, { pc, step });
     if (leaves && !this.rows.has(pc)) this.turnTo(pc, null);
     else if (pc !== before || isStep) for (const it of new Set([before, pc])) this.renderRow(it);
-    if (leaves) this.showRow(this.rows.get(pc));
+    if (leaves) this.frame ??= requestAnimationFrame(() => this.showRow());
   }
 
   // Whether the focus is among the rows.
   get isHeld() { return $('code-rows').contains(document.activeElement); }
 
-  // Has a row in view, without moving the page.
-  showRow(row) {
-    const { scrollTop, clientHeight } = $('code');
+  // Has the row where the run is in view, without moving the page.
+  showRow() {
+    const { scrollTop, clientHeight } = $('code'), row = this.rows.get(this.pc);
+    this.frame = null;
     if (row && (row.offsetTop < scrollTop + row.clientHeight || row.offsetTop + row.clientHeight > scrollTop + clientHeight)) {
       $('code').scrollTop = row.offsetTop - clientHeight / 2;
     }

@@ -5,7 +5,7 @@ import { Blocks, changedBlocks, parseBlocks, readBlocks } from './blocks.js';
 import { $, say } from './dom.js';
 import { HEAP_NAMES } from './facts.js';
 import { grouped, hexWord, numberOf } from './numbers.js';
-import { Memory, SEEN, WIDE, knownOf } from './memory.js';
+import { GRAIN, Memory, SEEN, knownOf } from './memory.js';
 import { Registers } from './registers.js';
 import { Stack, moved, parseStack } from './stack.js';
 
@@ -79,7 +79,7 @@ export class Machine {
     clearTimeout(this.timer);
     const seen = parseRegisters(registers);
     this.showPc(seen.pc, shown.step);
-    const sp = seen.registers[STACK].value, at = Math.min(this.chosen ?? sp - sp % WIDE, HIGHEST - SEEN);
+    const sp = seen.registers[STACK].value, at = Math.min(this.chosen ?? sp - sp % GRAIN, HIGHEST - SEEN);
     const line = memoryLine(at), text = shown.lines.at(-1) === line ? memory : (await this.look(shown.step, [line]))[0];
     if (wanted !== this.wanted) return;
     if (shown.scenario !== this.scenario) this.tellAsked('');

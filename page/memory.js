@@ -3,9 +3,10 @@ import { $, element, say } from './dom.js';
 import { hexByte, hexWord, letter, numberOf } from './numbers.js';
 import { writeLine } from './scenario.js';
 
-const ROWS = 8;
-export const WIDE = 16;
-export const SEEN = ROWS * WIDE;  // bytes that are shown
+export const SEEN = 128;  // bytes that are shown
+export const GRAIN = 16;  // at a multiple of it the bytes of the stack begin
+const WIDE = 16, NARROW = 8;  // bytes of a row, on a page of this width
+const IS_NARROW = matchMedia('(max-width: 40rem)');
 
 const SINCE = { inaccessible: 'Inaccessible since?', undefined: 'Undefined since?', defined: 'Defined since?' };
 
@@ -23,16 +24,19 @@ export class Memory {
     });
     $('memory-stack').addEventListener('click', () => choose(null));
     for (const it of ['wrote', 'since']) $(`byte-${it}`).addEventListener('click', () => ask(it, { byte: this.picked }));
-    this.build();
+    IS_NARROW.addEventListener('change', () => this.bytes.length && this.build());
   }
 
+  // Makes the rows, of as many bytes as the page has room for.
   build() {
-    this.rows = Array.from({ length: ROWS }, (_, row) => {
-      const cells = Array.from({ length: WIDE }, (_, i) => this.cell(row * WIDE + i));
-      return { head: element('th', { scope: 'row', className: 'quiet' }), cells,
-        letters: element('td', { className: 'quiet letters', 'aria-hidden': 'true' }) };
-    });
-    this.cells = this.rows.flatMap((it) => it.cells);
+    const wide = this.wide = IS_NARROW.matches ? NARROW : WIDE;
+    this.endWriting();
+    this.cells = Array.from({ length: SEEN }, (_, i) => this.cell(i));
+    this.rows = Array.from({ length: SEEN / wide }, () => ({ head: element('th', { scope: 'row', className: 'quiet' }),
+      letters: element('td', { className: 'quiet letters', 'aria-hidden': 'true' }) }));
+    $('memory-rows').replaceChildren(...this.rows.map(({ head, letters }, row) =>
+      element('tr', {}, head, ...this.cells.slice(row * wide, (row + 1) * wide).map((it) => it.place), letters)));
+    this.render();
   }
 
   cell(index) {
@@ -50,17 +54,19 @@ export class Memory {
   show({ at, bytes, step, runs }) {
     if (at !== this.at || step !== this.step || !runs) this.endWriting();
     Object.assign(this, { at, bytes, step, runs, changed: new Set() });
-    if (!$('memory-rows').childElementCount) {
-      $('memory-rows').replaceChildren(...this.rows.map(({ head, cells, letters }) =>
-        element('tr', {}, head, ...cells.map((it) => it.place), letters)));
-    }
     if (document.activeElement !== $('memory-at')) $('memory-at').value = hexWord(at);
+    if ($('memory-rows').childElementCount) this.render();
+    else this.build();
+    this.tellPicked();
+  }
+
+  render() {
+    const { wide, bytes } = this;
     this.rows.forEach(({ head, letters }, row) => {
-      head.textContent = hexWord(at + row * WIDE);
-      letters.replaceChildren(...bytes.slice(row * WIDE, (row + 1) * WIDE).map(({ value }) => element('span', {}, letter(value))));
+      head.textContent = hexWord(this.at + row * wide);
+      letters.replaceChildren(...bytes.slice(row * wide, (row + 1) * wide).map(({ value }) => element('span', {}, letter(value))));
     });
     for (let i = 0; i < SEEN; i++) this.update(i);
-    this.tellPicked();
   }
 
   // Marks bytes by their places among those that are shown.
@@ -78,8 +84,7 @@ export class Memory {
     const names = [known && knownOf(it), isChanged && 'changed', at === this.picked && 'here'].filter(Boolean).join(' ');
     if (button.title !== told) Object.assign(button, { title: told, ariaLabel: told, textContent: it.value.toString(16).padStart(2, '0') });
     if (button.className !== names) button.className = names;
-    const row = this.rows[Math.floor(index / WIDE)];
-    row.letters.children[index % WIDE].className = isChanged ? 'changed' : '';
+    this.rows[Math.floor(index / this.wide)].letters.children[index % this.wide].className = isChanged ? 'changed' : '';
   }
 
   goTo(text) {

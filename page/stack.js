@@ -36,7 +36,7 @@ export class Stack {
   // Shows all frames, and in which step the newest one came to be here.
   rest(how, step) {
     if (this.frames.length > FIRST) this.render(Infinity);
-    if (how) $('calls').firstElementChild?.append(element('strong', { className: 'changed' }, ` ${how} in step ${step}`));
+    if (how) $('calls').firstElementChild?.append(element('strong', {}, ` ${how} in step ${step}`));
   }
 
   // Brings rows in line with the frames: those that are as they were stay, so that none loses the focus.

@@ -293,7 +293,8 @@ def machine_in_turn(bench):
         page.set("step", page.run("replaycheck.steps.last"), "input")
         page.until("replaycheck.machine.seen?.runs === false")
         expect("exited 0, so nothing changes any more" in page.text("machine-told"), "the end isn't told")
-        same("what can be changed then", page.run("[...document.querySelectorAll('#machine :enabled:is(#bits *, #memory-rows *, "
+        page.click_on("#memory-rows button", 2)
+        same("what can be changed then", page.run("[...document.querySelectorAll('#machine :enabled:is(#bits *, #memory-rows input, "
                                                   "#register-value)')].length"), 0)
 
 
