@@ -13,7 +13,7 @@ const NO_ACCESS = '__';
 const HIGHEST = 2 ** 32;
 const STACK = 2;  // the register at whose bytes the memory begins, until an address is chosen
 const REST = 80;  // milliseconds without another step, after which the step before is looked at too
-const BLOCKS = 'look blocks 0';
+const BLOCKS = 'look blocks 0', CALLS_HEAP = /^\d+ heap /;
 
 // What looks at registers and at memory tell.
 export function parseRegisters(text) {
@@ -123,10 +123,10 @@ export class Machine {
 
   async restBlocks(lookAt, isStale) {
     const { step, shown } = this, read = (look, first) => readBlocks(look, first, isStale);
-    const now = await read(lookAt, shown.looks[2]);
+    const first = shown.looks[2], now = await read(lookAt, first);
     if (isStale() || !now) return;
-    if (this.blocks.step !== step || !now.isWhole || now.blocks.length !== this.blocks.blocks.length) this.blocks.show(now, step);
-    if (!step || (await lookAt(`look calls ${step - 1} ${step}`)).startsWith('end') || isStale()) return;
+    if (parseBlocks(first).next !== null) this.blocks.show(now, step);
+    if (!step || !CALLS_HEAP.test(await lookAt(`look calls ${step - 1} ${step}`)) || isStale()) return;
     const lookBefore = async (line) => (await this.look(step - 1, [line]))[0];
     const before = await read(lookBefore, await lookBefore(BLOCKS));
     if (!isStale() && before) this.blocks.mark(changedBlocks(before.blocks, now.blocks));

@@ -149,8 +149,8 @@ def without_lines(text):
 
 
 def panes_in_turn(bench):
-    """Calls, registers, memory, letters and blocks at random steps of five programs, edited and not, and what changed since the step before:
-    beside the program's looks."""
+    """Calls, registers, memory, letters and blocks at random steps of five programs, edited and not, and what changed since the step
+    before: beside the program's looks."""
     chance = random.Random(5)
     for name, edits in PROGRAMS:
         with bench.open(name) as page:
