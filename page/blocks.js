@@ -192,16 +192,14 @@ export class Blocks {
 
   // ---- in words
 
-  // Whether a block is live, and what the step before has done with it.
-  how({ start, isLive }) {
-    const how = this.changed.get(start), name = isLive ? 'live' : 'freed';
-    return how ? `${isLive ? `${name}, ` : ''}${how} in step ${grouped(this.step - 1)}` : name;
+  // Whether a block is live, what the step before has done with it, and the function of its trace.
+  state({ start, isLive, trace }) {
+    const how = this.changed.get(start), who = this.callerOf(trace), does = how ?? (isLive ? 'allocated' : 'freed');
+    const step = how ? ` in step ${grouped(this.step - 1)}` : '', by = who ? ` by ${who}` : '';
+    return `${isLive ? 'live, ' : ''}${does}${step}${by}`;
   }
 
-  told(block) {
-    const who = this.callerOf(block.trace), by = who ? `, ${block.isLive ? 'allocated' : 'freed'} by ${who}` : '';
-    return `${many(block.size, 'byte')} at ${hexWord(block.start)}, ${this.how(block)}${by}`;
-  }
+  told(block) { return `${many(block.size, 'byte')} at ${hexWord(block.start)}, ${this.state(block)}`; }
 
   tell() {
     const block = this.blocks[this.picked];
@@ -228,7 +226,6 @@ export class Blocks {
     const button = element('button', { className: index === this.picked ? 'here' : '', onclick: choose }, hexWord(block.start));
     button.dataset.held = `block ${block.start}`;
     return element('tr', {}, element('td', {}, button), element('td', { className: 'number' }, grouped(block.size)),
-      element('td', {}, element(this.changed.has(block.start) ? 'strong' : 'span', {}, this.how(block))),
-      element('td', {}, this.callerOf(block.trace)));
+      element('td', {}, element(this.changed.has(block.start) ? 'strong' : 'span', {}, this.state(block))));
   }
 }

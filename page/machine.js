@@ -172,10 +172,11 @@ export class Machine {
 
   // Says what a search has found, and goes there. Where it found nothing up to where it ended, it may go `further`.
   tellFound({ step, from }, told, further) {
-    this.tellAsked(told, this.step);
+    const leads = step !== null && step !== this.step;
+    this.tellAsked(told, leads ? this.step : null);
     $('asked-further').hidden = step !== null || from === 0;
     $('asked-further').onclick = further;
-    if (step !== null && step !== this.step) this.go(step);
+    if (leads) this.go(step);
   }
 
   tellAsked(text, from = null) {

@@ -1,6 +1,6 @@
 // Some bytes of memory at the step that is shown, with their letters. One is picked: another one is typed over it, and it is asked for.
 import { $, element, say } from './dom.js';
-import { hexByte, hexWord, letter, numberOf } from './numbers.js';
+import { grouped, hexByte, hexWord, letter, numberOf } from './numbers.js';
 import { writeLine } from './scenario.js';
 
 export const SEEN = 128;  // bytes that are shown
@@ -79,7 +79,7 @@ export class Memory {
   update(index) {
     const at = this.at + index, it = this.bytes[index], { button } = this.cells[index], isChanged = this.changed.has(index);
     const known = it.undef === null ? ', inaccessible' : it.undef ? `, undefined bits ${hexByte(it.undef)}` : '';
-    const since = isChanged ? `, changed since step ${this.step - 1}` : '';
+    const since = isChanged ? `, changed since step ${grouped(this.step - 1)}` : '';
     const told = `byte at ${hexWord(at)}: ${hexByte(it.value)}${known}${since}`;
     const names = [known && knownOf(it), isChanged && 'changed', at === this.picked && 'here'].filter(Boolean).join(' ');
     if (button.title !== told) Object.assign(button, { title: told, ariaLabel: told, textContent: it.value.toString(16).padStart(2, '0') });

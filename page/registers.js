@@ -1,7 +1,7 @@
 // The registers at the step that is shown. One is picked: it is set, its bits are turned, and it is asked for.
 import { $, element, say } from './dom.js';
 import { REGISTERS } from './instructions.js';
-import { hexWord, numberOf } from './numbers.js';
+import { grouped, hexWord, numberOf } from './numbers.js';
 import { flipLine, setLine } from './scenario.js';
 
 const WORD = 32, GROUP = 8;  // bits of a register, and of those that stand together
@@ -47,7 +47,7 @@ export class Registers {
   update(number) {
     const { value, undef } = this.seen.registers[number], button = this.buttons[number];
     const isChanged = this.changed.has(number), isPicked = number === this.picked;
-    const known = undef ? `, undefined bits ${hexWord(undef)}` : '', since = isChanged ? `, changed since step ${this.step - 1}` : '';
+    const known = undef ? `, undefined bits ${hexWord(undef)}` : '', since = isChanged ? `, changed since step ${grouped(this.step - 1)}` : '';
     const told = `${REGISTERS[number]}: ${hexWord(value)}${known}${since}`;
     if (button.title !== told) {
       Object.assign(button, { title: told, ariaLabel: told });

@@ -89,7 +89,7 @@ class Program:
     def expected(self, step, at):
         """What the page must show at a step."""
         before, now = self.seen(step, at)
-        since = f", changed since step {step - 1}"
+        since = f", changed since step {step - 1:,}"
         told = {"registers": [f"{NAMES[i]}: {value}{'' if int(undef, 16) == 0 else f', undefined bits {undef}'}"
                               f"{since if row != before[0][i] else ''}"
                               for i, row in enumerate(now[0][1:], 1) for _, value, undef in [row.split(" ")]]}
@@ -121,12 +121,11 @@ class Program:
             _, start, size, how, *trace = row.split(" ")
             was = were.get(start)
             changed = not (was and was[2:4] == [size, how])
-            does = ("resized" if was and was[3] == "live" else "allocated") if how == "live" else "freed"
-            state = how if not changed else f"{'live, ' if how == 'live' else ''}{does} in step {step - 1:,}"
+            does = ("resized" if changed and was and was[3] == "live" else "allocated") if how == "live" else "freed"
             names = [self.name(int(it, 16)) for it in trace]
             who = next((it for it in names if it not in HEAP_FUNCTIONS), names[0] if names else None)
-            by = f", {'allocated' if how == 'live' else 'freed'} by {who}" if who else ""
-            told.append(f"{int(size):,} byte{'' if size == '1' else 's'} at {start}, {state}{by}")
+            state = f"{'live, ' if how == 'live' else ''}{does}{f' in step {step - 1:,}' if changed else ''}{f' by {who}' if who else ''}"
+            told.append(f"{int(size):,} byte{'' if size == '1' else 's'} at {start}, {state}")
             expect(not changed or len(calls) > 1, f"step {step - 1} changes blocks and calls no heap: {row}")
         return told
 
@@ -229,8 +228,10 @@ def questions(bench):
                 same(f"{what} of {kind} {index} at step {step} with {given}: {told}", got, step if want is None else want)
                 expect(("since the run began" in told) == (want is None), told)
                 expect(want is None or f"{want:,}" in told, told)
-                page.click_on("#asked-back")
-                page.until(f"replaycheck.step === {step}")
+                same("the button back", page.run("document.getElementById('asked-back').hidden"), got == step)
+                if got != step:
+                    page.click_on("#asked-back")
+                    page.until(f"replaycheck.machine.step === {step}")
 
 
 def manual_questions(bench):
