@@ -4,6 +4,7 @@ export const TALL = 20;  // pixels of a row
 const LEAST = 4, BETWEEN = 1;  // pixels of a block, and of a place between two
 const MOST_EACH = 6;  // pixels of a byte
 const LONGEST_GAP = 12;  // pixels of a place that nothing uses
+const EDGE = 0.01;  // pixels from the end of a row, of a point beyond it
 const FULL_ROWS = 4;  // rows over which sizes are spread, beside what the least widths take
 
 export class BlockMap {
@@ -39,7 +40,8 @@ export class BlockMap {
 
   // The block at a point, or the one that is nearest in its row; -1 where there is none.
   at(x, row) {
-    const place = Math.max(0, Math.min(this.wide - 1, x)) + this.wide * Math.max(0, Math.min(this.rows - 1, row));
+    const along = x < this.wide ? Math.max(0, x) : this.wide - EDGE;
+    const place = along + this.wide * Math.max(0, Math.min(this.rows - 1, row));
     let low = 0, high = this.count;
     while (low < high) {
       const middle = (low + high) >> 1;
