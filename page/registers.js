@@ -93,7 +93,7 @@ export class Registers {
     const { value, undef } = this.seen.registers[this.picked];
     const one = value >>> bit & 1, isUndefined = undef >>> bit & 1;
     const told = `turn bit ${bit} of ${REGISTERS[this.picked]}, which is ${one}${isUndefined ? ' and undefined' : ''}`;
-    button.disabled = !this.seen.runs;
+    if (button.disabled === this.seen.runs) button.disabled = !this.seen.runs;
     if (button.title === told) return;
     Object.assign(button, { className: isUndefined ? 'undefined' : '', title: told, ariaLabel: told, textContent: String(one) });
   }
