@@ -144,6 +144,12 @@ def without_lines(text):
     return head + rest[rest.index(")") + 1:] if rest else text
 
 
+def rests(page, step=None):
+    """Waits until all of a step is shown, or of the one that the page is at."""
+    at = "" if step is None else f" && replaycheck.step === {step}"
+    page.until(f"!replaycheck.isBusy && replaycheck.machine.rested && replaycheck.machine.rested === replaycheck.shown{at}")
+
+
 # ---- the parts
 
 
@@ -184,7 +190,7 @@ def ask_on_page(page, kind, index, question):
         page.click_on("#memory-rows button", index)
         page.click_on(f"#byte-{question}")
     page.until("!['', 'Searching…'].includes(document.getElementById('asked-told').textContent)")
-    page.until("replaycheck.machine.step === replaycheck.step && !replaycheck.isBusy")
+    rests(page)
     return page.run("replaycheck.step"), page.text("asked-told")
 
 
@@ -207,7 +213,7 @@ def questions(bench):
             for turn in range(24):
                 step = chance.randrange(1, 882)
                 page.run(f"replaycheck.go({step}), replaycheck.machine.chosen = 0x7fffff80")
-                page.until(f"replaycheck.machine.step === {step} && replaycheck.machine.at === 0x7fffff80")
+                rests(page, step)
                 kind, what = ("register", "byte")[turn % 2], ("wrote", "since")[turn // 2 % 2]
                 index = chance.randrange(1, 32) if kind == "register" else chance.randrange(64, SEEN)
                 if kind == "register":
@@ -232,7 +238,7 @@ def questions(bench):
                 same("the button back", page.run("document.getElementById('asked-back').hidden"), got == step)
                 if got != step:
                     page.click_on("#asked-back")
-                    page.until(f"replaycheck.machine.step === {step}")
+                    rests(page, step)
 
 
 def manual_questions(bench):
@@ -244,9 +250,11 @@ def manual_questions(bench):
                 ("goto 684\ninput 37 5", "since", 39, "The byte at 0x7fffffc7 has been undefined since step 39.")):
             page.run(f"replaycheck.use({json.dumps(lines)})")
             bench.settle(page)
+            rests(page, 684)
             page.set("memory-at", "0x7fffffc0")
             page.click_on("#memory-form button")
-            page.until("replaycheck.machine.at === 0x7fffffc0 && replaycheck.machine.step === 684")
+            page.until("replaycheck.machine.at === 0x7fffffc0")
+            rests(page, 684)
             got, said = ask_on_page(page, "byte", 7, question)
             same(f"{question} with {lines!r}", got, step)
             expect(said.startswith(told), said)
@@ -260,7 +268,7 @@ def searched_further(bench):
         bench.give(page, {"program": program})
         bench.settle(page)
         page.run("replaycheck.go(6000)")
-        page.until("replaycheck.machine.step === 6000")
+        rests(page, 6000)
         step, told = ask_on_page(page, "register", 8, "wrote")
         same("what is said", (step, told), (6000, "No step from 1,904 to 5,999 changed s0."))
         page.click_on("#asked-further")
@@ -275,7 +283,7 @@ def state_by_keys(bench):
     """Frames, registers, bytes, questions and blocks by keys only."""
     with bench.open() as page:
         page.run("replaycheck.go(600)")
-        page.until("replaycheck.machine.rested && replaycheck.machine.step === 600")
+        rests(page, 600)
 
         def held():
             return page.run("document.activeElement.id || document.activeElement.title || document.activeElement.textContent")
@@ -301,7 +309,7 @@ def state_by_keys(bench):
         same("what comes after a question", held(), "byte-since")
         page.run("document.getElementById('asked-back').focus()")
         page.press("Enter")
-        page.until("replaycheck.step === 600 && replaycheck.machine.rested?.step === 600")
+        rests(page, 600)
         page.focus("blocks")
         for key, want in (("End", 2), ("ArrowLeft", 1), ("Home", 0), ("ArrowRight", 1)):
             page.press(key)
@@ -309,6 +317,7 @@ def state_by_keys(bench):
         expect("8 bytes at 0x40000040, live, allocated by " in page.text("block-told"), page.text("block-told"))
         page.press("Enter")
         page.until("replaycheck.machine.at === 0x40000040")
+        rests(page)
         page.run("document.querySelector('#memory-rows button').focus()")
         page.press("Enter")
         page.set("new-byte", "0x41")
@@ -335,7 +344,7 @@ def markup_in_the_state(bench):
         stacks = looks(bench, [written(bench, program)], [it for step in range(steps) for it in (f"goto {step}", "look stack")])[1::2]
         step = next(step for step, it in enumerate(stacks) if len(frames_in(it)) > 1)
         page.run(f"replaycheck.go({step})")
-        page.until(f"replaycheck.machine.rested && replaycheck.machine.step === {step}")
+        rests(page, step)
         for part in ("calls", "block-told"):
             expect(name in page.text(part), f"{part}: {page.text(part)}")
         expect(f"{name}<b>" in page.text("calls"), page.text("calls"))
@@ -366,7 +375,7 @@ def many_blocks(bench):
                             (9000, "the first 8,192: 8,192 live blocks with 8,192 bytes, 0 freed")):
             step = 2 + 5 * count
             began = page.run(f"(replaycheck.go({step}), performance.now())")
-            page.until(f"replaycheck.machine.rested && replaycheck.machine.step === {step}")
+            rests(page, step)
             took = page.run("performance.now()") - began
             same("what is told", page.text("blocks-told"), told)
             starts = [int(row.split(" ")[1], 16) for row in all_blocks(bench, [written(bench, hoard)], [f"goto {step}"])]
@@ -442,7 +451,7 @@ def dragged(bench):
         expect(found["last"] > 99000, f"the run has {found['last']} steps")
         expect(found["shown"] < found["chosen"], f"{found['shown']} of {found['chosen']} steps are shown: none is dropped")
         expect(found["rate"] > 8, f"{found['rate']:.0f} steps a second are shown")
-        page.until("replaycheck.machine.rested?.step === 50001")
+        rests(page, 50001)
         wanted = looks(bench, [written(bench, program)], ["goto 50001", "look registers", "look stack"])
         pc = wanted[1][0].split(" ")[2]
         same("the stack", page.run("replaycheck.machine.stack.frames"), frames_in(wanted[2]))
@@ -453,5 +462,5 @@ def dragged(bench):
         inside = next(
             it for it in range(8) if frames_in(looks(bench, [written(bench, program)], [f"goto {it}", "look stack"])[-1])[0] == work)
         page.run(f"replaycheck.go({inside})")
-        page.until(f"replaycheck.machine.rested?.step === {inside}")
+        rests(page, inside)
         same("code that doesn't follow", page.run("replaycheck.code.shown.name"), "main")
