@@ -68,7 +68,7 @@ export class Blocks {
     Object.assign(this, { blocks, isWhole, step, changed: new Map(), picked: Math.max(0, found < 0 ? blocks.length - 1 : found) });
     this.wait(false);
     say('blocks-told', this.summary());
-    for (const it of ['blocks-frame', 'block-show', 'block-list', 'block-key']) $(it).hidden = !blocks.length;
+    for (const it of ['blocks-frame', 'block-row', 'block-list', 'block-key']) $(it).hidden = !blocks.length;
     this.draw();
     this.tell();
     this.list();
