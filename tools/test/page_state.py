@@ -200,45 +200,52 @@ def rows_of_registers(bench, lines, last):
     return [it[1:] for it in looks(bench, STATION, [*lines, *asked])[len(lines) + 1::2]]
 
 
+# Lines that edit the station at steps, and rows of what is asked at which step, of which the edit of a step is the answer.
+EDITS = ["write 300 0x7fffffc7 1 0x41", "set 400 x10 5 0xff", "mark 200 0x7fffffc0 4 defined", "mark 210 0x7fffffc0 4 defined"]
+BY_EDITS = (("wrote", "byte", 0x7FFFFFC7, 320, 300), ("since", "byte", 0x7FFFFFC0, 250, 200), ("wrote", "register", 10, 400, 400),
+            ("since", "register", 10, 400, 400))
+
+
+def written_by(bench, given, rows, asked):
+    """The step that is the answer to a question by the looks of a run without edits of what is asked; null if there is none."""
+    what, kind, place, step = asked
+    if kind == "byte":
+        reply = looks(bench, STATION, [*given, f"goto {step}", f"look last {'write' if what == 'wrote' else 'shadow'} {place} 1 0"])[-1][0]
+        return int(reply.split(" ")[1]) if reply != "none" else None
+    own = [it[place - 1].split(" ")[2 if what == "since" else 0:] for it in rows]
+    return next((at for at in range(step - 1, -1, -1) if own[at] != own[at + 1]), None)
+
+
+def asked_rightly(page, asked, want):
+    """Asks on the page, and whether it leads to a step, says so, and has a button back."""
+    what, kind, place, step = asked
+    page.run(f"replaycheck.go({step}), replaycheck.machine.chosen = 0x7fffff80")
+    rests(page, step)
+    got, told = ask_on_page(page, kind, place - 0x7FFFFF80 if kind == "byte" else place, what)
+    same(f"{asked}: {told}", got, step if want is None else want)
+    expect(("since the run began" in told) == (want is None) and (want is None or f"{want:,}" in told), told)
+    same("the button back", page.run("document.getElementById('asked-back').hidden"), got == step)
+    if got != step:
+        page.click_on("#asked-back")
+        rests(page, step)
+    return told
+
+
 def questions(bench):
     """Who wrote a byte or changed a register, and since when it is undefined: the step is that of the program's looks, also where an edit
     of a step did it, and a button leads back."""
-    chance, lines = random.Random(7), ["write 300 0x7fffffc7 1 0x41", "set 400 x10 5 0xff", "mark 200 0x7fffffc0 4 undefined"]
-    edits = {("byte", 0x7FFFFFC7, "wrote"): 300, ("register", 10): 400, ("byte", 0x7FFFFFC0, "since"): 200}
+    chance, rows = random.Random(7), rows_of_registers(bench, [], 882)
     with bench.open() as page:
-        for given in ([], lines):
-            page.run(f"replaycheck.use({json.dumps(chr(10).join(given))})")
-            bench.settle(page)
-            rows = rows_of_registers(bench, given, 882)
-            for turn in range(24):
-                step = chance.randrange(1, 882)
-                page.run(f"replaycheck.go({step}), replaycheck.machine.chosen = 0x7fffff80")
-                rests(page, step)
-                kind, what = ("register", "byte")[turn % 2], ("wrote", "since")[turn // 2 % 2]
-                index = chance.randrange(1, 32) if kind == "register" else chance.randrange(64, SEEN)
-                if kind == "register":
-                    part = slice(None) if what == "wrote" else slice(2, 3)
-                    own = [it[index - 1].split(" ")[part] for it in rows]
-                    if what == "since" and int(own[step][0], 16) == 0:
-                        continue
-                    want = next((at for at in range(step - 1, -1, -1) if own[at] != own[at + 1]), None)
-                    edit = edits.get((kind, index)) if given else None
-                    want = edit if edit is not None and want == edit - 1 else want
-                else:
-                    address = 0x7FFFFF80 + index
-                    look = f"look last {'write' if what == 'wrote' else 'shadow'} {address} 1 0"
-                    reply = looks(bench, STATION, [*given, f"goto {step}", look])[-1][0]
-                    want = int(reply.split(" ")[1]) if reply != "none" else None
-                    edit = edits.get((kind, address, what)) if given else None
-                    want = edit if edit is not None and edit <= step and edit > (want or 0) else want
-                got, told = ask_on_page(page, kind, index, what)
-                same(f"{what} of {kind} {index} at step {step} with {given}: {told}", got, step if want is None else want)
-                expect(("since the run began" in told) == (want is None), told)
-                expect(want is None or f"{want:,}" in told, told)
-                same("the button back", page.run("document.getElementById('asked-back').hidden"), got == step)
-                if got != step:
-                    page.click_on("#asked-back")
-                    rests(page, step)
+        for turn in range(40):
+            what, kind, step = ("wrote", "since")[turn // 2 % 2], ("register", "byte")[turn % 2], chance.randrange(1, 882)
+            place = chance.randrange(1, 32) if kind == "register" else 0x7FFFFF80 + chance.randrange(64, SEEN)
+            asked = (what, kind, place, step)
+            if kind == "byte" or what == "wrote" or int(rows[step][place - 1].split(" ")[2], 16):
+                asked_rightly(page, asked, written_by(bench, [], rows, asked))
+        page.run(f"replaycheck.use({json.dumps(chr(10).join(EDITS))})")
+        bench.settle(page)
+        for *asked, want in BY_EDITS:
+            expect("he edit just before step" in (told := asked_rightly(page, asked, want)), told)
 
 
 def manual_questions(bench):
