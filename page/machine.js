@@ -52,7 +52,7 @@ export class Machine {
 
   open() {
     clearTimeout(this.timer);
-    Object.assign(this, { chosen: null, at: 0, seen: null, bytes: [], shown: null, rested: null, scenario: null, names: new Map() });
+    Object.assign(this, { chosen: null, at: 0, seen: null, bytes: [], shown: null, rested: null, names: new Map() });
     for (const it of [this.registers, this.memory, this.stack, this.blocks]) it.clear();
     this.tellAsked('');
   }
@@ -78,12 +78,13 @@ export class Machine {
     const wanted = this.wanted = Symbol('wanted'), [registers, stack, blocks, memory] = shown.looks;
     clearTimeout(this.timer);
     const seen = parseRegisters(registers);
+    if (shown.scenario !== this.shown?.scenario) this.tellAsked('');
+    Object.assign(this, { shown, step: shown.step, seen, rested: null });
     this.showPc(seen.pc, shown.step);
     const sp = seen.registers[STACK].value, at = Math.min(this.chosen ?? sp - sp % GRAIN, HIGHEST - SEEN);
     const line = memoryLine(at), text = shown.lines.at(-1) === line ? memory : (await this.look(shown.step, [line]))[0];
     if (wanted !== this.wanted) return;
-    if (shown.scenario !== this.scenario) this.tellAsked('');
-    Object.assign(this, { shown, step: shown.step, scenario: shown.scenario, seen, at, bytes: parseMemory(text), rested: null });
+    Object.assign(this, { at, bytes: parseMemory(text) });
     this.render(parseStack(stack), blocks);
     this.timer = setTimeout(() => this.rest(() => wanted !== this.wanted), REST);
   }
