@@ -6,6 +6,7 @@ import subprocess
 import tempfile
 
 from page_bench import expect, same, words_of
+from page_hands import touch
 from replaycheck.adopting.elf import Elf
 from replaycheck.assembly import assemble
 from replaycheck.guest_files import ENTRY, elf
@@ -335,6 +336,30 @@ def state_by_keys(bench):
         page.until("replaycheck.machine.seen.registers[2].value - replaycheck.machine.at < 16 && replaycheck.machine.at > 0x70000000")
 
 
+def state_by_touch(bench):
+    """A finger picks a block, whose memory a button shows. On a narrow page a row has eight bytes, and sixteen once it is wide."""
+    with bench.open(width=360, height=800) as page:
+        page.call("Emulation.setTouchEmulationEnabled", enabled=True)
+        page.run("replaycheck.go(600)")
+        rests(page, 600)
+        same("bytes of a row", page.run("document.querySelector('#memory-rows tr').querySelectorAll('button').length"), 8)
+        at = page.run("replaycheck.machine.at")
+        page.run("document.getElementById('blocks').scrollIntoView({ block: 'center' })")
+        x, y = page.run("""(() => { const { machine: { blocks } } = replaycheck, [part] = blocks.places.partsOf(2);
+          const { left, top } = blocks.canvas.getBoundingClientRect(); return [left + part.x + part.wide / 2, top + 10]; })()""")
+        touch(page, "touchStart", (x, y))
+        touch(page, "touchEnd")
+        page.until("replaycheck.machine.blocks.picked === 2", 5)
+        same("what is said", page.text("block-told")[:22], "8 bytes at 0x40000070,")
+        same("memory after a finger", page.run("replaycheck.machine.at"), at)
+        page.click_on("#block-show")
+        page.until("replaycheck.machine.at === 0x40000070")
+        page.click_on("#memory-rows button", 1)
+        page.shape(1280, 900)
+        page.until("document.querySelector('#memory-rows tr').querySelectorAll('button').length === 16")
+        same("bytes then", page.run("document.querySelectorAll('#memory-rows button').length"), SEEN)
+
+
 def markup_in_the_state(bench):
     """Names of functions and of variables with markup are text in calls, blocks and variables; a variable's memory is shown."""
     name = "<img/src=x/onerror=globalThis.hacked=1>"
@@ -389,9 +414,9 @@ def many_blocks(bench):
             same("blocks", page.run("replaycheck.machine.blocks.blocks.map((it) => it.start)"), starts[:8192])
             expect(took < 5000, f"{count} blocks took {took:.0f} ms")
         times = page.run("""(() => { const { blocks } = replaycheck.machine, times = [];
-          for (let i = 0; i < 20; i++) { const begun = performance.now(); blocks.pick(i); times.push(performance.now() - begun); }
+          for (let i = 0; i < 20; i++) { const begun = performance.now(); blocks.paint(); times.push(performance.now() - begun); }
           return times.sort((a, b) => a - b)[10]; })()""")
-        expect(times < 100, f"a move in the map takes {times} ms")
+        expect(times < 100, f"to draw the map takes {times} ms")
         page.run("document.getElementById('block-list').open = true")
         page.focus("blocks")
         page.press("End")
