@@ -5,6 +5,7 @@ import random
 import subprocess
 import tempfile
 
+import firefox
 from page_bench import expect, same, words_of
 from page_hands import touch
 from replaycheck.adopting.elf import Elf
@@ -183,13 +184,10 @@ def panes_in_turn(bench):
 
 def ask_on_page(page, kind, index, question):
     """Asks about a register, or a byte that is shown, as a user does. Gives the step that the page is at then, and what it says."""
-    if kind == "register":
-        page.run(f"document.querySelectorAll('#registers button')[{index - 1}].click()")
-        page.click_on(f"#register-{question}")
-    else:
-        page.run("replaycheck.machine.memory.write(null)")  # as Escape does, if there is a field for a byte
-        page.click_on("#memory-rows button", index)
-        page.click_on(f"#byte-{question}")
+    rows, before = ("registers", index - 1) if kind == "register" else ("memory-rows", index)
+    page.run(f"""(() => {{ replaycheck.machine.memory.write(null);  // as Escape does, if there is a field for a byte
+      document.querySelectorAll('#{rows} button')[{before}].click();
+      document.getElementById('{kind}-{question}').click(); }})()""")
     page.until("!['', 'Searching…'].includes(document.getElementById('asked-told').textContent)")
     rests(page)
     return page.run("replaycheck.step"), page.text("asked-told")
@@ -496,3 +494,20 @@ def dragged(bench):
         page.run(f"replaycheck.go({inside})")
         rests(page, inside)
         same("code that doesn't follow", page.run("replaycheck.code.shown.name"), "main")
+
+
+def state_in_firefox(bench):
+    """The state in Firefox: calls, what changed, and since when a byte is undefined."""
+    with firefox.Firefox(firefox.find()) as page:
+        page.open(f"{bench.address}?still#example=station&lines=goto+684%0Ainput+37+5")
+        page.until("replaycheck.step === 684")
+        rests(page, 684)
+        want = Program(bench, STATION, ["input 37 5"]).expected(684, page.run("replaycheck.machine.at"))
+        found = page.run("""({ registers: [...document.querySelectorAll('#registers button')].map((it) => it.title),
+          memory: [...document.querySelectorAll('#memory-rows button')].map((it) => it.title),
+          calls: [...document.querySelectorAll('#calls li')].map((it) => it.textContent) })""")
+        found["calls"] = [without_lines(it) for it in found["calls"]]
+        same("the state", found, {part: want[part] for part in found})
+        page.run("replaycheck.machine.choose(0x7fffffc0)")
+        rests(page, 684)
+        same("since when a byte is undefined", ask_on_page(page, "byte", 7, "since")[0], 39)
