@@ -184,7 +184,6 @@ export class Machine {
     if (!text) this.asked = null;
     this.cameFrom = from;
     say('asked-told', text);
-    $('asked').hidden = !text;
     $('asked-further').hidden = true;
     $('asked-back').hidden = from === null;
     if (from !== null) say('asked-back', `back to step ${grouped(from)}`);
