@@ -83,11 +83,11 @@ export class Code {
 
   // Where the run is before a step, null where it has ended. Another step leads to the function that it is in, unless one works here.
   showPc(pc, step) {
-    const before = this.pc, isStep = step !== this.step, leaves = pc !== null && isStep && $('code-follows').checked && !this.isHeld;
+    const before = this.pc, isStep = step !== this.step, follows = pc !== null && isStep && $('code-follows').checked && !this.isHeld;
     Object.assign(this, { pc, step });
-    if (leaves && !this.rows.has(pc)) this.turnTo(pc, null);
-    else if (pc !== before || isStep) for (const it of new Set([before, pc])) this.renderRow(it);
-    if (leaves) this.frame ??= requestAnimationFrame(() => this.showRow());
+    const leaves = follows && !this.rows.has(pc) && this.elf.functionAt(pc)?.address !== this.shown?.address;
+    if (!(leaves && this.turnTo(pc, null)) && (pc !== before || isStep)) for (const it of new Set([before, pc])) this.renderRow(it);
+    if (follows) this.frame ??= requestAnimationFrame(() => this.showRow());
   }
 
   // Whether the focus is among the rows.

@@ -20,8 +20,10 @@ PROGRAMS = (("station", ["input 1 8", "set 300 x10 7 0xf", "write 500 0x7fffffc0
             ("boot for rv32imc", ["input 1 9", "flip 400 x11 0xff"]), ("use-after-free", ["skip 6"]))
 HEAP_FUNCTIONS = ("malloc", "free", "calloc", "realloc")
 SEEN = 128  # bytes of memory
-# What the parts show at a step, once it rests.
+# What the parts show at a step, once it rests, for which they don't wait here.
 SHOWN = """
+  const later = setTimeout;
+  globalThis.setTimeout = (does, time, ...given) => later(does, time === 80 ? 0 : time, ...given);
   const titles = (selector) => [...document.querySelectorAll(selector)].map((it) => it.title);
   const at = async (step) => {
     replaycheck.go(step);
@@ -29,7 +31,7 @@ SHOWN = """
     const { machine, code } = replaycheck;
     for (let i = 0; machine.rested !== replaycheck.shown; i++) {
       if (i > 3000) throw new Error(`step ${step} never rests`);
-      await new Promise((done) => setTimeout(done, 2));
+      await new Promise((done) => later(done, 2));
     }
     return { registers: titles('#registers button'), memory: titles('#memory-rows button'), at: machine.at,
       letters: [...document.querySelectorAll('#memory-rows .letters')].map((it) => it.textContent).join(''),
@@ -81,16 +83,17 @@ class Program:
     def name(self, address):
         return next((name for begin, end, name in self.functions if begin <= address < end), "???")
 
-    def seen(self, step, places):
-        """The replies at a step and at the one before: registers, stack, blocks, memory at a place, and what the step before has called."""
-        asked = [[f"goto {it}", "look registers", "look stack", f"look memory {places} {SEEN}", f"look calls {max(0, step - 1)} {step}"]
-                 for it in (max(0, step - 1), step)]
-        found = looks(self.bench, self.words, [*self.lines, *asked[0], *asked[1]])[len(self.lines):]
-        return found[1:5], found[6:10]
+    def seen(self, step, at):
+        """The replies before a step and before the one before it: registers, stack, memory from an address on, blocks; and what the step
+        before has called."""
+        asked = [it for step in (max(0, step - 1), step)
+                 for it in (f"goto {step}", "look registers", "look stack", f"look memory {at} {SEEN}", "look blocks 0")]
+        found = looks(self.bench, self.words, [*self.lines, *asked, f"look calls {max(0, step - 1)} {step}"])[len(self.lines):]
+        return found[1:5], found[6:10], found[10]
 
     def expected(self, step, at):
         """What the page must show at a step."""
-        before, now = self.seen(step, at)
+        before, now, calls = self.seen(step, at)
         since = f", changed since step {step - 1:,}"
         told = {"registers": [f"{NAMES[i]}: {value}{'' if int(undef, 16) == 0 else f', undefined bits {undef}'}"
                               f"{since if row != before[0][i] else ''}"
@@ -101,7 +104,7 @@ class Program:
         told["letters"] = "".join(chr(it) if 31 < it < 127 else "·" for it in (int(value, 16) for value, _ in bytes_now))
         told["calls"] = [f"{'by' if i else 'at'} {self.name(it)} 0x{it:08x}" for i, it in enumerate(frames_in(now[1]))]
         told["calls"][0] += self.moved(frames_in(before[1]), frames_in(now[1]), step)
-        told["blocks"] = self.blocks(step, now[3])
+        told["blocks"] = self.blocks(step, before[3], now[3], calls)
         state = now[0][0].split(" ")
         told["now"] = f"▸ {state[2]}" if state[1] == "running" else None
         return told
@@ -116,10 +119,9 @@ class Program:
             return f" {'called' if len(now) > len(before) else 'returned to'} in step {step - 1:,}"
         return "" if self.name(now[0]) == self.name(before[0]) else f" jumped to in step {step - 1:,}"
 
-    def blocks(self, step, calls):
-        now, before = (all_blocks(self.bench, self.words, [*self.lines, f"goto {it}"]) for it in (step, max(0, step - 1)))
-        were, told = {row.split(" ")[1]: row.split(" ") for row in before}, []
-        for row in now:
+    def blocks(self, step, before, now, calls):
+        were, told = {row.split(" ")[1]: row.split(" ") for row in before[:-1]}, []
+        for row in now[:-1]:
             _, start, size, how, *trace = row.split(" ")
             was = were.get(start)
             changed = not (was and was[2:4] == [size, how])
