@@ -15,12 +15,13 @@ export class Code {
   // address whose function is shown.
   constructor({ edit, alter, refuse, shows }) {
     Object.assign(this, { edit, alter, refuse, shows, isa: USUAL, shown: null, at: null, writing: null, pc: null, step: 0 });
+    Object.assign(this, { rows: new Map(), frame: null });
     $('function').addEventListener('change', () => this.visit(Number($('function').value)));
   }
 
   // Shows `main` of a program for an instruction set, or its first function.
   open({ elf, lineOf, isa }, scenario) {
-    Object.assign(this, { elf, lineOf, isa, scenario, shown: null, at: null, writing: null, pc: null });
+    Object.assign(this, { elf, lineOf, isa, scenario, shown: null, at: null, writing: null, pc: null, rows: new Map() });
     $('function').replaceChildren(...elf.functions.map((it) => element('option', { value: it.address }, it.name)));
     $('code-rows').replaceChildren();
     const first = elf.functions.find((it) => it.name === 'main') ?? elf.functions[0];
@@ -29,18 +30,24 @@ export class Code {
 
   // Shows the function that has an address, with that row in view; `scrolls` where one asked for it.
   visit(address, scrolls = true) {
-    const found = this.elf.functionAt(address);
-    if (!found) {
+    if (!this.turnTo(address)) {
       if (scrolls) this.refuse(`The program has no code at ${hexWord(address)}.`);
       return;
     }
-    Object.assign(this, { at: address, writing: null, shown: found });
-    $('function').value = this.shown.address;
-    this.render();
     if (scrolls) $('code-part').scrollIntoView({ block: 'nearest' });
     const row = $('code-rows').querySelector('.at');
     if (row) $('code').scrollTop = row.offsetTop - $('code').clientHeight / 2;
     this.shows(address);
+  }
+
+  // Shows the function that has an address, if there is one, and marks the row at an address, or none.
+  turnTo(address, at = address) {
+    const found = this.elf.functionAt(address);
+    if (!found) return false;
+    Object.assign(this, { at, writing: null, shown: found });
+    $('function').value = found.address;
+    this.render();
+    return true;
   }
 
   // The words, or the instructions of either length, that are shown; null where no function is. `starts` are their addresses.
@@ -77,19 +84,44 @@ export class Code {
     if (this.shown && !isSame) this.render();
   }
 
-  // Where the run is before a step, null where it has ended.
+  // Where the run is before a step, null where it has ended. Another step leads to the function that it is in, unless one works here.
   showPc(pc, step) {
-    const isSeen = (it) => it !== null && this.shown && this.elf.functionAt(it)?.address === this.shown.address;
-    const changes = pc !== this.pc || step !== this.step, were = isSeen(this.pc);
+    const before = this.pc, isStep = step !== this.step, follows = pc !== null && isStep && $('code-follows').checked && !this.isHeld;
     Object.assign(this, { pc, step });
-    if (changes && (were || isSeen(pc))) this.render();
+    const leaves = follows && !this.rows.has(pc) && this.elf.functionAt(pc)?.address !== this.shown?.address;
+    if (!(leaves && this.turnTo(pc, null)) && (pc !== before || isStep)) for (const it of new Set([before, pc])) this.renderRow(it);
+    if (follows) this.frame ??= requestAnimationFrame(() => this.showRow());
+  }
+
+  // Whether the focus is among the rows.
+  get isHeld() { return $('code-rows').contains(document.activeElement); }
+
+  // Has the row where the run is in view, without moving the page.
+  showRow() {
+    const { scrollTop, clientHeight } = $('code'), row = this.rows.get(this.pc);
+    this.frame = null;
+    if (row && (row.offsetTop < scrollTop + row.clientHeight || row.offsetTop + row.clientHeight > scrollTop + clientHeight)) {
+      $('code').scrollTop = row.offsetTop - clientHeight / 2;
+    }
   }
 
   render() {
     const { starts, lengths } = this.range;
     const held = document.activeElement?.dataset?.held;
-    $('code-rows').replaceChildren(...starts.map((at) => this.row(at, lengths?.get(at) ?? WORD)).filter(Boolean));
+    this.lengths = lengths;
+    this.rows = new Map(starts.map((at) => [at, this.row(at, lengths?.get(at) ?? WORD)]).filter(([, row]) => row));
+    $('code-rows').replaceChildren(...this.rows.values());
     if (held) $('code-rows').querySelector(`[data-held="${held}"]`)?.focus();
+  }
+
+  // Makes the row at an address anew, if it is shown.
+  renderRow(address) {
+    const row = this.rows.get(address), held = row?.contains(document.activeElement) && document.activeElement.dataset.held;
+    if (!row) return;
+    const made = this.row(address, this.lengths?.get(address) ?? WORD);
+    this.rows.set(address, made);
+    row.replaceWith(made);
+    if (held) made.querySelector(`[data-held="${held}"]`)?.focus();
   }
 
   row(address, length) {

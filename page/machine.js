@@ -1,15 +1,19 @@
-// The registers and some memory at the step that is shown. Each can be changed there, by a line of the scenario.
-import { $, element, say } from './dom.js';
-import { REGISTERS } from './instructions.js';
-import { grouped, hexByte, hexWord, letter, numberOf } from './numbers.js';
-import { flipLine, setLine, writeLine } from './scenario.js';
+// The state of the run at the step that is shown: calls, registers, memory, blocks. What changed since the step before is marked once the
+// step rests. Each value can be asked for, and changed by a line of the scenario.
+import { Asking, sentenceOf } from './asking.js';
+import { Blocks, changedBlocks, parseBlocks, readBlocks } from './blocks.js';
+import { $, say } from './dom.js';
+import { HEAP_NAMES } from './facts.js';
+import { grouped, hexWord, numberOf } from './numbers.js';
+import { GRAIN, Memory, SEEN, knownOf } from './memory.js';
+import { Registers } from './registers.js';
+import { Stack, moved, parseStack } from './stack.js';
 
-const ROWS = 8, WIDE = 16, SEEN = ROWS * WIDE;  // bytes of memory that are shown
-const WORD = 32, GROUP = 8;  // bits of a register, and of those that stand together
 const NO_ACCESS = '__';
 const HIGHEST = 2 ** 32;
 const STACK = 2;  // the register at whose bytes the memory begins, until an address is chosen
-const FIRST = 10;  // the register that is shown with its bits first: a0
+const REST = 80;  // milliseconds without another step, after which the step before is looked at too
+const BLOCKS = 'look blocks 0', CALLS_HEAP = /^\d+ heap /;
 
 // What looks at registers and at memory tell.
 export function parseRegisters(text) {
@@ -25,158 +29,157 @@ export function parseMemory(text) {
   return bytes.map((it, i) => ({ value: parseInt(it, 16), undef: undefs[i] === NO_ACCESS ? null : parseInt(undefs[i], 16) }));
 }
 
+const memoryLine = (at, length = SEEN) => `look memory ${hexWord(at)} ${length}`;
+const differ = (a, b) => a.value !== b.value || a.undef !== b.undef;
+// The places at which two lists differ.
+const differing = (a, b) => new Set(b.flatMap((it, i) => (differ(a[i], it) ? [i] : [])));
+
 export class Machine {
-  // `look` promises the replies to lines at what is shown, and `again` has all shown anew; `alter` takes a line that alters the run
-  // at its step, and `refuse` a sentence; `showPc` has the code show where the run is, and `visit` goes there.
-  constructor({ look, again, alter, refuse, showPc, visit }) {
-    Object.assign(this, { look, again, alter, refuse, showPc, picked: FIRST, chosen: null, step: 0, seen: null, bytes: [] });
+  // `look` promises the replies to lines at a step of what is shown, and `search` those of another session; `again` has all shown anew;
+  // `alter` takes a line that alters the run at its step, `refuse` a sentence, `go` a step; `showPc` has the code show where the run is,
+  // and `visit` goes there; `functionAt` and `lineOf` tell the function and the source line of an address. `rests` is told that
+  // the step rests.
+  constructor({ look, search, again, alter, refuse, go, showPc, visit, functionAt, lineOf, rests }) {
+    Object.assign(this, { look, search, again, go, showPc, functionAt, lineOf, rests, chosen: null, at: 0, step: 0, seen: null, bytes: [] });
+    const ask = (what, place) => this.ask(what, place), show = (address) => this.choose(address, address);
+    this.registers = new Registers({ alter, refuse, ask });
+    this.memory = new Memory({ alter, refuse, ask, choose: (address) => this.choose(address) });
+    this.stack = new Stack({ nameOf: (address) => this.nameOf(address), lineOf, visit });
+    this.blocks = new Blocks({ callerOf: (trace) => this.callerOf(trace), show });
     $('pc').addEventListener('click', () => visit(this.seen.pc));
-    $('memory-form').addEventListener('submit', (event) => {
-      event.preventDefault();
-      this.goTo($('memory-at').value.trim());
-    });
-    $('register-form').addEventListener('submit', (event) => {
-      event.preventDefault();
-      this.set();
-    });
+    $('asked-back').addEventListener('click', () => this.go(this.cameFrom));
   }
 
   open() {
-    Object.assign(this, { chosen: null, seen: null, bytes: [], writing: null });
-    for (const it of ['registers', 'memory-rows', 'bits']) $(it).replaceChildren();
+    clearTimeout(this.timer);
+    Object.assign(this, { chosen: null, at: 0, seen: null, bytes: [], shown: null, rested: null, names: new Map() });
+    for (const it of [this.registers, this.memory, this.stack, this.blocks]) it.clear();
+    this.tellAsked('');
   }
 
-  // Asks what holds at the step of what is shown now.
+  // The lines that are asked with the report, so that what follows a step that is dragged is in one answer.
+  get lines() { return ['look registers', 'look stack', BLOCKS, memoryLine(this.at)]; }
+
+  nameOf(address) {
+    if (!this.names.has(address)) this.names.set(address, this.functionAt(address)?.name ?? '???');
+    return this.names.get(address);
+  }
+
+  // The function of a trace that called the heap, and its source line.
+  callerOf(trace) {
+    const at = trace.find((it) => !HEAP_NAMES.includes(this.nameOf(it))) ?? trace[0];
+    if (at === undefined) return '';
+    const line = this.lineOf(at);
+    return `${this.nameOf(at)}${line ? ` (${line})` : ''}`;
+  }
+
+  // Shows what holds at a step, by the replies to its lines: `looks` of `shown`, to `asked` lines.
   async show(shown) {
-    const asked = this.asked = Symbol('asked');
-    const [registers] = await this.look(['look registers']);
-    if (asked !== this.asked) return;
+    const wanted = this.wanted = Symbol('wanted'), [registers, stack, blocks, memory] = shown.looks;
+    clearTimeout(this.timer);
     const seen = parseRegisters(registers);
-    const at = Math.min(this.chosen ?? seen.registers[STACK].value - seen.registers[STACK].value % WIDE, HIGHEST - SEEN);
-    const [memory] = await this.look([`look memory ${hexWord(at)} ${SEEN}`]);
-    if (asked !== this.asked) return;
-    if (at !== this.at || shown.step !== this.step) this.writing = null;
-    Object.assign(this, { shown, step: shown.step, seen, at, bytes: parseMemory(memory) });
-    this.render();
+    if (shown.scenario !== this.shown?.scenario) this.tellAsked('');
+    Object.assign(this, { shown, step: shown.step, seen, rested: null });
     this.showPc(seen.pc, shown.step);
+    const sp = seen.registers[STACK].value, at = Math.min(this.chosen ?? sp - sp % GRAIN, HIGHEST - SEEN);
+    const line = memoryLine(at), text = shown.lines.at(-1) === line ? memory : (await this.look(shown.step, [line]))[0];
+    if (wanted !== this.wanted) return;
+    Object.assign(this, { at, bytes: parseMemory(text) });
+    this.render(parseStack(stack), blocks);
+    this.timer = setTimeout(() => this.rest(() => wanted !== this.wanted), REST);
   }
 
-  goTo(text) {
-    const at = numberOf(text);
-    if (at === null) {
-      this.refuse(`An address is a number such as 0x7fffffc0, and not “${text}”.`);
-      return;
-    }
-    this.chosen = at;
-    this.again();
-  }
-
-  render() {
-    const { seen, step } = this;
+  render(frames, blocks) {
+    const { seen, step, at, bytes } = this;
     say('machine-told', `before step ${grouped(step)}: ${seen.runs ? 'running at' : `${seen.state}, so nothing changes any more`}`);
     $('pc').hidden = !seen.runs;
     if (seen.runs) say('pc', hexWord(seen.pc));
-    $('registers').replaceChildren(...seen.registers.slice(1).map((it, i) => this.register(i + 1, it)));
-    this.renderPicked();
-    if (document.activeElement !== $('memory-at')) $('memory-at').value = hexWord(this.at);
-    $('memory-rows').replaceChildren(...Array.from({ length: ROWS }, (_, row) => this.row(row * WIDE)));
-    $('new-byte')?.select();
+    this.registers.show(seen, step);
+    this.memory.show({ at, bytes, step, runs: seen.runs });
+    $('memory-stack').setAttribute('aria-pressed', this.chosen === null);
+    this.stack.show(frames);
+    const { blocks: first, next } = parseBlocks(blocks);
+    if (next === null) this.blocks.show({ blocks: first, isWhole: true }, step);
+    else this.blocks.wait(true);
   }
 
-  // ---- registers
-
-  register(number, { value, undef }) {
-    const name = REGISTERS[number];
-    const told = `${name}: ${hexWord(value)}${undef ? `, undefined bits ${hexWord(undef)}` : ''}`;
-    const pick = () => {
-      this.picked = number;
-      this.render();
-      $('register-value').focus();
-      $('register-value').select();
-    };
-    return element('li', {}, element('button', { className: number === this.picked ? 'here' : '', 'aria-label': told, title: told,
-      'aria-pressed': number === this.picked, onclick: pick }, element('span', { className: 'name' }, name), ' ', ...digits(value, undef)));
-  }
-
-  renderPicked() {
-    const { runs, registers } = this.seen, { value } = registers[this.picked];
-    say('register-name', REGISTERS[this.picked]);
-    for (const [id, number] of [['register-value', value], ['register-undef', 0]]) {
-      if (document.activeElement !== $(id)) $(id).value = hexWord(number);
+  // What is shown once the step rests: what changed since the step before, all blocks, and what others show then.
+  async rest(isStale) {
+    const { step, shown, seen, at, bytes } = this, { frames } = this.stack;
+    const lookAt = async (line) => (await this.look(step, [line]))[0];
+    this.rests();
+    try {
+      const [registers, stack, memory] = step ? await this.look(step - 1, ['look registers', 'look stack', memoryLine(at)]) : [];
+      if (isStale()) return;
+      const before = registers && parseRegisters(registers);
+      this.registers.mark(before ? differing(before.registers, seen.registers) : new Set());
+      this.memory.mark(before ? differing(parseMemory(memory), bytes) : new Set());
+      this.stack.rest(before ? moved(parseStack(stack), frames, (it) => this.nameOf(it)) : '', grouped(step - 1));
+      await this.restBlocks(lookAt, isStale);
+      if (!isStale()) this.rested = shown;
+    } catch {
+      // Memory that runs out, or a run that is no longer wanted: then nothing is marked.
     }
-    for (const it of $('register-form').elements) it.disabled = !runs;
-    const groups = Array.from({ length: WORD / GROUP }, (_, i) => WORD - GROUP * (i + 1));
-    $('bits').replaceChildren(...groups.map((low) => element('span', {},
-      ...Array.from({ length: GROUP }, (_, i) => this.bit(low + GROUP - 1 - i)))));
   }
 
-  bit(bit) {
-    const { value, undef } = this.seen.registers[this.picked];
-    const one = value >>> bit & 1, isUndefined = undef >>> bit & 1;
-    const told = `turn bit ${bit} of ${REGISTERS[this.picked]}, which is ${one}${isUndefined ? ' and undefined' : ''}`;
-    return element('button', { type: 'button', disabled: !this.seen.runs, className: isUndefined ? 'undefined' : '', 'aria-label': told,
-      title: told, onclick: () => this.alter(flipLine(this.step, `x${this.picked}`, (1 << bit) >>> 0)) }, String(one));
+  async restBlocks(lookAt, isStale) {
+    const { step, shown } = this, read = (look, first) => readBlocks(look, first, isStale);
+    const first = shown.looks[2], now = await read(lookAt, first);
+    if (isStale() || !now) return;
+    if (parseBlocks(first).next !== null) this.blocks.show(now, step);
+    if (!step || !CALLS_HEAP.test(await lookAt(`look calls ${step - 1} ${step}`)) || isStale()) return;
+    const lookBefore = async (line) => (await this.look(step - 1, [line]))[0];
+    const before = await read(lookBefore, await lookBefore(BLOCKS));
+    if (!isStale() && before) this.blocks.mark(changedBlocks(before.blocks, now.blocks));
   }
 
-  set() {
-    const [value, undef] = ['register-value', 'register-undef'].map((it) => $(it).value.trim());
-    const wrong = [value, undef].find((it) => numberOf(it) === null);
-    if (wrong !== undefined) {
-      this.refuse(`A register has a number such as 0x00000005, and not “${wrong}”.`);
-      return;
+  // Shows memory from an address on, null for where the stack is, and picks a byte of it.
+  choose(address, byte = null) {
+    this.chosen = address;
+    if (byte !== null) {
+      this.memory.picked = byte;
+      $('memory').scrollIntoView({ block: 'nearest' });
     }
-    document.activeElement?.blur();
-    this.alter(setLine(this.step, `x${this.picked}`, numberOf(value), numberOf(undef)));
+    this.again();
   }
 
-  // ---- memory
+  // ---- questions
 
-  row(begin) {
-    const cells = this.bytes.slice(begin, begin + WIDE).map((it, i) => this.cell(this.at + begin + i, it));
-    const letters = this.bytes.slice(begin, begin + WIDE).map(({ value }) => letter(value)).join('');
-    return element('tr', {}, element('th', { scope: 'row', className: 'quiet' }, hexWord(this.at + begin)),
-      ...cells, element('td', { className: 'quiet letters', 'aria-hidden': 'true' }, letters));
-  }
-
-  cell(at, { value, undef }) {
-    if (this.writing === at) return element('td', {}, this.field(at, value));
-    const known = undef === null ? ', inaccessible' : undef ? `, undefined bits ${hexByte(undef)}` : '';
-    const told = `byte at ${hexWord(at)}: ${hexByte(value)}${known}`;
-    const names = undef === null ? 'inaccessible' : undef ? 'undefined' : '';
-    const write = () => {
-      this.writing = at;
-      this.render();
-    };
-    return element('td', {}, element('button', { className: names, disabled: !this.seen.runs, 'aria-label': told, title: told,
-      onclick: write }, value.toString(16).padStart(2, '0')));
-  }
-
-  field(at, value) {
-    const key = (event) => {
-      if (event.key === 'Escape') this.write(null);
-      else if (event.key === 'Enter') this.write(at, event.target.value.trim());
-      else return;
-      event.preventDefault();
-    };
-    return element('input', { id: 'new-byte', value: hexByte(value), onkeydown: key, spellcheck: false, autocomplete: 'off',
-      'aria-label': `new byte at ${hexWord(at)}, Enter sets it` });
-  }
-
-  // Writes a byte, or has no field for one any more.
-  write(at, text) {
-    const value = at === null ? null : numberOf(text);
-    if (at !== null && (value === null || value > 255)) {
-      this.refuse(`A byte is a number from 0 to 255, such as 0x41, and not “${text}”.`);
-      return;
+  // Goes to the step that was the last to write a place, or to change what is known of it: before the step that is shown, or before
+  // another one, from which on a search has found nothing.
+  async ask(what, place, before = null) {
+    const { shown, step, seen } = this, known = place.byte === undefined ? '' : knownOf(this.bytes[place.byte - this.at]);
+    const asked = this.asked = Symbol('asked'), from = before === null ? { step, runs: seen.runs } : { step: before, runs: true };
+    this.tellAsked('Searching…');
+    if (place.byte !== undefined) this.chosen = this.at;
+    let found = null;
+    try {
+      const look = (at, lines) => this.search(shown.scenario, at, lines);
+      found = await new Asking({ look, scenario: shown.scenario }).last(what, place, from);
+    } catch {
+      // Memory that runs out, or a run that is no longer wanted.
     }
-    this.writing = null;
-    if (at === null) this.render();
-    else this.alter(writeLine(this.step, at, value));
+    if (asked !== this.asked) return;
+    if (shown !== this.shown) this.tellAsked('');
+    else if (!found) this.tellAsked('The search was stopped.');
+    else this.tellFound(found, sentenceOf(found, what, place, known), () => this.ask(what, place, found.from));
   }
-}
 
-// The digits of a word, each of which tells whether it has an undefined bit.
-function digits(value, undef) {
-  const [shown, unknown] = [value, undef].map((it) => it.toString(16).padStart(8, '0'));
-  return [...shown].map((it, i) => (unknown[i] === '0' ? it : element('span', { className: 'undefined' }, it)));
+  // Says what a search has found, and goes there. Where it found nothing up to where it ended, it may go `further`.
+  tellFound({ step, from }, told, further) {
+    const leads = step !== null && step !== this.step;
+    this.tellAsked(told, leads ? this.step : null);
+    $('asked-further').hidden = step !== null || from === 0;
+    $('asked-further').onclick = further;
+    if (leads) this.go(step);
+  }
+
+  tellAsked(text, from = null) {
+    if (!text) this.asked = null;
+    this.cameFrom = from;
+    say('asked-told', text);
+    $('asked-further').hidden = true;
+    $('asked-back').hidden = from === null;
+    if (from !== null) say('asked-back', `back to step ${grouped(from)}`);
+  }
 }

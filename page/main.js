@@ -33,10 +33,11 @@ const WORKERS = Number(words.get('workers')) || navigator.hardwareConcurrency ||
 const SHORT_RUN = 100000;  // steps of a run whose edits are all made as it is opened
 const QUIET = 300;  // milliseconds after an edit, before landmarks are searched and the link is changed
 const LONG = 600;  // milliseconds after which work is told, with a button that stops it
-const PARTS = ['step', 'strip', 'input', 'report', 'edits', 'code', 'source', 'machine', 'variables'];
+const PARTS = ['step', 'strip', 'input', 'report', 'edits', 'code', 'source', 'calls', 'variables', 'machine', 'blocks'];
 // Parts that are one stop of the Tab key each, and what a row is in them.
 const ROVING = [['examples', 'nav'], ['landmarks', 'div'], ['legend-rows'], ['chips', 'li'], ['report', 'li, p'], ['code-rows'],
-  ['registers', 'li'], ['bits', '#bits'], ['memory-rows'], ['source-rows'], ['variable-rows'], ['global-rows']];
+  ['source-rows'], ['calls', 'li'], ['variable-rows'], ['global-rows'], ['registers', 'li'], ['bits', '#bits'], ['memory-rows'],
+  ['block-rows']];
 const CHANGES_NOTHING = /^(?:#.*|report|worked|)$/;  // lines of a text that are no edits
 const BEYOND_STEPS = 5;  // the number with which a session refuses a step
 
@@ -54,10 +55,12 @@ class App {
     this.bytes = new Bytes({ edit, tell: (at) => this.byteTold(at), moved: () => this.sweeps?.picture.draw() });
     const alter = (line) => this.edit(this.scenario.after(line));
     this.code = new Code({ edit, alter, refuse, shows: (address) => this.source.visit(address) });
-    this.machine = new Machine({ look: (lines) => this.opened.session.replies(this.shown.scenario, this.shown.step, lines),
-      again: () => this.showMachine(), alter, refuse, showPc: (pc, step) => this.showPlace(pc, step),
-      visit: (address) => this.code.visit(address) });
-    this.variables = new VariablesPart({ show: (address) => this.machine.goTo(hexWord(address)), fail: (fault) => this.unread(fault) });
+    this.machine = new Machine({ look: (step, lines) => this.opened.session.replies(this.shown.scenario, step, lines),
+      search: (scenario, step, lines) => this.opened.search.replies(scenario, step, lines), again: () => this.showMachine(), alter, refuse,
+      go: (step) => this.go(step), showPc: (pc, step) => this.showPlace(pc, step), visit: (address) => this.code.visit(address),
+      functionAt: (address) => this.opened.elf.functionAt(address), lineOf: (address) => this.opened.lineOf(address),
+      rests: () => this.showVariables() });
+    this.variables = new VariablesPart({ show: (address) => this.machine.choose(address, address), fail: (fault) => this.unread(fault) });
     this.reports = new Reports({ lineOf: (address) => this.opened.lineOf(address), visit: (address) => this.code.visit(address),
       suppress: (text) => this.edit(this.scenario.withSuppression(text)), kinds: { errors: ERROR_KINDS, leaks: LEAK_KINDS } });
     this.verdict = new Verdict({ lineOf: (address) => this.opened.lineOf(address), isa: () => this.opened.isa, go: (step) => this.go(step),
@@ -379,10 +382,10 @@ class App {
   async ask() {
     const { scenario, step, turn, opened } = this, begun = performance.now();
     try {
-      const both = Promise.all([opened.session.report(scenario, step), opened.reportBefore(step)]);
-      const [text, unedited] = await this.told('The report is made', both);
+      const { lines } = this.machine, all = opened.session.replies(scenario, step, ['report', ...lines]);
+      const [[text, ...looks], unedited] = await this.told('The report is made', Promise.all([all, opened.reportBefore(step)]));
       if (turn !== this.turn) return;
-      this.shown = { scenario, step, report: parseReport(text), unedited, time: performance.now() - begun };
+      this.shown = { scenario, step, report: parseReport(text), unedited, lines, looks, time: performance.now() - begun };
       this.display();
     } catch (fault) {
       if (turn === this.turn && scenario === this.scenario && step === this.step) this.refused(fault);
@@ -416,7 +419,6 @@ class App {
     this.showScenario();
     this.lookAtNew();
     this.showMachine();
-    if (this.opened.last <= SHORT_RUN) this.certify();
     clearTimeout(this.timer);
     this.timer = setTimeout(() => this.settle(), QUIET);
   }
@@ -432,16 +434,19 @@ class App {
     }
   }
 
-  // Shows where the run is: its code, its line and its variables.
+  // Shows where the run is: its code and its line.
   showPlace(pc, step) {
-    const { shown, seen } = this.machine, { session } = this.opened;
     this.code.showPc(pc, step);
     this.source.follow(pc, step);
+  }
+
+  showVariables() {
+    const { shown, seen } = this.machine, { session } = this.opened;
     const look = inBatches((lines) => {
       if (shown.step !== this.step || shown.scenario !== this.scenario) throw new Stale();  // or the session would have to go back
       return session.replies(shown.scenario, shown.step, lines);
     });
-    this.variables.show(pc, seen.registers, async (address, length) => {
+    this.variables.show(seen.pc, seen.registers, async (address, length) => {
       const bytes = parseMemory(await look(`look memory ${hexWord(address)} ${length}`));
       return { bytes: bytes.map((it) => it.value), undefined: bytes.map((it) => it.undef) };
     });
@@ -471,9 +476,11 @@ class App {
     this.lookedAt = key;
   }
 
-  // What is done when nobody edits for a moment: the link, the sweep of the run that is shown now, its end, and its landmarks.
+  // What is done when nobody edits for a moment: whether uninitialised memory matters, the link, the sweep of the run that is shown now,
+  // its end, and its landmarks.
   async settle() {
     const { scenario, opened, turn } = this;
+    if (opened.last <= SHORT_RUN) this.certify();
     const link = await this.opening.link(this.lines);
     if (turn !== this.turn) return;
     if (!this.opening.wanted) {

@@ -11,13 +11,13 @@ export class Roving {
     Object.assign(this, { part: $(id), row, place: 0, held: null });
     this.part.addEventListener('focusin', ({ target }) => this.stopAt(target));
     this.part.addEventListener('keydown', (event) => this.key(event));
-    new MutationObserver(() => this.renew()).observe(this.part, { childList: true, subtree: true });
+    new MutationObserver(() => this.renew()).observe(this.part, { childList: true, subtree: true, attributeFilter: ['disabled'] });
     this.renew();
   }
 
   get things() { return [...this.part.querySelectorAll(THINGS)]; }
 
-  // The stop among things that were made anew: what has the focus, or had it, or is where it was.
+  // The stop among things that were made anew, or that can be used now: what has the focus, or had it, or is where it was.
   renew() {
     const { things, held, place } = this, byName = held && things.find((it) => it.dataset.held === held);
     const now = things.find((it) => it === document.activeElement) ?? byName ?? things[Math.min(place, things.length - 1)];

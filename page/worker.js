@@ -8,6 +8,7 @@ const decoder = new TextDecoder();
 const POST_EVERY = 100;  // milliseconds
 const COMMAND = 'look';  // what answers the lines of a session, and looks
 const ASKS = /^(?:report|worked|look .*)$/;  // lines that change nothing
+const GOTO = /^goto /;
 let session = null;
 
 class Fault extends Error {
@@ -85,9 +86,15 @@ class Again {
     const status = run.start();
     this.memory = run.memory;
     if (status) throw new Fault(status, run.said);
-    this.before.push(...lines.filter((line) => !ASKS.test(line)));
+    this.before = withoutPassed([...this.before, ...lines.filter((line) => !ASKS.test(line))]);
     return written.slice(-lines.length);
   }
+}
+
+// Lines without the steps that were chosen before the last one.
+function withoutPassed(lines) {
+  const last = lines.findLastIndex((it) => GOTO.test(it));
+  return lines.filter((it, index) => index === last || !GOTO.test(it));
 }
 
 // Lines that look at a run, all at once.

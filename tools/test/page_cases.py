@@ -293,7 +293,8 @@ def machine_in_turn(bench):
         page.set("step", page.run("replaycheck.steps.last"), "input")
         page.until("replaycheck.machine.seen?.runs === false")
         expect("exited 0, so nothing changes any more" in page.text("machine-told"), "the end isn't told")
-        same("what can be changed then", page.run("[...document.querySelectorAll('#machine :enabled:is(#bits *, #memory-rows *, "
+        page.click_on("#memory-rows button", 2)
+        same("what can be changed then", page.run("[...document.querySelectorAll('#machine :enabled:is(#bits *, #memory-rows input, "
                                                   "#register-value)')].length"), 0)
 
 
@@ -386,11 +387,12 @@ def edits_at_once(bench):
     """Edits that are made before the report of the one before is there: none is lost, and the step stays when all are taken off."""
     with bench.open() as page:
         page.run("replaycheck.go(500)")
-        page.run("""(() => { const click = (selector, index = 0) => document.querySelectorAll(selector)[index].click();
+        begin = page.run("""(() => { const click = (selector, index = 0) => document.querySelectorAll(selector)[index].click();
+          const { begin } = replaycheck.code.range;
           click('#append-form button'); click('#append-form button'); click('#append-form button'); click('#cut');
-          click('#code-rows tr:nth-child(1) button'); click('#code-rows tr:nth-child(2) button'); click('#chips button', 1); })()""")
+          click('#code-rows tr:nth-child(1) button'); click('#code-rows tr:nth-child(2) button'); click('#chips button', 1);
+          return begin; })()""")
         bench.same_report(page, STATION, "edits at once")
-        begin = page.run("replaycheck.code.range.begin")
         same("lines", page.run("replaycheck.lines"), ["goto 500", f"patch 0x{begin:08x} 0x00000013", "input append 0", "input append 0"])
         page.click_on("#none")
         bench.same_report(page, STATION, "all taken off")

@@ -20,6 +20,7 @@ STOPS = [
     ("examples", ["ArrowRight", "ArrowRight"], "kinds"), ("legend-rows", ["ArrowDown", "ArrowRight"], "running"),
     ("chips", ["ArrowDown"], "✕"), ("code-rows", ["ArrowDown", "ArrowRight"], "word…"), ("registers", ["ArrowDown", "ArrowDown"], "gp"),
     ("bits", [], ""), ("memory-rows", [], ""), ("report", ["ArrowDown"], "by "), ("landmarks", ["ArrowRight"], ""),
+    ("calls", ["ArrowDown"], "by "), ("block-rows", ["ArrowDown"], "0x4000"),
 ]
 
 
