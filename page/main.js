@@ -63,8 +63,9 @@ class App {
     this.variables = new VariablesPart({ show: (address) => this.machine.choose(address, address), fail: (fault) => this.unread(fault) });
     this.reports = new Reports({ lineOf: (address) => this.opened.lineOf(address), visit: (address) => this.code.visit(address),
       suppress: (text) => this.edit(this.scenario.withSuppression(text)), kinds: { errors: ERROR_KINDS, leaks: LEAK_KINDS } });
+    const showPicture = () => { $('picture').scrollIntoView({ block: 'center' }); $('picture').focus({ preventScroll: true }); };
     this.verdict = new Verdict({ lineOf: (address) => this.opened.lineOf(address), isa: () => this.opened.isa, go: (step) => this.go(step),
-      showPicture: () => { $('picture').scrollIntoView({ block: 'center' }); $('picture').focus({ preventScroll: true }); } });
+      certify: () => this.certifyLong(), showPicture });
     this.steps = new Steps({ go: (step) => this.go(step), most: LAST_STEP });
     this.strip = new Strip({ choose: (step) => this.steps.choose(step), explain: (fault) => sentence(fault, LIMIT) });
     this.edits = new Edits({ edit, clear: () => this.edit(this.opened.plain), use: (text) => this.use(text), refuse,
@@ -457,11 +458,17 @@ class App {
     if (this.shown?.scenario === this.scenario && this.shown?.step === this.step) this.notice(sentence(fault, LIMIT));
   }
 
-  // Asks the program whether uninitialised memory has an influence on what is shown.
-  async certify() {
-    const { shown, opened } = this;
+  // Asks the program whether uninitialised memory has an influence on what is shown, where that isn't done by itself.
+  certifyLong() {
+    this.verdict.wait();
+    this.certify(this.opened.search);
+  }
+
+  // The same, by a session.
+  async certify(session) {
+    const { shown } = this;
     try {
-      const [line] = await opened.session.replies(shown.scenario, shown.step, ['look certify']);
+      const [line] = await session.replies(shown.scenario, shown.step, ['look certify']);
       if (shown === this.shown && shown.scenario === this.scenario && shown.step === this.step) this.verdict.certify(line.trimEnd());
     } catch {
       // Memory that runs out, or a run that is no longer wanted: then nothing is said of it.
@@ -480,7 +487,8 @@ class App {
   // its end, and its landmarks.
   async settle() {
     const { scenario, opened, turn } = this;
-    if (opened.last <= SHORT_RUN) this.certify();
+    if (opened.last <= SHORT_RUN) this.certify(opened.session);
+    else this.verdict.offer();
     const link = await this.opening.link(this.lines);
     if (turn !== this.turn) return;
     if (!this.opening.wanted) {

@@ -19,11 +19,11 @@ function stateWords({ name, rest, address }, isa) {
 
 export class Verdict {
   // `lineOf` tells the source line of an address; `isa` for which instruction set the run is; `showPicture` and `go` go to the picture
-  // and to a step.
-  constructor({ lineOf, isa, showPicture, go }) {
+  // and to a step; `certify` has the program asked whether uninitialised memory has an influence.
+  constructor({ lineOf, isa, showPicture, go, certify }) {
     Object.assign(this, { lineOf, isa, use: null });
     $('counted').addEventListener('click', showPicture);
-    $('certified').addEventListener('click', () => this.use !== null && go(this.use));
+    $('certified').addEventListener('click', () => (this.use === null ? certify() : go(this.use)));
   }
 
   // Shows how a run stands beside the unedited one; `fresh` are the errors and leaks that only it has, `isLast` says whether nothing
@@ -50,8 +50,16 @@ export class Verdict {
     this.use = step === undefined ? null : Number(step);
     const told = CLEAN.test(line) ? 'uninitialised memory has no influence on it'
       : this.use === null ? '' : `from step ${grouped(this.use)} on, what uninitialised or freed memory holds may change it`;
+    this.sayCertified(told, this.use !== null, line);
+  }
+
+  // Offers to ask for that, where it isn't asked by itself, and says that it is being asked.
+  offer() { this.sayCertified('does uninitialised memory matter?', true, 'asks the program, which may need some seconds'); }
+  wait() { this.sayCertified('asking whether uninitialised memory matters', false, ''); }
+
+  sayCertified(told, isButton, title) {
     say('certified', told);
-    Object.assign($('certified'), { hidden: !told, disabled: this.use === null, title: line });
+    Object.assign($('certified'), { hidden: !told, disabled: !isButton, title });
   }
 
   // Shows that there is no report.

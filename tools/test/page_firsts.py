@@ -5,10 +5,13 @@ import math
 import subprocess
 
 from page_bench import SWEPT, expect, same, sweep_flips, table_in, words_of
+from replaycheck.assembly import assemble
 from replaycheck.exploring.outcomes import BADNESS, Outcome
+from replaycheck.guest_files import elf
 
 STATION, PACKET = words_of("station"), words_of("packet")
 COUNTED = "document.getElementById('counted').textContent"
+LONG, EXIT = 1 << 18, "li a7, 93; ecall"
 STALE = "document.getElementById('picture-parts').classList.contains('stale')"
 
 # ---- the first screen
@@ -181,6 +184,18 @@ def certified(bench):
         page.click_on("#certified")
         bench.settle(page)
         same("the step of the first use", page.run("replaycheck.step"), 684)
+    certified_when_asked(bench)
+
+
+def certified_when_asked(bench):
+    """Of a long run it is said only once somebody asks."""
+    with bench.page() as page:
+        bench.give(page, {"program": elf(assemble(f"lui t0, {LONG >> 12}; addi t0, t0, -1; bne t0, zero, .-4; {EXIT}"))})
+        bench.settle(page)
+        page.until("document.getElementById('certified').textContent.endsWith('matter?')", 10)
+        page.click_on("#certified")
+        page.until("document.getElementById('certified').title.startsWith('clean to step')", 60)
+        same("of a long run", page.text("certified"), "uninitialised memory has no influence on it")
 
 
 # ---- colours
