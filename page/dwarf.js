@@ -1,6 +1,6 @@
 // The debugging information of a file: what .debug_info says of functions, variables and types, in DWARF 2 to 5. Units are read as they are
 // wanted. Nothing proves it, and how much of it is read is bounded.
-import { FORM, Reader, Unknown, textIn } from './reader.js';
+import { ADDRESS_SIZE, FORM, LONG_LENGTH, Reader, STRINGS, Unknown, textIn } from './reader.js';
 
 export const TAG = {
   array: 0x01, classType: 0x02, enumeration: 0x04, parameter: 0x05, block: 0x0b, member: 0x0d, pointer: 0x0f, reference: 0x10,
@@ -26,8 +26,6 @@ const COUNTED = new Set([FORM.udata, FORM.refUdata, FORM.strx, FORM.addrx, FORM.
 const WITHIN = new Set([FORM.ref1, FORM.ref2, FORM.ref4, FORM.ref8, FORM.refUdata]);  // references within the unit
 const STRING_INDEX = new Set([FORM.strx, FORM.strx1, FORM.strx2, FORM.strx3, FORM.strx4]);
 const ADDRESS_INDEX = new Set([FORM.addrx, FORM.addrx1, FORM.addrx2, FORM.addrx3, FORM.addrx4]);
-const STRINGS = new Map([[FORM.strp, '.debug_str'], [FORM.lineStrp, '.debug_line_str']]);
-const ADDRESS_SIZE = 4, LONG_LENGTH = 0xfffffff0;
 const COMPILE = 1, PARTIAL = 3;  // kinds of a unit that are read
 const USUAL_BASE = 8;  // where the first entry of a table of version 5 is, if a unit doesn't say
 const LONGEST_NAME = 256;
