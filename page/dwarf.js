@@ -1,16 +1,16 @@
 // The debugging information of a file: what .debug_info says of functions, variables and types, in DWARF 2 to 5. Units are read as they are
 // wanted. Nothing proves it, and how much of it is read is bounded.
-import { FORM, Reader, Unknown, textIn } from './reader.js';
+import { ADDRESS_SIZE, FORM, LONG_LENGTH, Reader, STRINGS, Unknown, textIn } from './reader.js';
 
 export const TAG = {
   array: 0x01, classType: 0x02, enumeration: 0x04, parameter: 0x05, block: 0x0b, member: 0x0d, pointer: 0x0f, reference: 0x10,
-  unit: 0x11, structure: 0x13, functionType: 0x15, typedef: 0x16, union: 0x17, moreParameters: 0x18, inheritance: 0x1c, inlined: 0x1d,
+  structure: 0x13, functionType: 0x15, typedef: 0x16, union: 0x17, moreParameters: 0x18, inheritance: 0x1c, inlined: 0x1d,
   subrange: 0x21, base: 0x24, catchBlock: 0x25, constant: 0x26, enumerator: 0x28, subprogram: 0x2e, tryBlock: 0x32, variable: 0x34,
   volatile: 0x35, restrict: 0x37, rvalueReference: 0x42, atomic: 0x47,
 };
 export const AT = {
   location: 0x02, name: 0x03, byteSize: 0x0b, bitOffset: 0x0c, bitSize: 0x0d, lowPc: 0x11, highPc: 0x12, language: 0x13, constValue: 0x1c,
-  upperBound: 0x2f, origin: 0x31, artificial: 0x34, count: 0x37, memberLocation: 0x38, declaration: 0x3c, encoding: 0x3e,
+  upperBound: 0x2f, origin: 0x31, count: 0x37, memberLocation: 0x38, declaration: 0x3c, encoding: 0x3e,
   external: 0x3f, frameBase: 0x40, specification: 0x47, type: 0x49, ranges: 0x55, dataBitOffset: 0x6b, stringsBase: 0x72,
   addressBase: 0x73, rangesBase: 0x74, listsBase: 0x8c,
 };
@@ -26,8 +26,6 @@ const COUNTED = new Set([FORM.udata, FORM.refUdata, FORM.strx, FORM.addrx, FORM.
 const WITHIN = new Set([FORM.ref1, FORM.ref2, FORM.ref4, FORM.ref8, FORM.refUdata]);  // references within the unit
 const STRING_INDEX = new Set([FORM.strx, FORM.strx1, FORM.strx2, FORM.strx3, FORM.strx4]);
 const ADDRESS_INDEX = new Set([FORM.addrx, FORM.addrx1, FORM.addrx2, FORM.addrx3, FORM.addrx4]);
-const STRINGS = new Map([[FORM.strp, '.debug_str'], [FORM.lineStrp, '.debug_line_str']]);
-const ADDRESS_SIZE = 4, LONG_LENGTH = 0xfffffff0;
 const COMPILE = 1, PARTIAL = 3;  // kinds of a unit that are read
 const USUAL_BASE = 8;  // where the first entry of a table of version 5 is, if a unit doesn't say
 const LONGEST_NAME = 256;
@@ -36,7 +34,7 @@ const MOST_FIELDS = 5000000;  // of all that is read of a file
 const MOST_LINKS = 8;  // references from one entry to the next one that has what is wanted
 
 // One unit: its entries, each with its tag, its fields that are wanted, and the entries in it.
-export class Unit {
+class Unit {
   constructor(dwarf, head) {
     Object.assign(this, head, { dwarf, elf: dwarf.elf, entries: null });
   }

@@ -1,9 +1,8 @@
 // Where a function's frame is: the rule by which .debug_frame or .eh_frame gives the frame's address at an instruction, from a register.
 import { attempt } from './dwarf.js';
-import { Reader, Unknown } from './reader.js';
+import { ADDRESS_SIZE, LONG_LENGTH, Reader, Unknown } from './reader.js';
 
 const COMMON = { '.debug_frame': 0xffffffff, '.eh_frame': 0 };  // what an entry has that is common to several functions
-const LONG_LENGTH = 0xfffffff0, ADDRESS_SIZE = 4;
 const MOST_FUNCTIONS = 200000, MOST_OPERATIONS = 20000, MOST_REMEMBERED = 64;
 const ABSOLUTE = 0x00, RELATIVE = 0x1b, UNSIGNED = 0x03;  // how .eh_frame writes an address: 4 bytes each, RELATIVE to its own place
 const ADVANCE = 1, SAVED_AT = 2;  // operations that have a number in their low six bits, by the high two

@@ -443,7 +443,8 @@ class App {
 
   showVariables() {
     const { shown, seen } = this.machine, { session } = this.opened;
-    const look = inBatches((lines) => {
+    const look = inBatches(async (lines) => {
+      await session.rest();
       if (shown.step !== this.step || shown.scenario !== this.scenario) throw new Stale();  // or the session would have to go back
       return session.replies(shown.scenario, shown.step, lines);
     });

@@ -7,7 +7,9 @@ export const FORM = {
   lineStrp: 0x1f, refSig8: 0x20, implicitConst: 0x21, loclistx: 0x22, rnglistx: 0x23, refSup8: 0x24, strx1: 0x25, strx2: 0x26, strx3: 0x27,
   strx4: 0x28, addrx1: 0x29, addrx2: 0x2a, addrx3: 0x2b, addrx4: 0x2c,
 };
-const IN_SECTION = { [FORM.strp]: '.debug_str', [FORM.lineStrp]: '.debug_line_str' };  // where the text of a form is
+export const STRINGS = new Map([[FORM.strp, '.debug_str'], [FORM.lineStrp, '.debug_line_str']]);  // where the text of a form is
+export const ADDRESS_SIZE = 4;
+export const LONG_LENGTH = 0xfffffff0;  // a length from here on stands before one of 64 bits, which isn't read
 const MOST_BYTES = 8;  // of a number
 
 export class Unknown extends Error {}
@@ -66,7 +68,7 @@ export class Reader {
 
   // The text or the number of an entry in a table of lines.
   form(form) {
-    if (form in IN_SECTION) return textIn(this.elf, IN_SECTION[form], this.word()) ?? '?';
+    if (STRINGS.has(form)) return textIn(this.elf, STRINGS.get(form), this.word()) ?? '?';
     switch (form) {
       case FORM.string: return this.string();
       case FORM.data1: return this.byte();

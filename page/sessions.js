@@ -113,6 +113,11 @@ export class Session {
     return answer;
   }
 
+  // Waits until nothing that was asked is unanswered.
+  async rest() {
+    for (let busy = null; busy !== this.busy;) await (busy = this.busy);
+  }
+
   async lead(scenario, step, asked) {
     if (this.isClosed) throw new Stopped();
     let lines = this.helper && linesBetween(this.at.scenario, scenario, this.program.loaded);

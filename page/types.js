@@ -1,5 +1,6 @@
 // Types of debugging information: what they are called, and how long they are.
 import { AT, TAG, isBlock, once } from './dwarf.js';
+import { ADDRESS_SIZE } from './reader.js';
 
 const MOST_LINKS = 32, MOST_NAMED = 64;  // types that are followed, or named in one type
 const MOST_PARAMETERS = 12, MOST_DIMENSIONS = 8;
@@ -7,8 +8,6 @@ const QUALIFIERS = new Map([[TAG.constant, 'const'], [TAG.volatile, 'volatile'],
 const POINTERS = new Map([[TAG.pointer, '*'], [TAG.reference, '&'], [TAG.rvalueReference, '&&']]);
 const AGGREGATES = new Map([[TAG.structure, 'struct'], [TAG.classType, 'class'], [TAG.union, 'union'], [TAG.enumeration, 'enum']]);
 const WITH_TAGS = new Set([0x01, 0x02, 0x0c, 0x1d, 0x2c]);  // languages whose names of structures have `struct` before them: C
-
-export const ADDRESS_SIZE = 4;
 
 // The type of an entry, or null for none, which is `void`.
 export function typeOf(entry) {

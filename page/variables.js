@@ -7,7 +7,7 @@ import { Unknown } from './reader.js';
 import { sizeOf, typeName, typeOf } from './types.js';
 import { OPTIMIZED_OUT, Values } from './values.js';
 
-export const SOMEWHERE = 'somewhere else';
+const SOMEWHERE = 'somewhere else';
 const CHUNK = 256;  // bytes of memory that are asked for at once: a multiple of this, at a multiple of this
 const MOST_ROWS = 300, MOST_DEPTH = 64;
 const MOST_SCOPES = 10000;  // that are remembered
@@ -16,7 +16,7 @@ const VARIABLES = new Set([TAG.variable, TAG.parameter]);
 const HIGHEST = 2 ** 32;
 
 // Reads memory by chunks, each at most once: a function as `read` is, for one step.
-export function byChunks(read) {
+function byChunks(read) {
   const known = new Map();
   const chunk = (begin) => {
     if (!known.has(begin)) known.set(begin, read(begin, CHUNK));
