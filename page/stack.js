@@ -69,7 +69,7 @@ export class Stack {
     if (!this.variables || !seen.runs) return;
     const found = await this.variables(seen.pc, seen.registers, read), row = $('calls').firstElementChild;
     if (isStale() || !row || !found?.length) return;
-    row.append(element('ul', { className: 'variables', 'aria-label': 'variables' }, ...found.map((it) => this.variable(it))));
+    row.append(element('ul', { className: 'frame-variables', 'aria-label': 'variables' }, ...found.map((it) => this.variable(it))));
   }
 
   variable({ name, type, text, undefined: isUndefined, address }) {

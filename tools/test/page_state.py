@@ -387,10 +387,10 @@ def markup_in_the_state(bench):
         for part in ("calls", "block-told"):
             expect(name in page.text(part), f"{part}: {page.text(part)}")
         expect(f"{name}<b>" in page.text("calls"), page.text("calls"))
-        same("variables", page.run("[...document.querySelectorAll('#calls .variables li')].map((it) => it.textContent)"),
+        same("variables", page.run("[...document.querySelectorAll('#calls .frame-variables li')].map((it) => it.textContent)"),
              [f"<i>x</i> = {','.join(map(str, program[84:88]))} <b>int</b>, undefined", "gone = ? "])
         same("elements of the markup", page.run("document.querySelectorAll('#main :is(img, i, b, script)').length"), 0)
-        page.click_on("#calls .variables button")
+        page.click_on("#calls .frame-variables button")
         page.until("replaycheck.machine.at === 0x10000")
         same("what the names did", page.run("globalThis.hacked ?? null"), None)
 
