@@ -114,8 +114,8 @@ export class Machine {
       this.registers.mark(before ? differing(before.registers, seen.registers) : new Set());
       this.memory.mark(before ? differing(parseMemory(memory), bytes) : new Set());
       this.stack.rest(before ? moved(parseStack(stack), frames, (it) => this.nameOf(it)) : '', grouped(step - 1));
-      await this.stack.showVariables(seen, (...range) => this.read(...range), isStale);
       await this.restBlocks(lookAt, isStale);
+      if (!isStale()) await this.stack.showVariables(seen, (...range) => this.read(...range), isStale);
       if (!isStale()) this.rested = shown;
     } catch {
       // Memory that runs out, or a run that is no longer wanted: then nothing is marked.
