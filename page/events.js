@@ -1,4 +1,5 @@
 // What a run does and when, as the program replies to looks: calls and returns, input and output, calls of the heap, errors, stacks.
+import { parseStack } from './looks.js';
 import { parseReport } from './report.js';
 
 const EVENT = /^(\d+) (call|return|heap|input|output) (?:(0x[0-9a-f]{8}) )?(\d+)$/;
@@ -18,8 +19,6 @@ function parseCalls(text) {
   });
   return { events, next: last === 'end' ? null : Number(last.split(' ')[1]) };
 }
-
-const parseStack = (text) => text.trimEnd().split(' ').slice(1).map(Number);
 
 // The step that a search has found, null where it has found none.
 const parseStep = (text) => (text.startsWith('step ') ? Number(text.slice(5)) : null);

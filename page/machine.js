@@ -4,30 +4,16 @@ import { Asking, sentenceOf } from './asking.js';
 import { Blocks, changedBlocks, parseBlocks, readBlocks } from './blocks.js';
 import { $, say } from './dom.js';
 import { HEAP_NAMES } from './facts.js';
-import { grouped, hexWord, numberOf } from './numbers.js';
+import { parseMemory, parseRegisters, parseStack } from './looks.js';
 import { GRAIN, Memory, SEEN, knownOf } from './memory.js';
+import { grouped, hexWord } from './numbers.js';
 import { Registers } from './registers.js';
-import { Stack, moved, parseStack } from './stack.js';
+import { Stack, moved } from './stack.js';
 
-const NO_ACCESS = '__';
 const HIGHEST = 2 ** 32;
 const STACK = 2;  // the register at whose bytes the memory begins, until an address is chosen
 const REST = 80;  // milliseconds without another step, after which the step before is looked at too
 const BLOCKS = 'look blocks 0', CALLS_HEAP = /^\d+ heap /;
-
-// What looks at registers and at memory tell.
-export function parseRegisters(text) {
-  const [state, ...rows] = text.trimEnd().split('\n');
-  const [, how, pc] = /^state (\w+) ?(0x[0-9a-f]{8})?/.exec(state) ?? [];
-  const pairs = rows.map((row) => row.split(' ').slice(1).map(Number));
-  return { runs: how === 'running', pc: pc && how === 'running' ? Number(pc) : null, state: state.replace('state ', ''),
-    registers: [[0, 0], ...pairs].map(([value, undef]) => ({ value, undef })) };
-}
-
-export function parseMemory(text) {
-  const [bytes, undefs] = text.trimEnd().split('\n').map((row) => row.split(' ')[1].match(/../g));
-  return bytes.map((it, i) => ({ value: parseInt(it, 16), undef: undefs[i] === NO_ACCESS ? null : parseInt(undefs[i], 16) }));
-}
 
 const memoryLine = (at, length = SEEN) => `look memory ${hexWord(at)} ${length}`;
 const differ = (a, b) => a.value !== b.value || a.undef !== b.undef;

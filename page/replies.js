@@ -1,11 +1,11 @@
 // Parts what a program writes for lines into its replies: a report goes up to its summary, looks at registers and at memory have so
-// many lines, looks that list something go up to a line that says where the next one begins, and any other reply is a line.
+// many lines, lists of calls and of blocks go up to a line that ends them, and any other reply is a line.
 const REPORT = 'step ';
 const LAST_LINE = '\nERROR SUMMARY: ';
 const REFUSED = 'refused ';
 const LOOKED = { registers: 32, memory: 2 };
-const LISTS = ['blocks', 'calls'];
-const LIST_END = /^(?:end|next \S+)\n/m;
+const LISTED = new Set(['calls', 'blocks']);
+const LIST_END = /^(?:end|next .*)\n/m;
 
 export class Replies {
   constructor() {
@@ -34,13 +34,13 @@ export class Replies {
     const first = this.rest.indexOf('\n') + 1;
     if (!first || this.rest.startsWith(REFUSED)) return first;
     const [, look] = /^look (\w+)/.exec(this.asked[0] ?? '') ?? [];
-    if (LISTS.includes(look)) return this.endOfList();
+    if (LISTED.has(look)) return this.endOfList();
     if (look) return this.endOfLine(LOOKED[look] ?? 1);
     const last = this.rest.startsWith(REPORT) ? this.rest.indexOf(LAST_LINE) : 0;
     return last < 0 ? 0 : this.rest.indexOf('\n', last + 1) + 1;
   }
 
-  // Where the last line of a list ends.
+  // Where a list ends.
   endOfList() {
     const found = LIST_END.exec(this.rest);
     return found ? found.index + found[0].length : 0;

@@ -4,9 +4,6 @@ import { hexWord, many } from './numbers.js';
 
 const FIRST = 32;  // frames that are shown while the step is dragged
 
-// The address of the next instruction and those of the calls, as a look tells them.
-export const parseStack = (text) => text.trim().split(' ').slice(1).map(Number);
-
 // What a step has done with the calls, by what they are before it and after it; `functionOf` gives the function of an address.
 export function moved(before, now, functionOf) {
   if (now.length !== before.length) return now.length > before.length ? 'called' : 'returned to';

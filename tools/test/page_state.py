@@ -288,7 +288,7 @@ def searched_further(bench):
 
 
 def state_by_keys(bench):
-    """Frames, registers, bytes, questions and blocks by keys only."""
+    """Frames, registers, bytes and questions by keys only."""
     with bench.open() as page:
         page.run("replaycheck.go(600)")
         rests(page, 600)
@@ -317,6 +317,13 @@ def state_by_keys(bench):
         same("what comes after a question", held(), "byte-since")
         page.run("document.getElementById('asked-back').focus()")
         page.press("Enter")
+        rests(page, 600)
+
+
+def blocks_by_keys(bench):
+    """Blocks by keys only, and a byte of one that is typed over."""
+    with bench.open() as page:
+        page.run("replaycheck.go(600)")
         rests(page, 600)
         page.focus("blocks")
         for key, want in (("End", 2), ("ArrowLeft", 1), ("Home", 0), ("ArrowRight", 1)):

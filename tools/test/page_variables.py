@@ -65,7 +65,7 @@ json.dump(found, open(FOUND, "w"))
 SCRIPT = """
 import { readFileSync } from 'node:fs';
 import { Elf } from './elf.js';
-import { parseMemory, parseRegisters } from './machine.js';
+import { parseMemory, parseRegisters } from './looks.js';
 import { Variables } from './variables.js';
 const { elf, facts, page } = JSON.parse(readFileSync(ASKED));
 const all = new Variables(new Elf(new Uint8Array(readFileSync(elf))));
