@@ -30,7 +30,7 @@ def tab_stops(bench):
         page.run("replaycheck.use('goto 600\\ninput 1 8\\ninput append 7')")
         bench.settle(page)
         page.run("[...document.querySelectorAll('details')].forEach((it) => { it.open = true; })")
-        page.until("replaycheck.machine.step === 600 && replaycheck.steps.landmarks.length > 1", 20)
+        page.until("replaycheck.machine.step === 600 && replaycheck.steps.landmarks.some((it) => it.kinds.includes('end'))", 20)
         page.until(f"{SWEPT} && !replaycheck.sweeps.isStale", 60)
         for part, keys, want in STOPS:
             stops = page.run(f"""[...document.querySelectorAll('#{part} :is(button, input, summary, [tabindex])')]
