@@ -15,7 +15,7 @@ from replaycheck.assembly import assemble
 from replaycheck.guest_files import ENTRY, elf
 
 DONE = ("replaycheck.strip.runs.length === {} && !replaycheck.strip.next && replaycheck.strip.runs.every((it) => it.isDone)"
-        " && !document.getElementById('strip-frame').classList.contains('stale')")
+        " && !replaycheck.strip.isStale")
 # What the strip has of its runs: each cell by its row, its steps and its name, and each mark.
 MODEL = """replaycheck.strip.runs.map((run) => ({ every: run.every, last: run.last,
   marks: [...run.marks, ...run.errors].map(({ step, what, count }) => [step, what, count ?? null]),
@@ -157,7 +157,7 @@ def cells_and_marks(bench):
                 parting = min(int(it.split(" ")[0]) for it in pairs[0] if it) if pairs else None
                 same(f"whether {label} parts", parting is not None, differs)
                 want = f"their events part at step {parting:,}" if differs else "their events are the same"
-                expect(want in page.text("strip-how"), f"{label}: {page.text('strip-how')!r} doesn't say {want!r}")
+                page.until(f"document.getElementById('strip-how').textContent.includes({json.dumps(want)})", 5)
             same(f"complaints of {label}", page.complaints(), [])
 
 
@@ -229,7 +229,7 @@ def long_runs(bench):
         told, native = page.run(MODEL)[0], Native(bench, [str(path)], [])
         expect(880000 < told["last"] < 920000, f"it has {told['last']} steps")
         same("its samples", told["every"], 1024)
-        expect("sampled at every 1,024th step" in page.text("strip-how"), f"it says {page.text('strip-how')!r}")
+        page.until("document.getElementById('strip-how').textContent.includes('sampled at every 1,024th step')", 5)
         steps = [1024 * it for it in range(0, told["last"] // 1024, 9)]
         same("stacks that are sampled", [page.run(f"{AT}({it})") for it in steps], native.stacks(steps))
         page.run("replaycheck.strip.view.place(500000, 2000)")
@@ -245,7 +245,7 @@ def long_runs(bench):
         same("runs that are read, and whether the first was read to its end", page.run("[made.length, made[0].isWanted, made[0].isRead]"),
              [2, False, False])
         same("the run that is shown", page.run("replaycheck.strip.edited.scenario.lines"), ["mark 2 0x00020000 4 undefined"])
-        expect("at the sampled steps their stacks are the same" in page.text("strip-how"), f"it says {page.text('strip-how')!r}")
+        page.until("document.getElementById('strip-how').textContent.includes('at the sampled steps their stacks are the same')", 5)
         same("complaints", page.complaints(), [])
 
 
