@@ -168,9 +168,10 @@ def edits_of_the_strip(bench):
         page.until(DONE.format(1), 60)
         page.run("(() => { globalThis.plain = replaycheck.strip.plain; })()")
         edited(bench, page, ["input 1 8"], 2)
-        page.run("(() => { globalThis.before = replaycheck.strip.edited; replaycheck.use('input 1 9'); })()")
-        bench.settle(page)
-        expect(page.run("document.getElementById('strip-frame').classList.contains('stale')"), "a strip of before the edit isn't stale")
+        stale = page.run("""(async () => { globalThis.before = replaycheck.strip.edited; replaycheck.use('input 1 9');
+          await new Promise(requestAnimationFrame);
+          return document.getElementById('strip-frame').classList.contains('stale'); })()""")
+        expect(stale, "a strip of before the edit isn't stale")
         page.until(DONE.format(2), 60)
         same("the run before the last edit, and the unedited one", page.run("[before.isWanted, plain === replaycheck.strip.plain]"),
              [False, True])
