@@ -1,7 +1,8 @@
 // Instruction sets, and how long instructions are. Source: RISC-V Unprivileged ISA 20191213, section 1.5.
 import { ISAS } from './facts.js';
 
-export const [USUAL, , ATOMIC] = ISAS;
+export const USUAL = ISAS[0];
+export const ATOMIC = ISAS[2];
 // Bytes of an instruction.
 export const HALF = 2;
 export const WORD = 4;

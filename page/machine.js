@@ -26,7 +26,8 @@ export class Machine {
   // and `visit` goes there; `functionAt` and `lineOf` tell the function and the source line of an address. `rests` is told that
   // the step rests.
   constructor({ look, search, again, alter, refuse, go, showPc, visit, functionAt, lineOf, rests }) {
-    Object.assign(this, { look, search, again, go, showPc, functionAt, lineOf, rests, chosen: null, at: 0, step: 0, seen: null, bytes: [] });
+    Object.assign(this, { look, search, again, go, showPc, functionAt, lineOf, rests, chosen: null, at: 0, step: 0 });
+    Object.assign(this, { seen: null, bytes: [] });
     const ask = (what, place) => this.ask(what, place), show = (address) => this.choose(address, address);
     this.registers = new Registers({ alter, refuse, ask });
     this.memory = new Memory({ alter, refuse, ask, choose: (address) => this.choose(address) });
@@ -77,7 +78,7 @@ export class Machine {
 
   render(frames, blocks) {
     const { seen, step, at, bytes } = this;
-    say('machine-told', `before step ${grouped(step)}: ${seen.runs ? 'running at' : `${seen.state}, so nothing changes any more`}`);
+    say('machine-told', seen.runs ? `before step ${grouped(step)}: running at` : `${seen.state}, so nothing changes any more`);
     $('pc').hidden = !seen.runs;
     if (seen.runs) say('pc', hexWord(seen.pc));
     this.registers.show(seen, step);

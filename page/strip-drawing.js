@@ -3,7 +3,8 @@ import { firstAfter } from './calls.js';
 import { toneOf } from './colours.js';
 import { grouped } from './numbers.js';
 
-export const LANE = 20, ROW = 16;  // pixels of the marks of a run, and of a row of calls
+export const LANE = 20;  // pixels of the marks of a run
+export const ROW = 16;  // pixels of a row of calls
 const AXIS = 17, BETWEEN = 8;  // pixels of the steps below, and between two runs
 const LEAST_TEXT = 26, INSET = 4;  // pixels of a cell that has its name, and beside the name
 const LONGEST = 200;  // letters of a name that are measured

@@ -351,10 +351,11 @@ def by_keyboard(bench):
 
 
 def one_file(bench):
-    """The page of one file, from disk: an example, an edit, and the counts of its sweep."""
+    """The page of one file, from disk: an example, its instruction set, an edit, and the counts of its sweep."""
     with bench.browser.page(bench.file) as page:
         page.run("replaycheck.opening.choose('station')")
         bench.settle(page)
+        same("the instruction set", page.run("[document.getElementById('isa').value, replaycheck.opened.isa]"), ["rv32im", "rv32im"])
         page.until(SWEPT, 120)
         same("edits", page.run("replaycheck.sweeps.sweep.swept.edits"), 10455)
         page.until("document.getElementById('sweep-told').textContent.includes('287 of them')")

@@ -28,6 +28,12 @@ def variable(name):
     return "module_" + re.sub(r"\W", "_", name.removesuffix(".js"))
 
 
+def is_found(name, modules):
+    """Whether all that a module imports is exported by name, as a name that isn't would only be undefined in one script."""
+    return all(word.split()[0] in EXPORTED.findall(modules[found[2]])
+               for found in IMPORT.finditer(modules[name]) for word in found[1].split(","))
+
+
 def wrapped(name, text):
     """A module as a function that is called at once."""
     exported = ", ".join(EXPORTED.findall(text))
@@ -40,4 +46,8 @@ def wrapped(name, text):
 
 def one_script(name, modules):
     """The script of a module with all that it needs."""
-    return "'use strict';\n" + "".join(wrapped(it, modules[it]) for it in order_of(name, modules))
+    names = order_of(name, modules)
+    for it in names:
+        if not is_found(it, modules):
+            raise Fault(f"{it}: imports something that isn't exported in a form that the page of one file supports")
+    return "'use strict';\n" + "".join(wrapped(it, modules[it]) for it in names)
