@@ -214,7 +214,7 @@ class Run:
         return b"".join(parts)
 
     def sides(self, address: int, length: int, step: Optional[int] = None) -> dict[int, int]:
-        """Returns what the run has done with each instruction of a range before a step, by its address: 1, it went on behind it each time
+        """Returns what the run has done with each instruction of a range before a step, by its address: 1, it continued after it each time
         that it executed it, 2, it went elsewhere, 3, both. Instructions that it didn't execute aren't there.
 
         # Errors
