@@ -10,7 +10,7 @@ use Rattle.run_values.specs.declared.alteration.Alteration.{Alteration}
 use Rattle.run_values.specs.declared.span.Span.{Span}
 use Rattle.checkpoints.specs.declared.sides.Sides.{Sides}
 
--- a side of an instruction: its address, and whether the run goes on behind it, or elsewhere
+-- a side of an instruction: its address, and whether the run continues after it, or elsewhere
 pub record Side : Type 0 where
   pub addr : ℕ
   pub on : Bool

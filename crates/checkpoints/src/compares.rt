@@ -1,11 +1,12 @@
 //! The compares that a run executes, with their operands.
-ghost use Rattle.std.specs.Prelude.{◌≡◌, ◌++◌, ℕ, take, option_to_list, IfOk, OnOk};
+ghost use Rattle.std.specs.Prelude.{◌≡◌, ◌++◌, ℕ, take, option_and_then, option_to_list, IfOk, OnOk};
 ghost use Rattle.guest_machine.specs.State.{State};
 ghost use Rattle.guest_machine.specs.Run.{pre};
 ghost use Rattle.guest_machine.specs.Shows.{Shows};
 ghost use Rattle.checkpoints.specs.Compares.{code_at, compare_at, compares_between, if_compares, operands_in, operands_of, value_of};
 ghost use Rattle.checkpoints.specs.Effects.{LeadsTo, Run};
 ghost use Rattle.checkpoints.specs.Forks.{IsForkFor};
+ghost use Rattle.instructions.specs.Codes.{row_of_code};
 
 use crate::effect::Effect;
 use crate::forks::{Fork, written_copy};
@@ -13,8 +14,8 @@ use crate::running::{is_running, next_step, pass_marks};
 use guest_machine::laws::{
     end_stays, keeps_end, keeps_heap, keeps_input, keeps_isa, keeps_pokes, reads_on, stays_halted,
 };
-use guest_machine::{Alteration, Code, Machine, Register, Setup};
-use instructions::{Instruction, Operation, row_of_code};
+use guest_machine::{Alteration, Machine, Register, Setup};
+use instructions::{Instruction, Operation};
 use std::alloc::{AllocError, Global};
 
 /// A compare that a run executes: a branch, or SLT, SLTU, SLTI or SLTIU.
@@ -124,8 +125,7 @@ fn push_if(found: &mut Vec<Compare>, compare: Option<Compare>) -> Result<(), All
 fn compare_at(machine: &Machine, setup: &Setup, step: u32) -> Option<Compare>
     ensures { (s : State) → Shows machine.now s → result ≡ compare_at step s setup.now }
 {
-    let code = code_at(machine, setup)?;
-    let (left, right) = operands_in(machine, code)?;
+    let (left, right) = operands_at(machine, setup)?;
     let pc = machine.pc();
     Some(Compare {
         step,
@@ -135,23 +135,23 @@ fn compare_at(machine: &Machine, setup: &Setup, step: u32) -> Option<Compare>
     })
 }
 
-/// The code that the next step of a machine takes, if it takes one.
-fn code_at(machine: &Machine, setup: &Setup) -> Option<Code>
-    ensures { (s : State) → Shows machine.now s → result ≡ code_at s setup.now }
+/// The operands of the instruction that the next step of a machine executes, if it is a compare.
+fn operands_at(machine: &Machine, setup: &Setup) -> Option<(u32, u32)>
+    ensures { (s : State) → Shows machine.now s → result ≡ option_and_then (operands_in s.core) (code_at s setup.now) }
 {
-    match setup.hooks.at(machine.pc()) {
-        Some(_) => None,
-        None => machine.code(),
+    match instruction_at(machine, setup) {
+        Some(instruction) => operands_of(machine, &instruction),
+        None => None,
     }
 }
 
-/// The operands of a code, if it is that of a compare.
-fn operands_in(machine: &Machine, code: Code) -> Option<(u32, u32)>
-    ensures { (s : State) → Shows machine.now s → result ≡ operands_in s.core code }
+/// The instruction that the next step of a machine executes, if it takes a code that is one.
+fn instruction_at(machine: &Machine, setup: &Setup) -> Option<Instruction>
+    ensures { (s : State) → Shows machine.now s → result ≡ option_and_then row_of_code (code_at s setup.now) }
 {
-    match row_of_code(code) {
-        Some(row) => operands_of(machine, &row),
-        None => None,
+    match setup.hooks.at(machine.pc()) {
+        Some(_) => None,
+        None => machine.instruction(),
     }
 }
 

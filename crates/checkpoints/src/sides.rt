@@ -24,11 +24,11 @@ use std::alloc::{AllocError, Global};
 /// What a run has done with the instruction at a place.
 #[derive(Clone, Copy)]
 pub struct Sides {
-    /// It has executed the instruction and gone on behind it.
+    /// It has executed the instruction and continued after it.
     pub on: bool,
     /// It has executed the instruction and gone elsewhere, or ended there.
     pub away: bool,
-    /// It has gone on behind the instruction more than once.
+    /// It has continued after the instruction more than once.
     pub on_again: bool,
     /// It has gone elsewhere more than once.
     pub away_again: bool,
@@ -212,15 +212,24 @@ fn is_known(sides: Sides, on: bool) -> bool
     }
 }
 
-/// What a run has done with an instruction once it also goes on behind it, or elsewhere.
+/// What a run has done with an instruction once it also continues after it, or elsewhere.
 fn with_side(sides: Sides, on: bool) -> Sides
     ensures { result ≡ with_side sides on }
 {
-    Sides {
-        on: sides.on || on,
-        away: sides.away || !on,
-        on_again: sides.on_again || (sides.on && on),
-        away_again: sides.away_again || (sides.away && !on),
+    if on {
+        Sides {
+            on: true,
+            away: sides.away,
+            on_again: sides.on_again || sides.on,
+            away_again: sides.away_again,
+        }
+    } else {
+        Sides {
+            on: sides.on,
+            away: true,
+            on_again: sides.on_again,
+            away_again: sides.away_again || sides.away,
+        }
     }
 }
 

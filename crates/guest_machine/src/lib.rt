@@ -31,7 +31,7 @@
 //! | [`Machine::status`], [`Machine::pc`], [`Machine::register`] | return whether it runs, and its registers |
 //! | [`Machine::control`] | returns a control register, if the instruction set has those |
 //! | [`Machine::heap_begin`] | returns the first address of the heap's region |
-//! | [`Machine::isa`], [`Machine::code`] | return the instruction set, which is the image's, and the code at pc |
+//! | [`Machine::isa`], [`Machine::code`], [`Machine::instruction`] | return the instruction set, which is the image's, the code at pc, and its instruction |
 //! | [`Machine::position`], [`Machine::end_seen`] | return how much of the input was read so far, and whether its end was seen |
 //! | [`Machine::output_len`], [`Machine::heap_calls`] | return the number of bytes written and of heap calls so far |
 //! | [`Machine::has_raised`] | returns whether the last step by [`Machine::step`] raised an error |

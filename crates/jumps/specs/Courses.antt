@@ -14,7 +14,7 @@ LeadsOn keys setup from n one next =
     (s : State) → Shows one s
     → Shows next (pre s setup [] n) × ((j : ℕ) → j < n → TellsStep keys setup (pre s setup [] j) (from + j))
 
--- each machine leads on to the next one, so many steps later
+-- each machine leads on to the next one, that number of steps later
 abbrev pub IsCourse : List ℕ → Setup → ℕ → List Machine → Type 0
 IsCourse keys setup apart machines =
     (i : ℕ) (one next : Machine) → slice_get machines i ≡ Some one → slice_get machines (suc i) ≡ Some next

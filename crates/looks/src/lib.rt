@@ -16,7 +16,7 @@
 //! | `look controls` | the name, the value and the undefined bits of each control register that is shown, one line each; `none` if there is none |
 //! | `look memory ADDR LEN` | `bytes` and 1 to 4,096 bytes; `undef` and below each its undefined bits, `__` where there is no access |
 //! | `look output FROM LEN` | `bytes` and 1 to 4,096 bytes of the output from position FROM on, or those that there are |
-//! | `look sides ADDR LEN` | `sides` and a digit for each place in these 1 to 4,096 bytes, the first at ADDR, as far apart as the shortest instructions are long: what the run up to the chosen step has done with the instruction there. 0 nothing, 1 executed it and gone on behind it, 2 executed it and gone elsewhere or ended there, 3 both |
+//! | `look sides ADDR LEN` | `sides` and a digit for each place in these 1 to 4,096 bytes, the first at ADDR, as far apart as the shortest instructions are long: what the run up to the chosen step has done with the instruction there. 0 nothing, 1 executed it and continued after it, 2 executed it and gone elsewhere or ended there, 3 both |
 //! | `look input` | `input P L`, where P of the L bytes of the input were read, and `yes` if a read has asked for more than were left, else `no` |
 //! | `look next KIND ADDR LEN END` | `step N`, the first from the chosen one on and below END that does it, or `none` |
 //! | `look last KIND ADDR LEN FROM` | `step N`, the last before the chosen one and from FROM on that does it, or `none` |

@@ -5,7 +5,7 @@ use guest_machine::{
     Act, Alteration, Hooks, Input, Machine, Mark, Meter, Register, Setup, Span, Status, Touched,
 };
 use guest_programs::program;
-use instructions::Code;
+use instructions::{Code, Instruction};
 use memory_map::{Regions, StackRegion};
 use shadow_memory::RangeKind;
 use std::alloc::{AllocError, Global};
@@ -321,10 +321,18 @@ fn is_learnt(
     takes_over(alloc, image, setup, decoded)
 }
 
-/// Returns whether they are taken over from the program after three steps.
+/// Returns whether the next instruction of a machine is `addi a0, a0, 1`.
+fn counts(machine: &Machine) -> bool {
+    matches!(machine.instruction(), Some(Instruction::Immediate { rd, rs1, imm: 1, .. }) if rd.number() == 10 && rs1.number() == 10)
+}
+
+/// Returns whether they are taken over from the program after three steps. Its next instruction is the same before it was decoded and after.
 fn learns(alloc: Global, image: &Image, start: Machine, setup: &Setup) -> Result<bool, AllocError> {
+    let is_first = counts(&start);
     let mut decoded = stepped(start, setup, &mut Meter::new(), 3)?;
-    is_learnt(alloc, image, setup, &mut decoded)
+    let again = stepped(decoded.share_ready()?, setup, &mut Meter::new(), 1)?;
+    let is_same = !counts(&decoded) && counts(&again);
+    Ok(is_first && is_same && is_learnt(alloc, image, setup, &mut decoded)?)
 }
 
 /// Returns whether each register of a machine before its first step is defined, and 0 except for the stack pointer, and whether the

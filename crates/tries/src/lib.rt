@@ -19,7 +19,7 @@
 //! occurrence, from 0 on. An outcome is the outline of the run at the chosen step, as in the table of a sweep. If no try before had it, the
 //! reply begins with `outcome K` and its lines.
 //!
-//! A side is an instruction together with whether the run goes on behind it or elsewhere. N is the number of sides that the run has and no
+//! A side is an instruction together with whether the run continues after it or elsewhere. N is the number of sides that the run has and no
 //! try before had, M the number of those that it has more than once and no try before had more than once. They are told of the segment of
 //! the file in which the program begins, as far as the file has bytes for it, and of at most 4 MiB.
 //!

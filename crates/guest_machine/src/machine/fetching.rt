@@ -1,5 +1,5 @@
 //! The code at pc: what can be fetched, and which instruction it is.
-ghost use Rattle.std.specs.Prelude.{◌≡◌, Option, Some, None, IfSome, OnOk, false, true};
+ghost use Rattle.std.specs.Prelude.{◌≡◌, Option, Some, None, option_and_then, IfSome, OnOk, false, true};
 ghost use Rattle.guest_machine.specs.Errors.{fetch_undef};
 ghost use Rattle.guest_machine.specs.Exec.{code_in, cut, fetched, is_ready, is_running, jump_fault, no_intake, nothing, unfetched, Takes};
 ghost use Rattle.guest_machine.specs.Shows.{core_of, bytes_of, Shows};
@@ -34,6 +34,22 @@ impl Machine {
         match self.guest.fetch() {
             Fetch::Whole(code, _) => Some(code),
             Fetch::First(_) | Fetch::Nothing => None,
+        }
+    }
+
+    /// Returns the instruction of the code that [`Machine::code`] returns, if it is one. Costs less where it was decoded before.
+    pub fn instruction(&self) -> Option<Instruction>
+        ensures { (s : State) → Shows self.now s → result ≡ option_and_then row_of_code (code_in (fetched s.core s.bytes)) }
+    {
+        if let Some(instruction) = self.guest.decoded() {
+            return Some(instruction);
+        }
+        if let Some(instruction) = self.guest.decoded_half() {
+            return Some(instruction);
+        }
+        match self.code() {
+            Some(code) => row_of_code(code),
+            None => None,
         }
     }
 }
