@@ -153,24 +153,31 @@ def status_of(main):
     return status
 
 
-def end(name, main):
-    """Ends a tool of this name with the status that its work gives, 2 where it can't be done."""
-    open_streams()
+def outcome_of(name, main):
+    """The status of a tool of this name, 2 where its work can't be done, once its children have ended. A signal meanwhile interrupts it, and
+    none does so with words while Python ends itself."""
     for number in TOLD:
         if signal.getsignal(number) != signal.SIG_IGN:
             signal.signal(number, interrupt)
     try:
-        try:
-            status = status_of(main)
-        except Fault as fault:
-            status = tell(name, fault)
+        status = status_of(main)
+    except Fault as fault:
+        status = tell(name, fault)
+    end_children()
+    for number in TOLD:
+        if signal.getsignal(number) is interrupt:
+            signal.signal(number, signal.SIG_DFL)
+    return status
+
+
+def end(name, main):
+    """Ends a tool of this name with the status that its work gives, or as a signal does that comes meanwhile."""
+    open_streams()
+    try:
+        status = outcome_of(name, main)
     except Interrupted as signalled:
         silence()
         die_of(signalled.number)
-    end_children()
-    for number in TOLD:
-        if signal.getsignal(number) is interrupt:  # what Python does now to end itself is not to be interrupted with words
-            signal.signal(number, signal.SIG_DFL)
     sys.exit(status)
 
 
