@@ -154,8 +154,8 @@ def status_of(main):
 
 
 def outcome_of(name, main):
-    """The status of a tool of this name, 2 where its work can't be done, once its children have ended. A signal meanwhile interrupts it, and
-    none does so with words while Python ends itself."""
+    """The status of a tool of this name, 2 where its work can't be done, once its children have ended. A signal meanwhile
+    interrupts it, and none does so with words while Python ends itself."""
     for number in TOLD:
         if signal.getsignal(number) != signal.SIG_IGN:
             signal.signal(number, interrupt)
