@@ -1,6 +1,6 @@
 //! The public calls of the machine, once each with ample memory, and a few short programs. Other behaviour of programs is tested from
 //! outside (`tools/test/test-guests`).
-use crate::trials::{COUNT, NO_STREAMS, Row, Trial, are_hooks, assert_so, assert_so_for};
+use crate::trials::{COUNT, NO_STREAMS, Row, Trial, are_hooks, assert_so, assert_so_for, is_count};
 use guest_elf::Isa;
 use guest_machine::laws::{
     alters_as_marked, end_stays, fetches_codes, goes_by_fours, keeps_end, keeps_heap, keeps_input,
@@ -8,7 +8,7 @@ use guest_machine::laws::{
     stays_halted,
 };
 use guest_machine::{Input, Status, Stop};
-use instructions::{Code, Instruction, Operation, row_of_code};
+use instructions::{Code, row_of_code};
 use std::alloc::{AllocError, Global};
 
 /// `addi a7, x0, 93`, `1234` and `2001`; `addi a0, x0, 300`; ECALL
@@ -258,23 +258,14 @@ fn halves_are_executed(rt: HostRuntime) {
 }
 
 /// Returns whether a code of this length adds 1 to a register.
-fn is_count(code: Code, len: u32) -> bool {
-    match row_of_code(code) {
-        Some(
-            Instruction::Immediate {
-                operation: Operation::Add,
-                imm: 1,
-                ..
-            },
-        ) => code.len() == len,
-        _ => false,
-    }
+fn is_count_of(code: Code, len: u32) -> bool {
+    is_count(row_of_code(code)) && code.len() == len
 }
 
 #[test]
 fn codes_stand_for_instructions(rt: HostRuntime) {
-    assert!(rt; is_count(Code::Word(COUNT), 4), "a word");
-    assert!(rt; is_count(Code::Half(0x0505), 2), "a half");
+    assert!(rt; is_count_of(Code::Word(COUNT), 4), "a word");
+    assert!(rt; is_count_of(Code::Half(0x0505), 2), "a half");
     assert!(rt; row_of_code(Code::Half(0)).is_none(), "no instruction");
 }
 

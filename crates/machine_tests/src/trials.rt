@@ -5,7 +5,7 @@ use guest_machine::{
     Act, Alteration, Hooks, Input, Machine, Mark, Meter, Register, Setup, Span, Status, Touched,
 };
 use guest_programs::program;
-use instructions::{Code, Instruction};
+use instructions::{Code, Instruction, Operation};
 use memory_map::{Regions, StackRegion};
 use shadow_memory::RangeKind;
 use std::alloc::{AllocError, Global};
@@ -321,17 +321,26 @@ fn is_learnt(
     takes_over(alloc, image, setup, decoded)
 }
 
-/// Returns whether the next instruction of a machine is `addi a0, a0, 1`.
-fn counts(machine: &Machine) -> bool {
-    matches!(machine.instruction(), Some(Instruction::Immediate { rd, rs1, imm: 1, .. }) if rd.number() == 10 && rs1.number() == 10)
+/// Returns whether an instruction adds 1 to a register.
+pub(crate) fn is_count(instruction: Option<Instruction>) -> bool {
+    match instruction {
+        Some(
+            Instruction::Immediate {
+                operation: Operation::Add,
+                imm: 1,
+                ..
+            },
+        ) => true,
+        _ => false,
+    }
 }
 
 /// Returns whether they are taken over from the program after three steps. Its next instruction is the same before it was decoded and after.
 fn learns(alloc: Global, image: &Image, start: Machine, setup: &Setup) -> Result<bool, AllocError> {
-    let is_first = counts(&start);
+    let is_first = is_count(start.instruction());
     let mut decoded = stepped(start, setup, &mut Meter::new(), 3)?;
     let again = stepped(decoded.share_ready()?, setup, &mut Meter::new(), 1)?;
-    let is_same = !counts(&decoded) && counts(&again);
+    let is_same = !is_count(decoded.instruction()) && is_count(again.instruction());
     Ok(is_first && is_same && is_learnt(alloc, image, setup, &mut decoded)?)
 }
 
