@@ -125,7 +125,7 @@ CASES = [
     Case("the long form", LONG, 0, ("undefined in step 2 by",), ["mark 3 0x40000014 4 defined"], ["--last=200000"]),
     Case("far into a heap and a stack", FAR, 0, ("by a call of the heap", "of size 20000", "written", "read"),
          ["mark 7 0x40002013 1 defined"]),
-    Case("behind 32 MiB of other blocks", BEHIND, 0, ("undefined in step 10 by", "of size 8 alloc'd"), ["mark 9 0x42000054 4 defined"]),
+    Case("behind 32 MiB of other blocks", BEHIND, 0, ("undefined in step 8 by", "of size 8 alloc'd"), ["mark 9 0x42000054 4 defined"]),
     Case("a heap by name", BY_NAME, 0, ("undefined in step 3 by malloc", "of size 12 alloc'd"),
          ["mark 4 0x40000016 2 defined"], hooks=("malloc",)),
     Case("a value that was in a register for long", LOST, 1, ("no certificate: ",), [], ["--last=100000"]),
