@@ -41,7 +41,7 @@ def board_files(bench):
     """What is said of a board's file: sets that would do, each of which opens it again, and a command that adopts it."""
     with bench.page() as page:
         for label, text, flags, told, sets, command in FOUND:
-            page.run("replaycheck.opening.again('rv32im')")
+            page.run("replaycheck.opening.again({ isa: 'rv32im' })")
             bench.give(page, {"program": file_of(text, flags)}, name=NAME)
             bench.settle(page)
             same(f"{label}: whether anything is said", not page.run("document.getElementById('board-told').hidden"), told is not None)
@@ -54,7 +54,7 @@ def board_files(bench):
                 bench.settle(page)
                 expect(isa not in page.run("replaycheck.opened.board?.sets ?? []"), f"{label}: {isa} is offered for itself")
         hostile = "<img src=x onerror=globalThis.hacked=1>.elf"
-        page.run("replaycheck.opening.again('rv32im')")
+        page.run("replaycheck.opening.again({ isa: 'rv32im' })")
         bench.give(page, {"program": file_of("ebreak")}, name=hostile)
         bench.settle(page)
         same("a name with markup", page.text("board-command"), f"replaycheck adopt '{hostile}' -o adopted.elf")
