@@ -68,22 +68,34 @@ def region_files(bench):
     file's own stack; and the program takes the file with them."""
     from adopt_region_rows import TOLD
     count = 0
-    with bench.page() as page, tempfile.TemporaryDirectory() as folder:
+    with tempfile.TemporaryDirectory() as folder:
         path = pathlib.Path(folder, NAME)
         for label, data, options, *_ in TOLD:
             found = Findings(data, [], frozenset())
             if options or not any(it.by_option for it in found.obstacles) or found.isa_option:
                 continue
-            bench.give(page, {"program": data}, name=NAME)
-            told, count = page.text("notice"), count + 1
-            if found.hopeless():
-                expect(" --" not in told, f"{label}: it says {told!r}")
-                continue
-            expect(f"`replaycheck run {NAME} --" in told and f"`replaycheck adopt {NAME}`" in told, f"{label}: it says {told!r}")
-            named = told.split(f"`replaycheck run {NAME} ")[1].split("`")[0]
-            if not found.own:
-                same(label, named, found.regions.told)
-            path.write_bytes(data)
-            ran = subprocess.run([bench.program, "run", *named.split(), "--step", "100", path], capture_output=True, text=True)
-            same(f"{label}: {named}", ran.stderr, "")
+            count += 1
+            with bench.page() as page:
+                region_file(bench, page, label, data, path, found)
     expect(count > 3, f"{count} files alone were tried")
+
+
+def region_file(bench, page, label, data, path, found):
+    """What is said of one, and the button that puts the regions there."""
+    bench.give(page, {"program": data}, name=NAME)
+    told, buttons = page.text("notice"), page.run("document.querySelectorAll('#notice button').length")
+    same(f"{label}: buttons", buttons, int(not found.hopeless()))
+    if found.hopeless():
+        expect(" --" not in told, f"{label}: it says {told!r}")
+        return
+    expect(f"`replaycheck run {NAME} --" in told and f"`replaycheck adopt {NAME}`" in told, f"{label}: it says {told!r}")
+    named = told.split(f"`replaycheck run {NAME} ")[1].split("`")[0]
+    if not found.own:
+        same(label, named, found.regions.told)
+    path.write_bytes(data)
+    ran = subprocess.run([bench.program, "run", *named.split(), "--step", "100", path], capture_output=True, text=True)
+    same(f"{label}: {named}", ran.stderr, "")
+    page.click_on("#notice button")
+    page.until("replaycheck.shown")
+    same(f"{label}: the lines", page.run("document.getElementById('lines').value"), f"# --isa rv32im {named}\n")
+    bench.same_report(page, [path, *named.split()], f"{label}: the report")
