@@ -51,7 +51,7 @@ export class TargetPart {
   fill(regions) {
     const told = Object.entries(FIELDS).filter(([, id]) => regions[id]);
     for (const id of Object.values(FIELDS)) $(id).value = regions[id] ?? '';
-    say('regions-told', told.map(([name, id]) => `${name} ${regions[id]}`).join(', ') || 'as usual');
+    say('regions-told', told.map(([name, id], at) => `${at ? ', ' : ': '}${name} ${regions[id]}`).join(''));
     this.tell({});
   }
 }

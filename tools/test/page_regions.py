@@ -1,11 +1,11 @@
-"""The cases of test-page about where heap and stack are: chosen, undone, kept and sent, and runs with other regions beside the program's."""
+"""The cases of test-page about where heap and stack are: chosen, undone, kept and sent, and runs with others beside the program's."""
 import json
 
 from page_bench import expect, same, words_of
 from page_hands import STORED
 from page_pictures import swept
 from page_state import Program, same_panes
-from replaycheck.guest_files import TOP
+from replaycheck.guest_files import TOP, elf
 
 SOME = {"heap": "0x90000000", "stack": "0x3fc81000..0x3fca0000"}
 OPTIONS = ["--heap-region", SOME["heap"], "--stack-region", SOME["stack"]]
@@ -13,6 +13,8 @@ REMARK = " ".join(["# --isa rv32imac", *OPTIONS])
 FOLDER = TOP / "examples" / "firmware"
 FILES = {"program": FOLDER / "rv32imac" / "meter.elf", "input": FOLDER / "meter.input"}
 METER = [str(FILES["program"]), "--input", str(FILES["input"]), "--isa=rv32imac"]
+# A program without symbols that makes a block by its number, 2001, as a sum.
+HIDDEN = elf([0x7D000893, 0x00188893, 0x00800513, 0x73, 0x05D00893, 0x513, 0x73])
 WAITS = "replaycheck.shown && !replaycheck.isBusy"
 
 
@@ -31,7 +33,8 @@ def opened_for(page, isa, regions):
 
 
 def told(regions):
-    return ", ".join(f"{name} {value}" for name, value in regions.items() if value) or "as usual"
+    text = ", ".join(f"{name} {value}" for name, value in regions.items())
+    return text and f": {text}"
 
 
 def give_meter(bench, page, *roles):
@@ -45,10 +48,10 @@ def regions_in_turn(bench):
         give_meter(bench, page, "program", "input")
         same("the button", page.run("document.querySelector('#notice button').textContent"), "Put the heap at 0x90000000")
         page.click_on("#notice button")
-        opened_for(page, "rv32im", "heap 0x90000000")
+        opened_for(page, "rv32im", ": heap 0x90000000")
         same("the command then", page.text("board-command"), "replaycheck adopt meter.elf --heap-region 0x90000000")
         page.click_on("#board-sets button", 1)
-        opened_for(page, "rv32imac", "heap 0x90000000")
+        opened_for(page, "rv32imac", ": heap 0x90000000")
         bench.same_report(page, [*METER, *OPTIONS[:2]], "the heap elsewhere")
         page.run("replaycheck.use('input 0 0x38')")
         bench.settle(page)
@@ -81,15 +84,18 @@ def regions_of_a_heap(bench):
     words = [*words_of("station"), *OPTIONS[:2]]
     with bench.open() as page:
         put(page, SOME["heap"], "")
-        opened_for(page, "rv32im", "heap 0x90000000")
+        opened_for(page, "rv32im", ": heap 0x90000000")
         bench.same_report(page, words, "a heap elsewhere")
         same_panes(page, Program(bench, words), [*range(100, 1000, 90)], "a run with its heap elsewhere")
         expect("0x90000010" in page.run("replaycheck.machine.blocks.blocks.map((it) => replaycheck.machine.blocks.told(it)).join()"),
                "no block is in the heap")
+        bench.give(page, {"program": HIDDEN})
+        bench.settle(page)
+        same("what is said of a heap elsewhere that is called", page.text("heap-told"), "")
         page.run("replaycheck.opening.choose('packet')")
-        opened_for(page, "rv32im", "as usual")
+        opened_for(page, "rv32im", "")
         page.click_on("#undo")
-        opened_for(page, "rv32im", "heap 0x90000000")
+        opened_for(page, "rv32im", ": heap 0x90000000")
 
 
 def regions_kept(bench):
@@ -99,7 +105,7 @@ def regions_kept(bench):
         page.run("localStorage.clear()")
         give_meter(bench, page, "program", "input")
         page.click_on("#notice button")
-        opened_for(page, "rv32im", "heap 0x90000000")
+        opened_for(page, "rv32im", ": heap 0x90000000")
         page.run(f"replaycheck.use({json.dumps(REMARK + chr(10) + 'input 1 0x39')})")
         opened_for(page, "rv32imac", told(SOME))
         same("the lines", page.run("document.getElementById('lines').value"), f"{REMARK}\ninput 1 57\n")
@@ -122,14 +128,14 @@ def regions_kept(bench):
             bench.same_report(page, [*METER, *OPTIONS], f"{way} with {roles}")
     with bench.open() as page:
         put(page, SOME["heap"], "")
-        opened_for(page, "rv32im", "heap 0x90000000")
+        opened_for(page, "rv32im", ": heap 0x90000000")
         page.until("location.hash.includes('heap-region')")
         link = page.run("location.hash")
         same("a link to an example", link, "#example=station&heap-region=0x90000000")
         page.run("replaycheck.use('# --isa rv32imc\\ninput 1 5')")
-        opened_for(page, "rv32imc", "as usual")
+        opened_for(page, "rv32imc", "")
     with bench.page(f"?still{link}") as page:
-        opened_for(page, "rv32im", "heap 0x90000000")
+        opened_for(page, "rv32im", ": heap 0x90000000")
         bench.same_report(page, [*words_of("station"), *OPTIONS[:2]], "a link to an example with its heap elsewhere")
 
 
@@ -179,6 +185,6 @@ def regions_by_keys(bench):
     with bench.open() as page:
         page.focus("isa")
         page.press("Tab", "Enter", "Tab", *"0xa0000000", "Enter")
-        opened_for(page, "rv32im", "heap 0xa0000000")
+        opened_for(page, "rv32im", ": heap 0xa0000000")
         same("where the focus is", page.run("document.activeElement.id"), "heap-region")
         bench.same_report(page, [*words_of("station"), "--heap-region=0xa0000000"], "a heap by keys")
