@@ -72,7 +72,7 @@ export function boardAdvice({ elf, target, name }, report) {
   if (!device) return null;
   return { text: `The run has an error at ${hexWord(device.address)}, where a board has a device (${device.name}). This command writes a `
     + 'file whose loads and stores of known devices are answered:', sets: [],
-  command: adopted(name, ...regions, '--devices INPUT', '-o adopted.elf') };
+      command: adopted(name, ...regions, '--devices INPUT', '-o adopted.elf') };
 }
 
 // ---- regions

@@ -135,7 +135,8 @@ class App {
     try {
       const module = await loadModule().catch((fault) => { throw new NotLoaded(notLoaded(fault)); });
       if (wanted !== this.wanted) return null;
-      const shape = { target: how.target, limit: LIMIT, again: words.has('again'), lines: Number(words.get('lines')) || undefined, makeWorker };
+      const { target } = how, lines = Number(words.get('lines')) || undefined;
+      const shape = { target, limit: LIMIT, again: words.has('again'), lines, makeWorker };
       const opened = this.judged = new Opened(files, module, base, shape);
       await this.told('The program runs', opened.run());
       if (wanted === this.wanted) return opened;
@@ -167,7 +168,7 @@ class App {
   keptOver(opened) {
     if (this.opened?.files.program !== opened.files.program) return opened.plain;
     const isSame = this.opened.files.supp === opened.files.supp;
-    const { scenario, left } = this.scenario.over(opened.base, isSame, unitOf(opened.isa));
+    const { scenario, left } = this.scenario.over(opened.base, isSame, unitOf(opened.isa), opened.program.loaded);
     this.left = left;
     return scenario.lines.length ? scenario : opened.plain;
   }

@@ -7,7 +7,7 @@ import { Kept } from './kept.js';
 import { packed, unpacked } from './links.js';
 import { listed, many, size } from './numbers.js';
 import { TargetPart } from './target-part.js';
-import { USUAL_TARGET, regionsOf, targetOf } from './targets.js';
+import { USUAL_TARGET, regionsOf, targetBy, targetOf } from './targets.js';
 
 const ELF = [0x7f, 0x45, 0x4c, 0x46];
 const ROLES = ['program', 'input', 'supp'];
@@ -226,8 +226,8 @@ export class Opening {
     const words = new URLSearchParams(hash.slice(1));
     const lines = (words.get('lines') ?? '').split('\n').filter(Boolean);
     const example = words.get('example'), own = EXAMPLES.find((it) => it.name === example)?.isa;
-    const [isa, heap, stack] = ['isa', 'heap-region', 'stack-region'].map((it) => words.get(it) ?? undefined);
-    const said = targetOf({ isa: isa ?? own, heap, stack }), { target } = said;
+    if (own && !words.has('isa')) words.set('isa', own);
+    const said = targetBy(words), { target } = said;
     if (!this.check(said)) return undefined;
     if (example) {
       if (EXAMPLES.some((it) => it.name === example)) await this.choose(example, lines, target);

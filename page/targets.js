@@ -7,8 +7,10 @@ import { hexWord, listed, numberOf } from './numbers.js';
 
 export const USUAL_TARGET = { isa: USUAL, heap: USUAL_HEAP, stack: USUAL_STACK };
 const ADDRESSES = 2 ** 32;
-// A line of a text of a scenario that says for which target it is: a remark for `replaycheck talk`.
-const LINE = /^# --isa (\S+)(?: --heap-region (\S+))?(?: --stack-region (\S+))?$/m;
+// The parts of a target by the names of their options.
+const PARTS = { isa: 'isa', 'heap-region': 'heap', 'stack-region': 'stack' };
+// A line of a text of a scenario that says for which target it is: a remark for `replaycheck talk`, with options.
+const LINE = /^#(?: --(?:isa|heap-region|stack-region) \S+)+$/m;
 
 export const heapOf = ({ heap }) => [heap, heap + HEAP_SIZE];
 export const meets = ([begin, end], [low, high]) => Math.max(begin, low) < Math.min(end, high);
@@ -58,6 +60,11 @@ export function targetOf({ isa = USUAL, heap = '', stack = '' }) {
 
 // The same of a text of a scenario, null where it doesn't say for which target it is.
 export function targetIn(text) {
-  const found = LINE.exec(text);
-  return found && targetOf({ isa: found[1], heap: found[2], stack: found[3] });
+  const [line] = LINE.exec(text) ?? [], options = line?.split(' --').slice(1).map((it) => it.split(' '));
+  return options ? targetBy(new Map(options)) : null;
+}
+
+// The same of options by their names; those that are left out are the usual ones.
+export function targetBy(options) {
+  return targetOf(Object.fromEntries(Object.entries(PARTS).map(([name, part]) => [part, options.get(name) ?? undefined])));
 }

@@ -53,10 +53,11 @@ def regions_in_turn(bench):
         page.click_on("#board-sets button", 1)
         opened_for(page, "rv32imac", ": heap 0x90000000")
         bench.same_report(page, [*METER, *OPTIONS[:2]], "the heap elsewhere")
-        page.run("replaycheck.use('input 0 0x38')")
+        page.run("replaycheck.use('patch 0x3fc90000 0x13\\ninput 0 0x38')")
         bench.settle(page)
         put(page, **SOME)
         opened_for(page, "rv32imac", told(SOME))
+        expect(page.text("notice").startswith("1 edit didn’t fit"), f"of a patch of the stack it says {page.text('notice')!r}")
         same("the edit that stays", page.run("replaycheck.lines"), ["input 0 56"])
         bench.same_report(page, [*METER, *OPTIONS], "both elsewhere")
         expect("uninitialised" in page.text("report-text"), "the stack has no undefined bytes")
@@ -71,7 +72,8 @@ def regions_in_turn(bench):
         page.set("sweep-values", "all")
         page.click_on("#sweep")
         swept(bench, page, [*METER, *OPTIONS], ["--bytes=0..2", f"--step={page.run('replaycheck.step')}"], 765)
-        for regions, lines in ((SOME, ["input 0 56"]), ({"heap": SOME["heap"]}, ["input 0 56"]), ({"heap": SOME["heap"]}, [])):
+        heap = {"heap": SOME["heap"]}
+        for regions, lines in ((SOME, ["input 0 56"]), (heap, ["patch 0x3fc90000 0x00000013", "input 0 56"]), (heap, [])):
             page.click_on("#undo")
             opened_for(page, "rv32imac", told(regions))
             page.until(f"replaycheck.lines.join() === {json.dumps(','.join(lines))}")
@@ -115,6 +117,12 @@ def regions_kept(bench):
         expect("&".join(wanted) in link, f"the link is {link}")
         page.until(f"{STORED}?.includes('stack-region')")
         same("what is kept", page.run(STORED), "&".join(["program=meter.elf", "input=input.bin", *wanted]))
+        page.run("replaycheck.use('# --heap-region 0x90000000 --isa rv32imac\\ninput 0 0x37')")
+        opened_for(page, "rv32imac", ": heap 0x90000000")
+        for _ in range(2):
+            page.click_on("#undo")
+            bench.settle(page)
+        opened_for(page, "rv32imac", told(SOME))
         page.run("replaycheck.use('input 0 0x37\\ninput 1 0x38')")
         opened_for(page, "rv32imac", told(SOME))
     for way, address, roles in (("the storage", "?still", [["program"], ["input"]]), ("a link", f"?still{link}", [["program"], ["input"]]),
