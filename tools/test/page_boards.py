@@ -1,14 +1,23 @@
 """The cases of test-page about a board's file: what the page says of it, and the command that it names, beside what `replaycheck adopt`
 finds. They need the assembler."""
+import base64
+import json
 import pathlib
 import subprocess
 import tempfile
 
 from board_files import READ_RUN, board, function, segment
 from page_bench import expect, same
+from replaycheck.adopting.elf import Elf
 from replaycheck.adopting.findings import Findings
+from replaycheck.adopting.regions import fitting
+from replaycheck.regions import USUAL_REGIONS, Regions
 
 PLACE, NAME = 0x10000, "board.elf"
+# Regions that are chosen before such a file is opened.
+CHOSEN = (USUAL_REGIONS, Regions(0xA0000000, USUAL_REGIONS.stack), Regions(0x40000000, (0x3FC81000, 0x3FCA0000)),
+          Regions(0x90000000, (0x3FC81000, 0x3FCA0000)), Regions(0x30000000, (0x8F000000, 0x90000000)),
+          Regions(0xB0000000, (0x42000000, 0x43000000)), Regions(0x10000000, (0x90000000, 0x90010000)))
 SHORT, ATOMIC = "rv32imc", "rv32imac"
 
 
@@ -78,6 +87,19 @@ def region_files(bench):
             with bench.page() as page:
                 region_file(bench, page, label, data, path, found)
     expect(count > 3, f"{count} files alone were tried")
+    with bench.page() as page:
+        for label, data in {it[0]: it[1] for it in TOLD}.items():
+            want = [fitting(Elf(data, it), None) for it in CHOSEN]
+            same(f"{label}: where the regions can be", fitting_on(page, data), [it and [it.heap, *it.stack] for it in want])
+
+
+def fitting_on(page, data):
+    """Where the page would have heap and stack for a file, for each of some regions that are chosen."""
+    text, chosen = base64.b64encode(data).decode(), [{"isa": "rv32im", "heap": it.heap, "stack": it.stack} for it in CHOSEN]
+    return page.run(f"""(async () => {{
+      const [{{ Elf }}, {{ fitting }}] = await Promise.all([import('./elf.js'), import('./boards.js')]);
+      const elf = new Elf(Uint8Array.from(atob('{text}'), (it) => it.charCodeAt(0)));
+      return {json.dumps(chosen)}.map((it) => fitting(elf, it)).map((it) => it && [it.heap, ...it.stack]); }})()""")
 
 
 def region_file(bench, page, label, data, path, found):
