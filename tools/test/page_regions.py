@@ -45,6 +45,10 @@ def regions_in_turn(bench):
     """A chip's file, as one makes it run: the button for its regions, that for its instruction set, and the fields for its stack. The
     report, each look and the sweep of its input are the program's with the same options. Undo goes back."""
     with bench.page() as page:
+        page.set("isa", "rv32imac", "change")
+        give_meter(bench, page, "program", "input")
+        expect("`replaycheck run meter.elf --isa rv32imac --heap-region 0x90000000`" in page.text("notice"), page.text("notice"))
+    with bench.page() as page:
         give_meter(bench, page, "program", "input")
         same("the button", page.run("document.querySelector('#notice button').textContent"), "Put the heap at 0x90000000")
         page.click_on("#notice button")
