@@ -1,9 +1,11 @@
 // What stands between a board's file and a checked run, as far as the page can see it: an instruction set, a region of heap or stack,
 // devices, calls of a host. `replaycheck adopt` looks at all of the file, and the page names the command.
-import { DEVICES, HEAPS, HEAP_SIZE, ISAS, MOST_STACK, STACK_ENDS, USUAL_HEAP } from './facts.js';
+import { hasRoom } from './elf.js';
+import { DEVICES, HEAPS, ISAS, MOST_STACK, STACK_ENDS } from './facts.js';
 import { hasAtomics, hasControls, hasHalves, nameOf } from './isa.js';
 import { hexWord } from './numbers.js';
 import { stateOf } from './report.js';
+import { USUAL_TARGET, heapOf, isSameTarget, meets, regionsInWords, stackText, typedOptions, typedRegions } from './targets.js';
 
 const COMPRESSED = 1;  // of a file's flags
 const PLAIN = /^[\w+.][\w+.-]*$/;
@@ -33,13 +35,13 @@ function unknown(elf, address, isa) {
   return { what: 'a word that is no instruction', sets: [], else: rebuild };
 }
 
-function ofIllegal(elf, isa, name, address) {
-  const it = unknown(elf, address, isa);
+function ofIllegal(elf, target, name, address) {
+  const { isa } = target, it = unknown(elf, address, isa);
   if (!it) return null;
   const stops = `The run stops at ${hexWord(address)}, at ${it.what}, which ${nameOf(isa)} doesn’t have.`;
   const cure = it.isCured ? 'This command writes a file in which it is replaced:' : it.else;
   return { text: [stops, it.sets.length ? 'Run it for another instruction set:' : cure].join(' '), sets: it.sets,
-    command: adopted(name, ...(it.isCured ? ['-o adopted.elf'] : [])) };
+    command: adopted(name, ...typedRegions(target), ...(it.isCured ? ['-o adopted.elf'] : [])) };
 }
 
 // The device at whose address an error is, if there is one.
@@ -54,51 +56,55 @@ function deviceOf(report) {
 
 // What to say of a file whose run ended or stood as a report says, null if nothing is to be said: a sentence, the instruction sets
 // that are offered, and a command.
-export function boardAdvice({ elf, isa, name }, report) {
+export function boardAdvice({ elf, target, name }, report) {
+  const { isa } = target, regions = typedRegions(target);
   const { name: state, rest, address } = stateOf(report), stop = state === 'stopped' ? rest.split(' ')[0] : '';
   if (elf.flags & COMPRESSED && !hasHalves(isa)) {
     return { text: `This file has instructions of 16 bits, which ${nameOf(isa)} doesn’t have. Run it for another instruction set:`,
-      sets: needing(hasHalves, isa), command: adopted(name) };
+      sets: needing(hasHalves, isa), command: adopted(name, ...regions) };
   }
-  if (stop === 'illegal') return ofIllegal(elf, isa, name, address);
+  if (stop === 'illegal') return ofIllegal(elf, target, name, address);
   if (stop === 'break') {
     return { text: `The run stops at an EBREAK, at ${hexWord(address)}. If it calls a host by semihosting, this command writes a file `
-      + 'whose calls are answered:', sets: [], command: adopted(name, '-o adopted.elf') };
+      + 'whose calls are answered:', sets: [], command: adopted(name, ...regions, '-o adopted.elf') };
   }
   const device = deviceOf(report);
   if (!device) return null;
   return { text: `The run has an error at ${hexWord(device.address)}, where a board has a device (${device.name}). This command writes a `
-    + 'file whose loads and stores of known devices are answered:', sets: [], command: adopted(name, '--devices INPUT', '-o adopted.elf') };
+    + 'file whose loads and stores of known devices are answered:', sets: [],
+      command: adopted(name, ...regions, '--devices INPUT', '-o adopted.elf') };
 }
 
 // ---- regions
 
-const meets = ([begin, end], [low, high]) => Math.max(begin, low) < Math.min(end, high);
-
-// The options that put heap and stack where no segment of a file is, as `adopt` finds them; null if there is no such place.
-export function regionOptions(elf) {
-  const loads = elf.segments.filter((it) => it.size).map((it) => [it.address, it.address + it.size]);
-  const taken = [...loads, ...elf.segments.filter((it) => it.inFile).map((it) => [it.physical, it.physical + it.inFile]),
+// Where heap and stack can be so that no segment of a file is there, as near as can be to where a target has them, as `adopt` finds it;
+// null if there is no such place.
+export function fitting(elf, target) {
+  const loads = elf.segments.filter((it) => it.size), rangeOf = (it) => [it.address, it.address + it.size];
+  const taken = [...loads.map(rangeOf), ...elf.segments.filter((it) => it.inFile).map((it) => [it.physical, it.physical + it.inFile]),
     ...DEVICES.map(([first, size]) => [first, first + size])];
-  const heapAt = (begin) => [begin, begin + HEAP_SIZE], stackTo = (end) => [end - MOST_STACK, end];
   const isFree = (range, others) => !others.some((it) => meets(range, it));
-  const [usual] = STACK_ENDS, isStackMet = loads.some((it) => meets(it, stackTo(usual)));
-  const isHeapMet = loads.some((it) => meets(it, heapAt(USUAL_HEAP)));
-  const end = isStackMet ? STACK_ENDS.find((it) => isFree(stackTo(it), taken)) : usual;
-  if (end === undefined) return null;
-  const heaps = [...(isHeapMet ? [] : [USUAL_HEAP]), ...HEAPS.filter((it) => isFree(heapAt(it), taken))];
-  const heap = heaps.find((it) => !meets(heapAt(it), stackTo(end)));
-  if (heap === undefined) return null;
-  return [...(heap === USUAL_HEAP ? [] : [`--heap-region ${hexWord(heap)}`]),
-    ...(end === usual ? [] : [`--stack-region ${stackTo(end).map(hexWord).join('..')}`])];
+  const isUsual = stackText(target.stack) === stackText(USUAL_TARGET.stack);
+  const isStackMet = loads.some((it) => meets(rangeOf(it), target.stack) && (isUsual || !hasRoom(it, target.stack)));
+  const isHeapMet = loads.some((it) => meets(rangeOf(it), heapOf(target)));
+  const stackTo = (end) => [end - MOST_STACK, end], end = STACK_ENDS.find((it) => isFree(stackTo(it), taken));
+  const stack = !isStackMet ? target.stack : end === undefined ? null : stackTo(end);
+  if (!stack) return null;
+  const heaps = [...(isHeapMet ? [] : [target.heap]), ...HEAPS.filter((heap) => isFree(heapOf({ heap }), taken))];
+  const heap = heaps.find((it) => !meets(heapOf({ heap: it }), stack));
+  return heap === undefined ? null : { ...target, heap, stack };
 }
 
-// What to say of a file that meets the region of the heap or of the stack.
-export function regionAdvice(elf, name) {
+// What to say of a file that meets the region of the heap or of the stack: where these are, the target that has them elsewhere with what
+// it changes in words, null if there is none, and what a command says.
+export function regionAdvice(elf, name, target) {
   const sorted = elf.segments.filter((it) => it.size).sort((a, b) => a.address - b.address);
   const overlap = sorted.some((it, at) => at > 0 && sorted[at - 1].address + sorted[at - 1].size > it.address);
-  const options = overlap ? null : regionOptions(elf);
-  if (!options?.length) return `\`${adopted(name)}\` says which segments these are.`;
-  return `Put them elsewhere: \`replaycheck run ${typed(name)} ${options.join(' ')}\`. \`${adopted(name)}\` says whether the start file `
-    + 'has a stack of its own.';
+  const other = overlap ? null : fitting(elf, target), text = regionsInWords(target);
+  if (!other || isSameTarget(other, target)) return { text, target: null, more: `\`${adopted(name)}\` says which segments these are.` };
+  const heap = other.heap !== target.heap && `the heap at ${hexWord(other.heap)}`;
+  const stack = other.stack !== target.stack && `the stack at ${stackText(other.stack)}`;
+  const command = ['replaycheck run', typed(name), ...typedOptions(other)].join(' ');
+  return { text, target: other, label: `Put ${[heap, stack].filter(Boolean).join(' and ')}`,
+    more: `A command does the same: \`${command}\`. \`${adopted(name)}\` says whether the start file has a stack of its own.` };
 }

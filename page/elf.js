@@ -7,6 +7,15 @@ const LOADED = 1;
 const LONGEST_NAME = 4096, MOST_NAMED = 1 << 26;  // bytes of one name, and of all
 const decoder = new TextDecoder();
 
+// Whether a range is within the part of a segment that has no bytes in the file.
+export const hasRoom = ({ address, inFile, size }, [begin, end]) => address + inFile <= begin && end <= address + size;
+
+// What a segment has before and after a range for which it has room.
+function partsBeside(segment, [begin, end]) {
+  const { address, size } = segment, before = { ...segment, size: begin - address };
+  return [before, { ...segment, address: end, inFile: 0, size: address + size - end }].filter((it) => it.size);
+}
+
 export class Elf {
   constructor(bytes) {
     this.bytes = bytes;
@@ -58,6 +67,11 @@ export class Elf {
   readSegment(at) {
     const [kind, offset, address, physical, inFile, size] = [0, 1, 2, 3, 4, 5].map((field) => this.word(at + 4 * field));
     if (kind === LOADED) this.segments.push({ offset, address, physical, inFile, size });
+  }
+
+  // Leaves out the stack's region where a segment has room for it: nothing is loaded there.
+  leaveOut(range) {
+    this.segments = this.segments.flatMap((it) => (hasRoom(it, range) ? partsBeside(it, range) : [it]));
   }
 
   readSymbols(table) {

@@ -1,6 +1,6 @@
 // Whether errors of the heap can be found in a program's run. The program knows a heap by the names of its functions, or by
 // the numbers of its environment calls; a file without symbols, or with other names, may have a heap that goes unseen.
-import { FIRST_BLOCK, HEAP_CHOICES, HEAP_NAMES, OTHER_HEAPS } from './facts.js';
+import { BEFORE_BLOCKS, HEAP_CHOICES, HEAP_NAMES, OTHER_HEAPS } from './facts.js';
 import { unitOf } from './isa.js';
 import { hexWord } from './numbers.js';
 import { Helper } from './sessions.js';
@@ -22,13 +22,13 @@ export function unseenIn(elf, isa) {
 }
 
 // The same of a run up to a step: one that makes a block has a heap that is seen.
-export async function unseenHeap({ module, files, isa, elf, limit, makeWorker }, step) {
-  const unseen = unseenIn(elf, isa);
+export async function unseenHeap({ module, files, target, elf, limit, makeWorker }, step) {
+  const unseen = unseenIn(elf, target.isa);
   if (!unseen) return '';
   const helper = new Helper(makeWorker);
   try {
-    const lines = [`look next shadow ${hexWord(FIRST_BLOCK)} 1 ${step}`];
-    const { told } = await helper.ask('look', { module, files, isa, limit, lines });
+    const lines = [`look next shadow ${hexWord(target.heap + BEFORE_BLOCKS)} 1 ${step}`];
+    const { told } = await helper.ask('look', { module, files, target, limit, lines });
     return told.startsWith('step ') ? '' : `Errors of the heap can’t be found. ${unseen}`;
   } finally {
     helper.stop();

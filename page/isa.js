@@ -8,8 +8,6 @@ export const HALF = 2;
 export const WORD = 4;
 // The instruction that does nothing, by its length: c.nop and nop.
 export const NOTHING = { [HALF]: 0x0001, [WORD]: 0x13 };
-// A line of a text of a scenario that says for which set it is: a remark for `replaycheck talk`.
-const ISA_LINE = /^# --isa (\S+)$/m;
 
 export const hasHalves = (isa) => isa !== USUAL;
 export const hasControls = (isa) => isa !== USUAL;
@@ -19,9 +17,3 @@ export const unitOf = (isa) => (hasHalves(isa) ? HALF : WORD);
 export const lengthOf = (isa, half) => (hasHalves(isa) && (half & 3) !== 3 ? HALF : WORD);
 // What a set is called in sentences.
 export const nameOf = (isa) => isa.toUpperCase();
-// The option of the program.
-export const isaWords = (isa = USUAL) => (isa === USUAL ? [] : [`--isa=${isa}`]);
-
-// The lines by which a text says for which set it is, and the set that a text says, null where it says none.
-export const isaLines = (isa) => (isa === USUAL ? [] : [`# --isa ${isa}`]);
-export const isaIn = (text) => ISA_LINE.exec(text)?.[1] ?? null;

@@ -8,7 +8,7 @@ import { Edits } from './edits.js';
 import { Elf } from './elf.js';
 import { ERROR_KINDS, LAST_STEP, LEAK_KINDS, MODULE_SUM } from './facts.js';
 import { History } from './history.js';
-import { isaIn, isaLines, unitOf } from './isa.js';
+import { unitOf } from './isa.js';
 import { parseMemory } from './looks.js';
 import { Machine } from './machine.js';
 import { grouped, hexByte, hexWord, many } from './numbers.js';
@@ -25,6 +25,7 @@ import { Source } from './source.js';
 import { Search, Steps } from './steps.js';
 import { Strip } from './strip.js';
 import { SweepPart } from './sweep-part.js';
+import { isSameTarget, targetIn, targetLines } from './targets.js';
 import { Stale, VariablesPart } from './variables-part.js';
 import { Verdict } from './verdict.js';
 
@@ -72,7 +73,7 @@ class App {
     this.edits = new Edits({ edit, clear: () => this.edit(this.opened.plain), use: (text) => this.use(text), refuse,
       tell: (text) => this.notice(text, 'good'),
       link: async () => new URL(await this.opening.link(this.lines), location.href).href,
-      text: () => [...isaLines(this.opened.isa), ...this.lines, ''].join('\n') });
+      text: () => [...targetLines(this.opened.target), ...this.lines, ''].join('\n') });
     const state = () => ({ program: this.opened.program, lineOf: this.opened.lineOf, scenario: this.scenario, step: this.step,
       plain: this.opened.plain, range: this.code.range, name: this.code.shown?.name,
       instructionsIn: (...ends) => this.code.instructionsIn(...ends), isEnd: this.step === this.opened.follow });
@@ -100,9 +101,11 @@ class App {
     });
   }
 
-  // What stands at the top of the page until the next edit: what went wrong, or a `good` thing.
-  notice(text, how = 'bad') {
-    say('notice', text);
+  // What stands at the top of the page until the next edit: what went wrong, or a `good` thing; and what is offered, a button and what
+  // is said after it.
+  notice(text, how = 'bad', offered = []) {
+    if (offered.length) $('notice').replaceChildren(text, ' ', ...offered);
+    else say('notice', text);
     $('notice').className = how;
     $('notice').hidden = !text;
   }
@@ -111,12 +114,13 @@ class App {
 
   // Opens files, and uses lines of a session. What can't be used leaves all as it was. Gives whether they were opened; others
   // may be opened meanwhile: then these aren't.
-  async open(files, { lines = [], example = null, isa } = {}) {
+  async open(files, how) {
+    const { lines = [], example = null, target } = how;
     const base = files.input?.bytes.slice() ?? new Uint8Array();
-    const opened = await this.judge(files, base, isa);
+    const opened = await this.judge(files, base, how);
     if (!opened) return false;
     const scenario = this.keptOver(opened);
-    this.sources.set(base, { files, example, isa });
+    this.sources.set(base, { files, example, target });
     this.replace(opened, example);
     if (this.history) this.history.add(scenario);
     else this.history = new History(scenario);
@@ -125,41 +129,46 @@ class App {
   }
 
   // Runs files before anything is given up for them: null where they can't be used, which a line says, or are no longer wanted.
-  async judge(files, base, isa) {
+  async judge(files, base, how) {
     const wanted = this.wanted = Symbol('wanted');
     this.judged?.close();
     try {
       const module = await loadModule().catch((fault) => { throw new NotLoaded(notLoaded(fault)); });
       if (wanted !== this.wanted) return null;
-      const shape = { isa, limit: LIMIT, again: words.has('again'), lines: Number(words.get('lines')) || undefined, makeWorker };
+      const { target } = how, lines = Number(words.get('lines')) || undefined;
+      const shape = { target, limit: LIMIT, again: words.has('again'), lines, makeWorker };
       const opened = this.judged = new Opened(files, module, base, shape);
       await this.told('The program runs', opened.run());
       if (wanted === this.wanted) return opened;
       opened.close();
     } catch (fault) {
-      if (wanted === this.wanted) this.unusable(fault instanceof NotLoaded ? fault.message : this.rejected(fault, files.program));
+      if (wanted !== this.wanted) return null;
+      if (fault instanceof NotLoaded) this.unusable(fault.message);
+      else this.unusable(sentence(fault, LIMIT), meetsRegion(fault) ? this.elsewhere(files, how) : {});
     }
     return null;
   }
 
-  // What to say of a file that is rejected, with the command that cures it.
-  rejected(fault, { bytes, name }) {
-    const told = sentence(fault, LIMIT);
-    return meetsRegion(fault) ? `${told} ${regionAdvice(new Elf(bytes), name)}` : told;
+  // What to say of files that meet the region of heap or stack, and what is offered: a button that opens them with these elsewhere, and
+  // the command for it.
+  elsewhere(files, how) {
+    const { bytes, name } = files.program, { text, target, label, more } = regionAdvice(new Elf(bytes), name, how.target);
+    const button = target && element('button', { onclick: () => this.opening.begin(files, { ...how, target }) }, label);
+    return { more: text, offered: [...(button ? [button, ' '] : []), more] };
   }
 
-  unusable(text) {
+  unusable(text, { more = '', offered } = {}) {
     this.judged?.close();
     this.judged = null;
-    if (this.opened) this.notice(text);
-    else this.failed(text);
+    if (!this.opened) this.failed();
+    this.notice([text, more].filter(Boolean).join(' '), 'bad', offered);
   }
 
   // The edits that stand, over other files of the same program: those that don't fit are left out, and a line says so.
   keptOver(opened) {
     if (this.opened?.files.program !== opened.files.program) return opened.plain;
     const isSame = this.opened.files.supp === opened.files.supp;
-    const { scenario, left } = this.scenario.over(opened.base, isSame, unitOf(opened.isa));
+    const { scenario, left } = this.scenario.over(opened.base, isSame, unitOf(opened.isa), opened.program.loaded);
     this.left = left;
     return scenario.lines.length ? scenario : opened.plain;
   }
@@ -169,7 +178,7 @@ class App {
     const { history } = this;
     this.close();
     Object.assign(this, { opened, judged: null, history, isTravelling: false });
-    this.opening.hold(opened.files, example, opened.isa);
+    this.opening.hold(opened.files, example, opened.target);
   }
 
   // Ends what goes on with the files that are open.
@@ -185,13 +194,12 @@ class App {
     return this.turn += 1;
   }
 
-  // Shows why there is no report. What was open before can be had again by Undo.
-  failed(text) {
+  // Shows that there is no report. What was open before can be had again by Undo.
+  failed() {
     const { history } = this;
     this.close();
     this.history = history;
     this.showTravel();
-    this.notice(text);
     this.verdict.clear('No report.');
     this.showParts(false);
   }
@@ -209,7 +217,7 @@ class App {
   showBoard() {
     const { text, sets, command } = this.opened.board ?? { text: '', sets: [], command: '' };
     say('board-text', text);
-    $('board-sets').replaceChildren(...sets.map((it) => element('button', { onclick: () => this.opening.again(it) }, it)));
+    $('board-sets').replaceChildren(...sets.map((it) => element('button', { onclick: () => this.opening.again({ isa: it }) }, it)));
     say('board-more', sets.length || !text.endsWith(':') ? 'This command says all that is in the way:' : '');
     say('board-command', command);
   }
@@ -308,8 +316,8 @@ class App {
 
   // Opens the files that a scenario is of. Gives whether that could be done.
   async openAgain(scenario) {
-    const { files, example, isa } = this.sources.get(scenario.base);
-    const opened = await this.judge(files, scenario.base, isa);
+    const { files, example, target } = this.sources.get(scenario.base);
+    const opened = await this.judge(files, scenario.base, { example, target });
     if (!opened) return false;
     this.replace(opened, example);
     await this.begin(scenario.lines.length ? scenario : opened.plain);
@@ -330,11 +338,12 @@ class App {
     else this.code.visit(at, false);
   }
 
-  // Makes the lines of a text the scenario; for another instruction set, which a line may name, the files are opened again.
+  // Makes the lines of a text the scenario; for another target, which a line may name, the files are opened again.
   use(text) {
-    const isa = isaIn(text), { plain, follow } = this.opened;
-    if (isa !== null && isa !== this.opened.isa) {
-      this.opening.again(isa, text.split('\n'));
+    const said = targetIn(text), { plain, follow, target } = this.opened;
+    if (said && !this.opening.check(said)) return;
+    if (said && !isSameTarget(said.target, target)) {
+      this.opening.again(said.target, text.split('\n'));
       return;
     }
     let scenario = plain, step = follow;
@@ -398,7 +407,8 @@ class App {
   refused(fault) {
     const told = sentence(fault, LIMIT), { plain, follow } = this.opened;
     if (!this.shown && this.scenario === plain) {
-      this.failed(told);
+      this.failed();
+      this.notice(told);
       return;
     }
     const { scenario, step } = this.shown ?? { scenario: plain, step: follow };

@@ -18,18 +18,20 @@ const isRunning = (report) => report.state.startsWith('running');
 
 export class Opened {
   // `base` is the input as it is read, a value of its own for each opening: scenarios over it are of these files and of this
-  // instruction set.
-  constructor(files, module, base, { isa, limit, again, lines, makeWorker }) {
+  // target.
+  constructor(files, module, base, { target, limit, again, lines, makeWorker }) {
     const elf = new Elf(files.program.bytes), lineTable = new Lines(elf);
+    elf.leaveOut(target.stack);
     const given = Object.fromEntries(Object.entries(files).map(([role, it]) => [role, it.bytes]));
-    this.program = { module, files: given, isa, base, elf, limit, again, makeWorker, loaded: (at, length) => elf.loaded(at, length) };
-    Object.assign(this, { files, isa, elf, base, plain: new Scenario(base), before: new Map() });
+    this.program = { module, files: given, target, base, elf, limit, again, makeWorker, loaded: (at, length) => elf.loaded(at, length) };
+    Object.assign(this, { files, target, elf, base, plain: new Scenario(base), before: new Map() });
     Object.assign(this, { lines: lineTable, lineOf: remembered((address) => lineTable.lineOf(address)), variables: new Variables(elf) });
     this.session = new Session(this.program, lines);
     this.unedited = new Session(this.program);
     this.search = new Session(this.program);
   }
 
+  get isa() { return this.target.isa; }
   get sessions() { return [this.session, this.unedited, this.search]; }
 
   // Runs the unedited program: a file that can't be used, and memory that runs out, are faults here.
@@ -38,7 +40,7 @@ export class Opened {
     this.last = await endOf(async (step) => isRunning(await this.reportBefore(step)), LAST_STEP);
     this.follow = Math.min(LAST_STEP, 4 * this.last + BEYOND);
     this.heap = await unseenHeap(this.program, this.last);
-    this.board = boardAdvice({ elf: this.elf, isa: this.isa, name: this.files.program.name }, await this.reportBefore(this.last));
+    this.board = boardAdvice({ elf: this.elf, target: this.target, name: this.files.program.name }, await this.reportBefore(this.last));
     return this;
   }
 

@@ -2,11 +2,12 @@
 import { $, element } from './dom.js';
 import { filesIn, givenBy } from './dropped.js';
 import { EXAMPLES, SOURCES } from './examples.js';
-import { ISAS } from './facts.js';
 import { USUAL } from './isa.js';
 import { Kept } from './kept.js';
 import { packed, unpacked } from './links.js';
 import { listed, many, size } from './numbers.js';
+import { TargetPart } from './target-part.js';
+import { USUAL_TARGET, regionsOf, targetBy, targetOf } from './targets.js';
 
 const ELF = [0x7f, 0x45, 0x4c, 0x46];
 const ROLES = ['program', 'input', 'supp'];
@@ -35,13 +36,12 @@ export class Opening {
   // `open` takes files by their roles, each with a name and bytes, and gives whether they were opened; `refuse` a sentence; `source` has
   // the source files.
   constructor({ open, refuse, source }) {
-    Object.assign(this, { open, refuse, source, files: {}, example: null, isa: USUAL, wanted: null, kept: new Kept() });
+    Object.assign(this, { open, refuse, source, files: {}, example: null, target: USUAL_TARGET, wanted: null, kept: new Kept() });
     this.isForgotten = false;
     for (const role of ROLES) {
       $(`open-${role}`).addEventListener('change', (event) => this.chosen(role, event.target));
     }
-    $('isa').append(...ISAS.map((it) => element('option', { value: it }, it)));
-    $('isa').addEventListener('change', () => this.again($('isa').value));
+    this.targetPart = new TargetPart({ choose: (change) => this.again(change) });
     $('examples').append(...EXAMPLES.map(({ name, about }) => element('button', { title: about, onclick: () => this.choose(name) }, name)));
     for (const id of ['forget', 'start-over']) $(id).addEventListener('click', () => this.forget(id === 'start-over'));
     const over = (is) => document.body.classList.toggle('over', is);
@@ -141,33 +141,36 @@ export class Opening {
     else this.refuse('Nothing is kept in this browser now. The next edit is kept again.', 'good');
   }
 
-  async choose(name, lines, isa = null) {
-    const example = EXAMPLES.find((it) => it.name === name);
+  async choose(name, lines, given = null) {
+    const example = EXAMPLES.find((it) => it.name === name), target = given ?? targetOf({ isa: example.isa }).target;
     const files = { program: { name: example.program, bytes: bytesOf(example.programBytes) } };
     if (example.inputBytes !== undefined) files.input = { name: example.input, bytes: bytesOf(example.inputBytes) };
-    await this.begin(files, { lines, example, isa: isa ?? example.isa ?? USUAL });
+    await this.begin(files, { lines, example, target });
   }
 
-  // Opens the files that are there for another instruction set, and uses lines; without a program, that waits for one.
-  async again(isa, lines) {
-    if (!this.check(isa)) return;
-    if (this.files.program) await this.begin(this.files, { lines, example: this.example, isa });
-    else this.isa = isa;
-    $('isa').value = this.isa;
+  // Opens the files that are there for a target of which a part is another one, and uses lines; without a program, that waits for one.
+  async again(change, lines) {
+    const target = { ...this.target, ...change };
+    if (this.files.program) await this.begin(this.files, { lines, example: this.example, target });
+    else this.target = target;
+    this.targetPart.show(this.target);
   }
 
-  // Whether the page has an instruction set; says so where it doesn't.
-  check(isa) {
-    if (!ISAS.includes(isa)) this.refuse(`There is no instruction set “${isa}” here, but ${listed(ISAS, 'and')}.`);
-    return ISAS.includes(isa);
+  // Whether a target can be used that a text says; says why where it can't.
+  check({ wrong }) {
+    const told = Object.values(wrong).join(' ');
+    if (told) this.refuse(told);
+    return !told;
   }
 
-  async begin(files, { lines, example = null, isa = this.isa }) {
+  async begin(files, { lines, example = null, target }) {
     if (example) this.wanted = null;
     const isWanted = this.wanted && files[this.wanted.last];
     const used = lines ?? (isWanted ? this.wanted.lines : undefined);
     const notice = this.wanted && used ? await this.differing(files) : '';
-    if (!await this.open(files, { lines: used, example, isa: isWanted ? this.wanted.isa : isa })) return;
+    const isNamed = isWanted || files.program.name === this.wanted?.names.program;
+    const shape = { lines: used, example, target: target ?? (isNamed ? this.wanted.target : this.target) };
+    if (!await this.open(files, shape)) return;
     if (used) this.wanted = null;
     if (notice && files === this.files) this.refuse(notice);
     if (this.wanted) this.refuse(`Still missing is ${this.missing(files)}`);
@@ -177,9 +180,9 @@ export class Opening {
   get ownSources() { return (this.example?.sources ?? []).map((path) => ({ path, text: SOURCES[path] })); }
 
   // Notes what is open now.
-  hold(files, example, isa) {
-    Object.assign(this, { files, example, isa, isForgotten: false });
-    $('isa').value = isa;
+  hold(files, example, target) {
+    Object.assign(this, { files, example, target, isForgotten: false });
+    this.targetPart.show(target);
     for (const it of $('examples').children) it.setAttribute('aria-pressed', it.textContent === example?.name);
   }
 
@@ -210,7 +213,8 @@ export class Opening {
         if (hasSums) words.set(`${role}-sum`, it.sum);
       }
     }
-    if (this.isa !== (this.example?.isa ?? USUAL)) words.set('isa', this.isa);
+    if (this.target.isa !== (this.example?.isa ?? USUAL)) words.set('isa', this.target.isa);
+    for (const [name, value] of Object.entries(regionsOf(this.target))) words.set(name, value);
     if (lines.length) words.set('lines', lines.join('\n'));
     return `${words}`;
   }
@@ -221,15 +225,17 @@ export class Opening {
     if (hash === null) return this.refuse('This link is damaged: a part of it is missing, or something else is in it.');
     const words = new URLSearchParams(hash.slice(1));
     const lines = (words.get('lines') ?? '').split('\n').filter(Boolean);
-    const example = words.get('example'), isa = words.get('isa');
-    if (isa !== null && !this.check(isa)) return undefined;
+    const example = words.get('example'), own = EXAMPLES.find((it) => it.name === example)?.isa;
+    if (own && !words.has('isa')) words.set('isa', own);
+    const said = targetBy(words), { target } = said;
+    if (!this.check(said)) return undefined;
     if (example) {
-      if (EXAMPLES.some((it) => it.name === example)) await this.choose(example, lines, isa);
+      if (EXAMPLES.some((it) => it.name === example)) await this.choose(example, lines, target);
       else this.refuse(`There is no example “${example}” here.`);
     } else if (words.get('program')) {
       const roles = ROLES.filter((it) => words.has(it));
       const names = Object.fromEntries(roles.map((it) => [it, words.get(it)]));
-      this.wanted = { lines, isa: isa ?? USUAL, roles, names, last: roles.at(-1), sums: roles.map((it) => words.get(`${it}-sum`)) };
+      this.wanted = { lines, target, roles, names, last: roles.at(-1), sums: roles.map((it) => words.get(`${it}-sum`)) };
       this.refuse(`${about} ${this.missing()}`);
     }
     return undefined;

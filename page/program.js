@@ -1,5 +1,5 @@
 // A run of the proved program: its command line, its files, its streams, and nothing else of the world.
-import { isaWords } from './isa.js';
+import { targetWords } from './targets.js';
 
 const encoder = new TextEncoder();
 const decoder = new TextDecoder();
@@ -81,7 +81,7 @@ export class Run {
   }
 }
 
-// The words that name the files there are, and an instruction set that isn't the usual one.
-export function fileWords(files, isa) {
-  return [...isaWords(isa), 'program', ...['input', 'supp'].flatMap((name) => (files[name] ? [`--${name}`, name] : []))];
+// The words that name the files there are, and a target that isn't the usual one.
+export function fileWords(files, target) {
+  return [...targetWords(target), 'program', ...['input', 'supp'].flatMap((name) => (files[name] ? [`--${name}`, name] : []))];
 }

@@ -100,13 +100,14 @@ export class Scenario {
     return this.with({ options: changed(this.options, name, value === OPTIONS[name] ? null : value) });
   }
 
-  // The same edits over another input, over other suppressions where these aren't the same, and for an instruction set whose
-  // instructions are at multiples of a unit: those that fit, and how many don't.
-  over(base, areSame, unit = HALF) {
+  // The same edits over another input, over other suppressions where these aren't the same, for an instruction set whose instructions
+  // are at multiples of a unit, and where other memory is loaded: those that fit, and how many don't.
+  over(base, areSame, unit = HALF, loaded = () => 0) {
     const changes = new Map([...this.changes].filter(([at, value]) => at < base.length - this.cut && value !== base[at]));
     const beyond = [...this.changes.keys()].filter((at) => at >= base.length - this.cut).length;
     const cut = Math.min(this.cut, base.length), switched = areSame ? this.switched : new Map();
-    const patches = new Map([...this.patches].filter(([at, it]) => at % unit === 0 && it.length >= unit));
+    const patches = new Map([...this.patches].filter(([at, it]) => at % unit === 0 && it.length >= unit
+      && loaded(at, it.length) !== null));
     const left = beyond + this.cut - cut + this.switched.size - switched.size + this.patches.size - patches.size;
     return { scenario: new Scenario(base, { ...this, changes, cut, switched, patches }), left };
   }

@@ -12,7 +12,7 @@ const ADVICE = {
   21: FOR_THE_PROCESSOR, 22: FOR_THE_PROCESSOR, 25: FOR_THE_PROCESSOR,
   24: 'Link it to fixed addresses: -static -no-pie.',
   27: 'Link it without a dynamic linker: -static.',
-  29: 'This page has the heap from 0x40000000 to 0x5fffffff and the stack from 0x7f000000 to 0x7fffffff.',
+  29: '',  // where they are, the page knows
   30: 'Reserve a smaller heap and stack in the linker script, which is often what is so large.',
 };
 const DAMAGED = 'The file is damaged, or a tool has rewritten it: link it anew.';
@@ -31,7 +31,7 @@ function refusedFile(said) {
   const found = /^replaycheck: (image|input|suppressions) refused (\d+)(?: at line (\d+))?/.exec(said);
   if (!found) return said.trim();
   const number = Number(found[2]), line = found[3] ? ` (line ${found[3]})` : '';
-  return `${WHAT[found[1]]} can’t be used: ${REFUSALS[number]}${line}. ${ADVICE[number] ?? DAMAGED}`;
+  return `${WHAT[found[1]]} can’t be used: ${REFUSALS[number]}${line}. ${ADVICE[number] ?? DAMAGED}`.trimEnd();
 }
 
 // Whether a program was rejected because it meets the region of the heap or of the stack, or has segments that overlap.

@@ -83,12 +83,12 @@ export class Session {
 
   async begin() {
     this.stop();
-    const { module, files, isa, limit, again, makeWorker } = this.program;
+    const { module, files, target, limit, again, makeWorker } = this.program;
     this.helper = new Helper(makeWorker);
     this.said = 0;
     this.sessions++;
     this.at = { scenario: new Scenario(this.program.base), step: 0 };
-    await this.ask('begin', { module, files, isa, limit, again });
+    await this.ask('begin', { module, files, target, limit, again });
   }
 
   // Asks the worker; one that fails is left.

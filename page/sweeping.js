@@ -109,10 +109,10 @@ export class Sweep {
   }
 
   async part(helper, number, count) {
-    const { module, isa, limit } = this.program;
+    const { module, target, limit } = this.program;
     const part = { numbers: [] };
     const words = [...this.words, `--part=${number}/${count}`];
-    const { memory } = await helper.ask('sweep', { module, files: this.files, isa, limit, words }, (told) => {
+    const { memory } = await helper.ask('sweep', { module, files: this.files, target, limit, words }, (told) => {
       this.swept.add(part, told);
       this.told(this.swept);
     });

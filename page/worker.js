@@ -22,14 +22,14 @@ const text = (lines) => encoder.encode(lines.map((line) => `${line}\n`).join('')
 
 // A session that waits in `read` while nobody asks.
 class Waiting {
-  constructor({ module, files, isa, limit }) {
+  constructor({ module, files, target, limit }) {
     this.lines = [];
     this.wake = null;
     this.asked = [];
     this.replies = new Replies();
     const ask = () => this.lines.shift() ?? new Promise((wake) => { this.wake = wake; });
     const tell = (bytes) => this.told(decoder.decode(bytes));
-    const words = ['replaycheck', COMMAND, ...fileWords(files, isa)];
+    const words = ['replaycheck', COMMAND, ...fileWords(files, target)];
     this.run = new Run(module, { words, files, limit, ask, tell, waits: true });
     this.run.start().then((status) => this.end(new Fault(status, this.run.said)), (fault) => this.end(fault));
   }
@@ -75,14 +75,14 @@ class Again {
   }
 
   async ask(lines) {
-    const { module, files, isa, limit } = this.begun;
+    const { module, files, target, limit } = this.begun;
     const replies = new Replies();
     const written = [];
     replies.ask([...this.before, ...lines]);
     let given = text([...this.before, ...lines]);
     const ask = () => [given, given = null][0];
     const tell = (bytes) => { written.push(...replies.add(decoder.decode(bytes))); };
-    const run = new Run(module, { words: ['replaycheck', COMMAND, ...fileWords(files, isa)], files, limit, ask, tell });
+    const run = new Run(module, { words: ['replaycheck', COMMAND, ...fileWords(files, target)], files, limit, ask, tell });
     const status = run.start();
     this.memory = run.memory;
     if (status) throw new Fault(status, run.said);
@@ -98,19 +98,19 @@ function withoutPassed(lines) {
 }
 
 // Lines that look at a run, all at once.
-function look({ module, files, isa, limit, lines }) {
+function look({ module, files, target, limit, lines }) {
   const written = [];
   let given = text(lines);
   const ask = () => [given, given = null][0];
   const tell = (bytes) => { written.push(decoder.decode(bytes)); };
-  const run = new Run(module, { words: ['replaycheck', COMMAND, ...fileWords(files, isa)], files, limit, ask, tell });
+  const run = new Run(module, { words: ['replaycheck', COMMAND, ...fileWords(files, target)], files, limit, ask, tell });
   const status = run.start();
   if (status) throw new Fault(status, run.said);
   return { told: written.join('') };
 }
 
 // A part of a sweep. What comes of edits is posted while it is written.
-function sweep({ id, module, files, isa, limit, words }) {
+function sweep({ id, module, files, target, limit, words }) {
   const table = new Table();
   let last = performance.now();
   const post = () => {
@@ -122,7 +122,7 @@ function sweep({ id, module, files, isa, limit, words }) {
     table.add(decoder.decode(bytes));
     if (performance.now() - last >= POST_EVERY) post();
   };
-  const all = ['replaycheck', 'sweep', ...fileWords(files, isa), ...words];
+  const all = ['replaycheck', 'sweep', ...fileWords(files, target), ...words];
   const run = new Run(module, { words: all, files, limit, ask: () => null, tell });
   const status = run.start();
   post();

@@ -1,14 +1,23 @@
 """The cases of test-page about a board's file: what the page says of it, and the command that it names, beside what `replaycheck adopt`
 finds. They need the assembler."""
+import base64
+import json
 import pathlib
 import subprocess
 import tempfile
 
 from board_files import READ_RUN, board, function, segment
 from page_bench import expect, same
+from replaycheck.adopting.elf import Elf
 from replaycheck.adopting.findings import Findings
+from replaycheck.adopting.regions import fitting
+from replaycheck.regions import USUAL_REGIONS, Regions
 
 PLACE, NAME = 0x10000, "board.elf"
+# Regions that are chosen before such a file is opened.
+CHOSEN = (USUAL_REGIONS, Regions(0xA0000000, USUAL_REGIONS.stack), Regions(0x40000000, (0x3FC81000, 0x3FCA0000)),
+          Regions(0x90000000, (0x3FC81000, 0x3FCA0000)), Regions(0x30000000, (0x8F000000, 0x90000000)),
+          Regions(0xB0000000, (0x42000000, 0x43000000)), Regions(0x10000000, (0x90000000, 0x90010000)))
 SHORT, ATOMIC = "rv32imc", "rv32imac"
 
 
@@ -41,7 +50,7 @@ def board_files(bench):
     """What is said of a board's file: sets that would do, each of which opens it again, and a command that adopts it."""
     with bench.page() as page:
         for label, text, flags, told, sets, command in FOUND:
-            page.run("replaycheck.opening.again('rv32im')")
+            page.run("replaycheck.opening.again({ isa: 'rv32im' })")
             bench.give(page, {"program": file_of(text, flags)}, name=NAME)
             bench.settle(page)
             same(f"{label}: whether anything is said", not page.run("document.getElementById('board-told').hidden"), told is not None)
@@ -54,7 +63,7 @@ def board_files(bench):
                 bench.settle(page)
                 expect(isa not in page.run("replaycheck.opened.board?.sets ?? []"), f"{label}: {isa} is offered for itself")
         hostile = "<img src=x onerror=globalThis.hacked=1>.elf"
-        page.run("replaycheck.opening.again('rv32im')")
+        page.run("replaycheck.opening.again({ isa: 'rv32im' })")
         bench.give(page, {"program": file_of("ebreak")}, name=hostile)
         bench.settle(page)
         same("a name with markup", page.text("board-command"), f"replaycheck adopt '{hostile}' -o adopted.elf")
@@ -68,22 +77,47 @@ def region_files(bench):
     file's own stack; and the program takes the file with them."""
     from adopt_region_rows import TOLD
     count = 0
-    with bench.page() as page, tempfile.TemporaryDirectory() as folder:
+    with tempfile.TemporaryDirectory() as folder:
         path = pathlib.Path(folder, NAME)
         for label, data, options, *_ in TOLD:
             found = Findings(data, [], frozenset())
             if options or not any(it.by_option for it in found.obstacles) or found.isa_option:
                 continue
-            bench.give(page, {"program": data}, name=NAME)
-            told, count = page.text("notice"), count + 1
-            if found.hopeless():
-                expect(" --" not in told, f"{label}: it says {told!r}")
-                continue
-            expect(f"`replaycheck run {NAME} --" in told and f"`replaycheck adopt {NAME}`" in told, f"{label}: it says {told!r}")
-            named = told.split(f"`replaycheck run {NAME} ")[1].split("`")[0]
-            if not found.own:
-                same(label, named, found.regions.told)
-            path.write_bytes(data)
-            ran = subprocess.run([bench.program, "run", *named.split(), "--step", "100", path], capture_output=True, text=True)
-            same(f"{label}: {named}", ran.stderr, "")
+            count += 1
+            with bench.page() as page:
+                region_file(bench, page, label, data, path, found)
     expect(count > 3, f"{count} files alone were tried")
+    with bench.page() as page:
+        for label, data in {it[0]: it[1] for it in TOLD}.items():
+            want = [fitting(Elf(data, it), None) for it in CHOSEN]
+            same(f"{label}: where the regions can be", fitting_on(page, data), [it and [it.heap, *it.stack] for it in want])
+
+
+def fitting_on(page, data):
+    """Where the page would have heap and stack for a file, for each of some regions that are chosen."""
+    text, chosen = base64.b64encode(data).decode(), [{"isa": "rv32im", "heap": it.heap, "stack": it.stack} for it in CHOSEN]
+    return page.run(f"""(async () => {{
+      const [{{ Elf }}, {{ fitting }}] = await Promise.all([import('./elf.js'), import('./boards.js')]);
+      const elf = new Elf(Uint8Array.from(atob('{text}'), (it) => it.charCodeAt(0)));
+      return {json.dumps(chosen)}.map((it) => fitting(elf, it)).map((it) => it && [it.heap, ...it.stack]); }})()""")
+
+
+def region_file(bench, page, label, data, path, found):
+    """What is said of one, and the button that puts the regions there."""
+    bench.give(page, {"program": data}, name=NAME)
+    told, buttons = page.text("notice"), page.run("document.querySelectorAll('#notice button').length")
+    same(f"{label}: buttons", buttons, int(not found.hopeless()))
+    if found.hopeless():
+        expect(" --" not in told, f"{label}: it says {told!r}")
+        return
+    expect(f"`replaycheck run {NAME} --" in told and f"`replaycheck adopt {NAME}`" in told, f"{label}: it says {told!r}")
+    named = told.split(f"`replaycheck run {NAME} ")[1].split("`")[0]
+    if not found.own:
+        same(label, named, found.regions.told)
+    path.write_bytes(data)
+    ran = subprocess.run([bench.program, "run", *named.split(), "--step", "100", path], capture_output=True, text=True)
+    same(f"{label}: {named}", ran.stderr, "")
+    page.click_on("#notice button")
+    page.until("replaycheck.shown")
+    same(f"{label}: the lines", page.run("document.getElementById('lines').value"), f"# --isa rv32im {named}\n")
+    bench.same_report(page, [path, *named.split()], f"{label}: the report")

@@ -157,6 +157,21 @@ def rests(page, step=None):
 # ---- the parts
 
 
+def same_panes(page, program, steps, run):
+    """Whether the page shows at steps of a run what the program's looks say."""
+    found = page.run("(async () => {" + SHOWN + f"const all = []; for (const it of {json.dumps(steps)}) all.push(await at(it));"
+                     " return all; })()")
+    for step, shown in zip(steps, found):
+        at = shown.pop("at")
+        told = shown.pop("told")
+        want = program.expected(step, at)
+        shown["calls"], shown["blocks"] = ([without_lines(it) for it in shown[part]] for part in ("calls", "blocks"))
+        for part, value in want.items():
+            same(f"{part} at step {step} of {run}", shown[part], value)
+        live = sum(", live" in it for it in want["blocks"])
+        expect(told.startswith(f"{live} live block") if want["blocks"] else told == "no blocks", f"{run}, {step}: {told}")
+
+
 def panes_in_turn(bench):
     """Calls, registers, memory, letters and blocks at random steps of five programs, edited and not, and what changed since the step
     before: beside the program's looks."""
@@ -168,17 +183,7 @@ def panes_in_turn(bench):
                 bench.settle(page)
                 program, last = Program(bench, words_of(name), lines), page.run("replaycheck.opened.last")
                 steps = [0, last, *(chance.randrange(last + 2) for _ in range(STEPS // 2 - 2))]
-                found = page.run("(async () => {" + SHOWN + f"const all = []; for (const it of {json.dumps(steps)}) all.push(await at(it));"
-                                 " return all; })()")
-                for step, shown in zip(steps, found):
-                    at = shown.pop("at")
-                    told = shown.pop("told")
-                    want = program.expected(step, at)
-                    shown["calls"], shown["blocks"] = ([without_lines(it) for it in shown[part]] for part in ("calls", "blocks"))
-                    for part, value in want.items():
-                        same(f"{part} of {name} at step {step} with {lines}", shown[part], value)
-                    live = sum(", live" in it for it in want["blocks"])
-                    expect(told.startswith(f"{live} live block") if want["blocks"] else told == "no blocks", f"{name}, {step}: {told}")
+                same_panes(page, program, steps, f"{name} with {lines}")
 
 
 # ---- who wrote a value

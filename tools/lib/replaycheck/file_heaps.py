@@ -19,7 +19,6 @@ ECALL = 0x00000073
 CHOICES = [number << 20 | 17 << 7 | 0x13 for number in range(2001, 2005)]
 # Where the first block of a heap begins, from the region's begin on. Its first byte becomes accessible by the first call for a block.
 BEFORE_BLOCKS = 16
-FIRST_BLOCK = USUAL_REGIONS.heap + BEFORE_BLOCKS
 BY_NAME, BY_NUMBER, NONE, NO_SYMBOLS, OTHER_NAMES = "by name", "by number", "none", "no symbols", "other names"
 
 

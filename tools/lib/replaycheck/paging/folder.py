@@ -5,15 +5,15 @@ import hashlib
 import json
 import re
 
-from replaycheck import allocators, file_heaps
-from replaycheck.adopting import outside, regions
+from replaycheck import allocators, file_heaps, regions
+from replaycheck.adopting import outside
+from replaycheck.adopting.regions import HEAPS, MOST_STACK, STACK_ENDS
 from replaycheck.endings import Fault
 from replaycheck.exploring import outcomes
 from replaycheck.guest_files import TOP
 from replaycheck.options import LAST_STEP
 from replaycheck.programs import ISAS
 from replaycheck.refusals import WORDS
-from replaycheck.regions import HEAP_SIZE, USUAL_REGIONS
 from replaycheck.reports import LEAK_KINDS, TEXTS
 
 from .scripts import one_script
@@ -23,6 +23,8 @@ MAIN, WORKER, RESOURCES, ONE_FILE = "main.js", "worker.js", "resources.js", "one
 POLICY = re.compile(r'(<meta http-equiv="Content-Security-Policy" content=")[^"]*(">)')
 STYLE = '<link rel="stylesheet" href="page.css">'
 SCRIPT = f'<script type="module" src="{MAIN}"></script>'
+# Which regions heap and stack may have, and how that is said.
+REGION_RULES = ("HEAP_SIZE", "HEAP_STEP", "LEAST_HEAP", "GREATEST_HEAP", "HEAP_WANTED", "STACK_STEP", "LEAST_STACK", "STACK_WANTED")
 
 
 def constant(name, value):
@@ -36,9 +38,11 @@ def facts(module):
         ("ERROR_KINDS", [(pattern.pattern, name) for pattern, name in TEXTS]),
         ("BADNESS", outcomes.BADNESS), ("FRAMES_TOLD", outcomes.FRAMES_TOLD), ("RUNNING", outcomes.RUNNING),
         ("HEAP_NAMES", allocators.HEAP), ("OTHER_HEAPS", sorted(file_heaps.OTHERS)),
-        ("HEAPS", regions.HEAPS), ("HEAP_SIZE", HEAP_SIZE), ("USUAL_HEAP", USUAL_REGIONS.heap), ("MOST_STACK", regions.MOST_STACK),
-        ("STACK_ENDS", regions.STACK_ENDS), ("DEVICES", outside.DEVICES),
-        ("HEAP_CHOICES", file_heaps.CHOICES), ("FIRST_BLOCK", file_heaps.FIRST_BLOCK), ("MODULE_SUM", hashlib.sha256(module).hexdigest())))
+        *((name, getattr(regions, name)) for name in REGION_RULES),
+        ("USUAL_HEAP", regions.USUAL_REGIONS.heap), ("USUAL_STACK", regions.USUAL_REGIONS.stack),
+        ("HEAPS", HEAPS), ("MOST_STACK", MOST_STACK), ("STACK_ENDS", STACK_ENDS), ("DEVICES", outside.DEVICES),
+        ("HEAP_CHOICES", file_heaps.CHOICES), ("BEFORE_BLOCKS", file_heaps.BEFORE_BLOCKS),
+        ("MODULE_SUM", hashlib.sha256(module).hexdigest())))
 
 
 def encoded(path):
