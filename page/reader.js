@@ -32,24 +32,23 @@ export class Reader {
     return length > MOST_BYTES ? 0 : value;
   }
 
-  unsigned() {
-    let value = 0, byte, scale = 1;
+  // A number in as many bytes as it needs, of seven bits each, the lowest first (LEB128); `wide` is one more than the greatest that these
+  // have room for, and `isHigh` says whether the highest bit is set, which is the sign of a signed one.
+  packed() {
+    let value = 0, byte, wide = 1;
     do {
       byte = this.byte();
-      value += (byte & 127) * scale;
-      scale *= 128;
+      value += (byte & 127) * wide;
+      wide *= 128;
     } while (byte & 128);
-    return value;
+    return { value, wide, isHigh: Boolean(byte & 64) };
   }
 
+  unsigned() { return this.packed().value; }
+
   signed() {
-    let value = 0, byte, scale = 1;
-    do {
-      byte = this.byte();
-      value += (byte & 127) * scale;
-      scale *= 128;
-    } while (byte & 128);
-    return byte & 64 ? value - scale : value;
+    const { value, wide, isHigh } = this.packed();
+    return isHigh ? value - wide : value;
   }
 
   string() {
