@@ -47,12 +47,17 @@ class Starting:
 
 
 def interrupt(number, _):
+    if Starting.is_on:
+        Starting.come = number  # no signal is ignored yet: a child that is made now would ignore it, too
+    else:
+        raise interrupted(number)
+
+
+def interrupted(number):
+    """What a signal raises. No other one comes after it."""
     for other in TOLD:
         signal.signal(other, signal.SIG_IGN)
-    if Starting.is_on:
-        Starting.come = number
-    else:
-        raise Interrupted(number)
+    return Interrupted(number)
 
 
 def undisturbed(action):
@@ -64,7 +69,7 @@ def undisturbed(action):
         Starting.is_on = False
         come, Starting.come = Starting.come, None
         if come is not None:
-            raise Interrupted(come)
+            raise interrupted(come)
 
 
 def start(words, needs="", **pipes):
