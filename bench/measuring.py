@@ -6,14 +6,29 @@ import sys
 for folder in ("lib", "test"):
     sys.path.insert(0, os.path.realpath(f"{__file__}/../../tools/{folder}"))
 
-from replaycheck.assembly import addi, branch, load_number  # noqa: E402
+from replaycheck.assembly import ECALL, addi, branch, load, load_number, of_registers  # noqa: E402
+from replaycheck.guest_files import ENTRY, elf  # noqa: E402
 
-T0 = 5
+READ = 63
+T0, S1, A0, A1, A2, A7 = 5, 9, 10, 11, 12, 17
+BUFFER = ENTRY + 0x1000
 
 
 def repeat(turns, body):
     """A loop of so many turns, counted in t0: addi t0, t0, -1; bne t0, x0, to the body."""
     return load_number(T0, turns) + body + [addi(T0, T0, -1), branch(1, T0, 0, -4 * (len(body) + 1))]
+
+
+def reading(count):
+    """Reads so many bytes behind the program."""
+    return load_number(A0, 0) + load_number(A1, BUFFER) + load_number(A2, count) + load_number(A7, READ) + [ECALL]
+
+
+def adding(count):
+    """A program that reads so many bytes at once, and adds up the first 64 of them, of which the sum is its status."""
+    body = [load(4, A2, A1, 0), of_registers(0, 0, S1, S1, A2), addi(A1, A1, 1)]
+    ends = [addi(A0, S1, 0)] + load_number(A7, 93) + [ECALL]
+    return elf(reading(count) + load_number(A1, BUFFER) + load_number(S1, 0) + repeat(64, body) + ends, 0x1000 + count)
 
 
 def spent(program, folder, file, words, lines=(), supp=b"", may_refuse=False, end=0):

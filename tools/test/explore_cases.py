@@ -13,15 +13,16 @@ SUM = hashlib.sha256(b"").hexdigest()
 class Made:
     """A sweep of so many bytes, words and steps, each edit of which has an outcome by chance."""
 
-    def __init__(self, places, words=0, values="3,5,7", seed=1, outcomes=OUTCOMES, steps=0, isa="rv32im", regions=()):
+    def __init__(self, places, words=0, values="3,5,7", seed=1, outcomes=OUTCOMES, steps=0, isa="rv32im", regions=(), has_sides=False):
         chance = random.Random(seed)
         self.head = [f"isa {isa}"] if isa != "rv32im" else []
         self.head += regions
         self.head += [f"program 9 {SUM}", f"input {places} {SUM}", f"supp 0 {SUM}", f"bytes 0..{places - 1} {values}"]
         self.head += [f"words 0x00010000..0x{0x10000 + 4 * words - 1:08x} flips"] if words else []
         self.head += [f"steps 0..{steps - 1} pc,skip"] if steps else []
+        self.head += ["sides yes"] if has_sides else []
         self.head += ["step 100", "output no"]
-        self.version = 2 if steps or isa != "rv32im" or regions else 1
+        self.version = 2 if steps or isa != "rv32im" or regions or has_sides else 1
         self.outcomes = outcomes
         self.rows = []  # for each place its edits, each with an outcome
         for at in range(places):
@@ -36,6 +37,18 @@ class Made:
         for step in range(steps):
             edits = [f"skip {step}", *(f"flip {step} pc 0x{1 << bit:08x}" for bit in range(32))]
             self.rows.append([(edit, chance.randrange(len(outcomes))) for edit in edits] if step % 4 else [])  # not each is at the code
+
+        # For the unedited run and for each place, what was executed of 200 places of instructions.
+        few = [0] * 9 + [1, 2, 3]
+        self.executed = [[0] * 64 + [chance.choice(few) for _ in range(136)] for _ in range(1 + len(self.rows))] if has_sides else []
+        self.unit = 4 if isa == "rv32im" else 2
+
+    def sides(self, low, high):
+        """The lines of digits of a part, with its places from one up to another."""
+        runs = self.executed[:1] + self.executed[1 + low:1 + high]
+        digits = "".join(str(max(it & 1 for it in each) + max(it & 2 for it in each)) for each in zip(*runs))
+        return [f"sides 0x{0x10000 + self.unit * at:08x} {digits[at:at + 64]}" for at in range(0, len(digits), 64)
+                if digits[at:at + 64].strip("0")]
 
     def part(self, index=1, count=1):
         """The table of a part."""
@@ -54,6 +67,7 @@ class Made:
             tallies[numbers[outcome]] += 1
             lines.append(f"{edit} {numbers[outcome]}")
         lines += [f"tally {number} {tally}" for number, tally in enumerate(tallies)]
+        lines += self.sides(low, high)
         lines += [f"end {len(edits)} {len(tallies)} {7 * len(edits)}"]
         return "".join(f"{line}\n" for line in lines).encode()
 
@@ -66,6 +80,12 @@ def changed(old, new):
     return change
 
 
+def with_sides(lines, head=b"sides yes\n"):
+    """A change of a table: it says what its runs have executed, in these lines."""
+    return lambda it: it.replace(b"sweep 1", b"sweep 2").replace(b"step 100", head + b"step 100").replace(b"end 18", lines + b"end 18")
+
+
+LINE = b"sides 0x00010000 " + b"0123" * 16 + b"\n"
 HUGE = b"9" * 5000000
 # Label, what becomes of a good table, and what is said of it.
 WRONG_TABLES = [
@@ -132,6 +152,17 @@ WRONG_TABLES = [
     ("a length without an end", changed(b"program 9", b"program " + HUGE), "line 2"),
     ("an offset without an end", changed(b"input 1 5", b"input " + HUGE + b" 5"), "line "),
     ("a tally without an end", changed(b"tally 0 ", b"tally 0 " + HUGE), "line "),
+    ("sides in the version before", changed(b"step 100", b"sides yes\nstep 100"),
+     "line 6: a line of `sweep 2` in a table of `sweep 1`: sides yes"),
+    ("sides of steps", with_sides(b"", b"steps 0..5 skip\nsides yes\n"), "of edits of bytes only: sides yes"),
+    ("no sides", with_sides(b"", b"sides no\n"), "`steps A..B MODELS`, as in each table of `sweep 2`, comes here"),
+    ("sides unasked", changed(b"end 18", LINE + b"end 18"), "`end 18 "),
+    ("a digit that there isn't", with_sides(LINE.replace(b"3", b"4")), "`sides ADDR DIGITS` comes here"),
+    ("a line of 65 digits", with_sides(LINE.replace(b"0 0", b"0 00")), "`sides ADDR DIGITS` comes here"),
+    ("a line of zeros", with_sides(b"sides 0x00010000 " + b"0" * 64 + b"\n"), "a line out of turn"),
+    ("a line of sides again", with_sides(LINE + LINE), "a line out of turn"),
+    ("a line of sides within another", with_sides(LINE + LINE.replace(b"10000", b"100fc")), "a line out of turn"),
+    ("a line behind a short one", with_sides(LINE.replace(b"0123", b"", 1) + LINE.replace(b"10000", b"10100")), "a line out of turn"),
     ("steps that are no number", lambda it: it[:it.rindex(b" ")] + b" -\n", "`end 18 "),
     ("a number of 14 digits for a step", changed(b"step 100", b"step 10000000000000"), "a step above 4194304"),
     ("a range of bytes too far", changed(b"bytes 0..5", b"bytes 0..5000000"), "a place above"),

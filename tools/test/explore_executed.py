@@ -19,6 +19,7 @@ STEP = 1600
 BOOT = ["boot.elf", "--input=boot.input", f"--step={STEP}"]
 BEGIN, ALL_CODE = 0x100A0, "look sides 0x100a0 556"  # of boot.elf
 FEW = ["--bytes=15..16", "--values=1,2"]
+SKIPS = ["--words=0x10100..0x10104"]  # the runs of these edits are looked at
 VALUES = 5  # of each byte of the station's input, by chance
 # Functions that are some thousands of bytes apart, which a byte of the input chooses.
 FAR = START + """
@@ -191,20 +192,22 @@ def test_lcov_rejected(tests):
     tests.refuses("--lcov rejected: a full disk", [*words, "--lcov=/dev/full"], "cannot write /dev/full: No space left")
     (tests.room / "out").mkdir(exist_ok=True)
     tests.refuses("--lcov rejected: no room", [*words, "--lcov=out/o"], "out/o: File too large", before=["prlimit", "--fsize=2500"])
+    looked = [*STATION, *SKIPS]
     wrapper = looker(tests, '{{ {program} "$@" | sed -u \'s/^sides .*/refused 1/\'; exit; }}')
-    tests.refuses("--lcov rejected: out of memory", [*words, "--jobs=1", "--lcov=out/o"],
+    tests.refuses("--lcov rejected: out of memory", [*looked, "--jobs=1", "--lcov=out/o"],
                   "--lcov: no look at the unedited run: look sides 0x100a0 2444: refused 1: out of memory", REPLAYCHECK=wrapper)
     wrapper = looker(tests, '{{ sed -u 4q | {program} "$@"; exit 4; }}')
-    tests.refuses("--lcov rejected: a session that ends", [*words, "--jobs=1", "--lcov=out/o"],
-                  "--lcov: no look at the run with `input 16 1`: the program ended before it replied, with status 4", REPLAYCHECK=wrapper)
+    tests.refuses("--lcov rejected: a session that ends", [*looked, "--jobs=1", "--lcov=out/o"],
+                  "--lcov: no look at the run with `patch 0x00010104 0x00000013`: the program ended before it replied, with status 4",
+                  REPLAYCHECK=wrapper)
     changed = looker(tests, "printf x >>{room}/changing.elf")
     shutil.copy(tests.room / "station.elf", tests.room / "changing.elf")
-    tests.refuses("--lcov rejected: a file that is changed", ["changing.elf", *words[1:], "--lcov=out/o"],
+    tests.refuses("--lcov rejected: a file that is changed", ["changing.elf", *looked[1:], "--lcov=out/o"],
                   "--lcov: changing.elf was changed meanwhile", REPLAYCHECK=changed)
     wrapper = looker(tests, "exec sleep 30")
     for number in (signal.SIGINT, signal.SIGTERM):
         (tests.room / "made").write_text("")
-        wrong = ended_by(tests, [*words, "--lcov=out/o", "--jobs=1", "--parts=1"], number, lambda: (tests.room / "made").read_text())
+        wrong = ended_by(tests, [*looked, "--lcov=out/o", "--jobs=1", "--parts=1"], number, lambda: (tests.room / "made").read_text())
         tests.check(f"--lcov: {number.name}", wrong)
     tests.check("--lcov: nothing is left", list((tests.room / "out").iterdir()) or tests.left())
 

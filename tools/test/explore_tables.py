@@ -34,6 +34,7 @@ def test_merge(tests):
               ("steps for rv32imc", Made(5, steps=9, isa="rv32imc")),
               ("bytes, words and steps for rv32imc", Made(5, 7, "flips", steps=9, isa="rv32imc")),
               ("bytes for rv32imac", Made(5, isa="rv32imac")), ("bytes with a heap region", Made(5, regions=HEAP)),
+              ("sides", Made(43, has_sides=True)), ("sides for rv32imc", Made(5, isa="rv32imc", has_sides=True)),
               ("steps for rv32imc with regions", Made(5, steps=9, isa="rv32imc", regions=HEAP + STACK))]
     for label, made in sweeps:
         whole, chance = made.part(), random.Random(3)

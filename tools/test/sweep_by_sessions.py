@@ -4,12 +4,12 @@ it back. It shares no code with the program's own sweep, and is what that is com
 
 usage: tools/test/sweep_by_sessions.py PROGRAM FILE [--input F] [--supp F] [--isa NAME] [--heap-region BEGIN]
        [--stack-region A..B] [--step N] [--bytes A..B] [--values all|flips|edges|LIST] [--words A..B]
-       [--words-values skip|flips|LIST] [--with-output] [--part I/N]
+       [--words-values skip|flips|LIST] [--with-output] [--sides] [--part I/N]
 
 In: a built replaycheck, and the options of its `sweep`.
 
 Out: the table. How many steps the edited runs made is told of bytes, by what the reports of the unedited run say of the
-input; where words are edited it is `-`.
+input; where words are edited it is `-`. With `--sides`, sessions of `replaycheck look` say what each run has executed.
 
 Exit status: 0 the table is whole; 1 a file can't be read; 2 the command line; 3 a file, a range of bytes or of words is
 refused; 4 the sessions answered otherwise than they should."""
@@ -29,6 +29,8 @@ NUMBER = r"0[xX][0-9a-fA-F]{1,8}|[0-9]{1,10}"
 EDGES = (0, 1, 0x7F, 0x80, 0xFF)
 HALF, WORD = 2, 4  # bytes of an instruction
 NO_OP = {HALF: 0x0001, WORD: 0x00000013}
+MOST_SIDES = 4194304  # bytes of which a table says what was executed
+MOST_LOOKED, LINE_PLACES = 4096, 64
 JUMP = "Jump to the invalid address stated on the next line"
 
 
@@ -93,6 +95,7 @@ def options_of(words):
     reader.add_argument("--words-values", default="skip")
     reader.add_argument("--part", default="1/1")
     reader.add_argument("--with-output", action="store_true")
+    reader.add_argument("--sides", action="store_true")
     options = reader.parse_args(words)
     if options.bytes is None and options.words is None:
         options.bytes = "0.."
@@ -115,9 +118,9 @@ def has_regions(options):
 # ---- sessions
 
 
-def reply_to(options, room, lines):
+def reply_to(options, room, lines, command="session"):
     """What a session says to lines."""
-    words = [options.program, "session", f"{room}/program", f"--isa={options.isa}"]
+    words = [options.program, command, f"{room}/program", f"--isa={options.isa}"]
     if has_regions(options):
         words += [f"--heap-region={options.heap_region}", "--stack-region={}..{}".format(*options.stack_region)]
     words += ["--input", f"{room}/input"] if options.input is not None else []
@@ -164,6 +167,38 @@ def outline(report, with_output):
             found.append(line.partition(": ")[2] if line.startswith("error ") else line.partition(" blocks are ")[2])
         drops = is_shown and found[-1] == JUMP
     return tuple(found)
+
+
+# ---- what runs have executed
+
+
+def range_with(program):
+    """The address and the length of the part of a program's file that is loaded where it begins."""
+    entry, at, count = *struct.unpack_from("<2I", program, 24), struct.unpack_from("<H", program, 44)[0]
+    for index in range(count):
+        kind, _, address, _, size, room = struct.unpack_from("<6I", program, at + 32 * index)
+        if kind == 1 and address <= entry < address + room:
+            return address - address % 4, min(address % 4 + size, MOST_SIDES)
+    raise Bad(4, "no segment has the entry")
+
+
+def sides_of(options, room, program, edits, step):
+    """The lines on what the unedited run and each edited one have executed."""
+    start, length = range_with(program)
+    looks = [f"look sides {start + at} {min(MOST_LOOKED, length - at)}" for at in range(0, length, MOST_LOOKED)]
+    lines = [f"goto {step}", *looks]
+    for edit, back in edits:
+        lines += [edit, *looks, back]
+    replies = [it for it in reply_to(options, room, lines, "look") if it != "ok"]
+    if len(replies) != len(looks) * (1 + len(edits)) or not all(it.startswith("sides ") for it in replies):
+        raise Bad(4, "a session has not answered looks by sides")
+    digits = ["".join(it[6:] for it in replies[at:at + len(looks)]) for at in range(0, len(replies), len(looks))]
+    table = "".join(str(2 * ("2" in each or "3" in each) + ("1" in each or "3" in each)) for each in map(set, zip(*digits)))
+    unit = WORD if options.isa == "rv32im" else HALF
+    for at in range(0, len(table), LINE_PLACES):
+        row = table[at:at + LINE_PLACES]
+        if row.strip("0"):
+            yield f"sides 0x{start + unit * at:08x} {row}"
 
 
 # ---- places and edits
@@ -299,7 +334,7 @@ def last_unread(options, room, offsets, end):
 
 
 def head(options, files):
-    yield "sweep 1" if options.isa == "rv32im" and not has_regions(options) else "sweep 2"
+    yield "sweep 1" if options.isa == "rv32im" and not has_regions(options) and not options.sides else "sweep 2"
     yield from [] if options.isa == "rv32im" else [f"isa {options.isa}"]
     yield from [] if options.heap_region == USUAL_HEAP else [f"heap-region 0x{options.heap_region:08x}"]
     yield from [] if options.stack_region == USUAL_STACK else ["stack-region 0x{:08x}..0x{:08x}".format(*options.stack_region)]
@@ -309,6 +344,7 @@ def head(options, files):
         yield "bytes %d..%d " % options.bytes + options.told["bytes"]
     if options.words:
         yield "words 0x%08x..0x%08x " % options.words + options.told["words"]
+    yield from ["sides yes"] if options.sides else []
     yield f"step {options.step}"
     yield f"output {'yes' if options.with_output else 'no'}"
     yield "part %d/%d" % options.part
@@ -341,6 +377,7 @@ def table(options, room, files):
         yield f"{edit} {numbers[outcome]}"
     for number, tally in enumerate(tallies):
         yield f"tally {number} {tally}"
+    yield from sides_of(options, room, files["program"], edits, options.step) if options.sides else []
     yield f"end {len(edits)} {len(tallies)} {steps_of(options, room, places, end)}"
 
 

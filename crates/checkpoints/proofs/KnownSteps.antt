@@ -12,14 +12,15 @@ use Rattle.checkpoints.specs.declared.sides.Sides.{Sides}
 use Rattle.checkpoints.proofs.SideSteps.{again-more, covers-more, none-again, none-covered}
 
 -- two answers to one question are the same
-same-answer : {P : Type 0} (a b : Bool) → Decides a P → Decides b P → a ≡ b
+pub same-answer : {P : Type 0} (a b : Bool) → Decides a P → Decides b P → a ≡ b
 same-answer true true d e = refl
 same-answer true false d e = absurd (true≢false (sym (e.1 (d.0 refl))))
 same-answer false true d e = absurd (true≢false (sym (d.1 (e.0 refl))))
 same-answer false false d e = refl
 
 module _ (start : State) (setup : Setup) (marks : List Alteration) where
-  decides-covers : (n : ℕ) (side : Side) → Decides (covers start setup marks n side) (Covers start setup marks n side)
+  pub decides-covers : (n : ℕ) (side : Side)
+      → Decides (covers start setup marks n side) (Covers start setup marks n side)
   unfolding covers
   decides-covers zero side = none-covered start setup marks side
   decides-covers (suc k) side =

@@ -60,7 +60,7 @@ is-side step addr on =
 -- ---- another step
 
 module _ (start : State) (setup : Setup) (marks : List Alteration) where
-  covers-less : (k n : ℕ) (side : Side) → k ≤ n → Covers start setup marks k side → Covers start setup marks n side
+  pub covers-less : (k n : ℕ) (side : Side) → k ≤ n → Covers start setup marks k side → Covers start setup marks n side
   covers-less k n side l covers = let less = covers.1 in (covers.0, omega arith, covers.2)
 
   last-step : (k : ℕ) (side : Side) → Covers start setup marks (k + 1) side
@@ -253,12 +253,12 @@ module _ (laws : Laws) (effect : Effect) (of : IsOfSetup effect) (one other : Ru
       ≡ side_of (post s other.setup other.marks k) other.setup)
       (sym (led.start ∙ same-start effect one.start of)) (sides-at-start k l)
 
-  covers-there : (k : ℕ) (side : Side) → k ≤ n → Covers one.start one.setup one.marks k side
+  pub covers-there : (k : ℕ) (side : Side) → k ≤ n → Covers one.start one.setup one.marks k side
       → Covers other.start other.setup other.marks k side
   covers-there k side l covers =
       let less = covers.1 in (covers.0, less, sym (same-sides covers.0 (omega arith)) ∙ covers.2)
 
-  covers-here : (k : ℕ) (side : Side) → k ≤ n → Covers other.start other.setup other.marks k side
+  pub covers-here : (k : ℕ) (side : Side) → k ≤ n → Covers other.start other.setup other.marks k side
       → Covers one.start one.setup one.marks k side
   covers-here k side l covers =
       let less = covers.1 in (covers.0, less, same-sides covers.0 (omega arith) ∙ covers.2)

@@ -1,19 +1,22 @@
 //! Which instructions a run has executed, and how it went on from each.
-ghost use Rattle.std.specs.Prelude.{◌≡◌, ◌+◌, ◌*◌, ◌<◌, ◌≤◌, ℕ, Bool, false, length, slice_index_or, IfOk, IfNone, IfSome, IsTrue, OnOk};
+ghost use Rattle.std.specs.Prelude.{◌≡◌, ◌+◌, ◌*◌, ◌<◌, ◌≤◌, ℕ, Bool, List, false, length, slice_index_or, IfOk, IfNone, IfSome, IsTrue, OnOk};
 ghost use Rattle.guest_elf.specs.Profiles.{unit};
 ghost use Rattle.guest_machine.specs.State.{State};
 ghost use Rattle.guest_machine.specs.Exec.{exec};
-ghost use Rattle.guest_machine.specs.Run.{pre};
+ghost use Rattle.guest_machine.specs.Run.{pre, post};
 ghost use Rattle.guest_machine.specs.Shows.{Shows};
+ghost use Rattle.run_values.specs.declared.alteration.Alteration.{Alteration as AlterationOf};
 ghost use Rattle.checkpoints.specs.Entering.{Enters, IsApart, with_side};
 ghost use Rattle.checkpoints.specs.Effects.{IsOfSetup, LeadsTo, Run};
 ghost use Rattle.checkpoints.specs.Forks.{IsForkFor, ShowsEdited};
+ghost use Rattle.checkpoints.specs.Marks.{NoneBetween};
+ghost use Rattle.checkpoints.specs.Merged.{AlsoEnters, AlsoSays};
 ghost use Rattle.checkpoints.specs.Sides.{IsSides, RowTells, has_again, has_side, places, side_by, side_of, sided, span};
 ghost use Rattle.checkpoints.specs.Trails.{machines_of, IsRightFor};
 
 use crate::effect::Effect;
 use crate::forks::{Fork, written_copy};
-use crate::running::{apply_marks, is_running, next_step, pass_marks, run_on};
+use crate::running::{apply_marks, is_running, next_step, pass_marks, quiet_until, run_on};
 use crate::trail::Trail;
 use guest_machine::laws::{
     end_stays, keeps_end, keeps_heap, keeps_input, keeps_isa, keeps_pokes, reads_on, stays_halted,
@@ -77,7 +80,8 @@ impl Trail {
 
 impl Fork {
     /// Returns the machine at a step of an edited run as [`Fork::follow`] does, and what the steps of that run below it have done with the
-    /// instruction at each place of a range. `table` says what the steps below the fork's have done. No step counts on a meter.
+    /// instruction at each place of a range. `table` says what the steps below the fork's have done. No step counts on a meter. If `table`
+    /// also says what other runs have done once, it still does.
     pub fn follow_entering(
         &self,
         effect: Effect,
@@ -93,6 +97,8 @@ impl Fork {
         ensures sides { OnOk result ((one : Run) (start : State) (last len : ℕ) → LeadsTo effect one (record { start = start; setup = setup.now; marks = marks.now })
             → IsForkFor effect one last self.now → IsSides one.start one.setup one.marks self.now.step (span first len) table.old.items
             → IsSides start setup.now marks.now step (span first len) table.new.items) }
+        ensures rows { OnOk result (length table.new.items ≡ length table.old.items) }
+        ensures also { OnOk result (AlsoEnters effect self.now first setup.now marks.now step table.old.items table.new.items) }
     {
         keeps_input();
         keeps_end();
@@ -145,22 +151,68 @@ fn enter_sides(
     ensures tells { OnOk result ((start : State) (i : ℕ) (on : Bool) (d : Sides) → Shows machine (pre start setup.now marks.now from) → i < length table.old.items
         → RowTells start setup.now marks.now from (sided (first + apart * i) on) (slice_index_or table.old.items i d)
         → RowTells start setup.now marks.now to (sided (first + apart * i) on) (slice_index_or table.new.items i d)) }
+    ensures also { OnOk result ((start : State) (i : ℕ) (on others : Bool) (d : Sides) → Shows machine (pre start setup.now marks.now from) → i < length table.old.items
+        → AlsoSays others start setup.now marks.now from (sided (first + apart * i) on) (slice_index_or table.old.items i d)
+        → AlsoSays others start setup.now marks.now to (sided (first + apart * i) on) (slice_index_or table.new.items i d)) }
 {
     stays_halted();
     let mut machine = machine;
     let mut next = next_step(marks, from);
-    for k in from..to {
+    let mut at = from;
+    while at < to {
         if !is_running(&machine) {
-            let halted = run_on(machine, setup, marks, k, to, &mut Meter::new())?;
+            let halted = run_on(machine, setup, marks, at, to, &mut Meter::new())?;
             return Ok(halted);
         }
-        let marked = pass_marks(machine, marks, k, &mut next)?;
-        machine = step_entering(marked, setup, first, apart, table)?;
+        let marked = pass_marks(machine, marks, at, &mut next)?;
+        let end = quiet_until(next, at + 1, to);
+        let (stepped, reached) = enter_quietly(marked, setup, first, apart, at, end, table)?;
+        machine = stepped;
+        at = reached;
     }
     Ok(machine)
 }
 
-/// Executes one step, and enters its side.
+/// Moves a machine from after the marks of a step to a later step, with no marks between, or past the first step that finds it halted.
+/// Enters the sides of these steps, and returns the step to which it has come.
+#[inline(never)]
+fn enter_quietly(
+    machine: Machine,
+    setup: &Setup,
+    first: u32,
+    apart: u32,
+    from: u32,
+    end: u32,
+    table: &mut Vec<Sides>,
+) -> Result<(Machine, u32), AllocError>
+    requires forward { from < end }
+    requires apart { IsApart apart }
+    ensures on { IfOk result (λ r. from < r.1) }
+    ensures within { IfOk result (λ r. r.1 ≤ end) }
+    ensures shows { IfOk result (λ r. (start : State) (marks : List AlterationOf) → NoneBetween from end marks
+        → Shows machine (post start setup.now marks from) → Shows r.0 (pre start setup.now marks r.1)) }
+    ensures rows { OnOk result (length table.new.items ≡ length table.old.items) }
+    ensures tells { IfOk result (λ r. (start : State) (marks : List AlterationOf) → NoneBetween from end marks
+        → Shows machine (post start setup.now marks from) → (i : ℕ) (on : Bool) (d : Sides) → i < length table.old.items
+        → RowTells start setup.now marks from (sided (first + apart * i) on) (slice_index_or table.old.items i d)
+        → RowTells start setup.now marks r.1 (sided (first + apart * i) on) (slice_index_or table.new.items i d)) }
+    ensures also { IfOk result (λ r. (start : State) (marks : List AlterationOf) → NoneBetween from end marks
+        → Shows machine (post start setup.now marks from) → (i : ℕ) (on others : Bool) (d : Sides) → i < length table.old.items
+        → AlsoSays others start setup.now marks from (sided (first + apart * i) on) (slice_index_or table.old.items i d)
+        → AlsoSays others start setup.now marks r.1 (sided (first + apart * i) on) (slice_index_or table.new.items i d)) }
+{
+    let mut machine = machine;
+    for k in from..end {
+        let (stepped, fetched) = step_entering(machine, setup, first, apart, table)?;
+        machine = stepped;
+        if !fetched && !is_running(&machine) {
+            return Ok((machine, k + 1));
+        }
+    }
+    Ok((machine, end))
+}
+
+/// Executes one step, and enters its side. Returns whether it fetched code.
 #[inline(always)]
 fn step_entering(
     machine: Machine,
@@ -168,15 +220,15 @@ fn step_entering(
     first: u32,
     apart: u32,
     table: &mut Vec<Sides>,
-) -> Result<Machine, AllocError>
+) -> Result<(Machine, bool), AllocError>
     requires { IsApart apart }
-    ensures shows { IfOk result (λ r. (s : State) → Shows machine s → Shows r (exec s setup.now)) }
+    ensures shows { IfOk result (λ r. (s : State) → Shows machine s → Shows r.0 (exec s setup.now)) }
     ensures rows { OnOk result (length table.new.items ≡ length table.old.items) }
     ensures entered { OnOk result ((s : State) → Shows machine s → Enters first apart (side_of s setup.now) table.old.items table.new.items) }
 {
     let (stepped, touched) = machine.step_on(setup)?;
     enter(table, first, apart, touched.fetch, stepped.pc());
-    Ok(stepped)
+    Ok((stepped, touched.fetch.is_some()))
 }
 
 /// Enters the side of a step that fetches a code, if it does, and leaves pc at an address.
@@ -192,44 +244,21 @@ fn enter(table: &mut Vec<Sides>, first: u32, apart: u32, code: Option<Span>, pc:
         return;
     };
     if place < table.len() {
-        let on = pc == code.start.wrapping_add(code.len);
-        let sides = table[place];
-        if !is_known(sides, on) {
-            table[place] = with_side(sides, on);
-        }
+        add_side(&mut table[place], pc == code.start.wrapping_add(code.len));
     }
 }
 
-/// Whether a run has gone this way more than once, so that it is nothing new.
+/// Adds to what a run has done with an instruction that it also continues after it, or elsewhere.
 #[inline(always)]
-fn is_known(sides: Sides, on: bool) -> bool
-    ensures { IsTrue result → with_side sides on ≡ sides }
+fn add_side(sides: &mut Sides, on: bool)
+    ensures { sides.new ≡ with_side sides.old on }
 {
     if on {
-        sides.on && sides.on_again
+        sides.on_again = sides.on_again || sides.on;
+        sides.on = true;
     } else {
-        sides.away && sides.away_again
-    }
-}
-
-/// What a run has done with an instruction once it also continues after it, or elsewhere.
-fn with_side(sides: Sides, on: bool) -> Sides
-    ensures { result ≡ with_side sides on }
-{
-    if on {
-        Sides {
-            on: true,
-            away: sides.away,
-            on_again: sides.on_again || sides.on,
-            away_again: sides.away_again,
-        }
-    } else {
-        Sides {
-            on: sides.on,
-            away: true,
-            on_again: sides.on_again,
-            away_again: sides.away_again || sides.away,
-        }
+        sides.away_again = sides.away_again || sides.away;
+        sides.away = true;
     }
 }
 

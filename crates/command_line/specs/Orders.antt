@@ -99,7 +99,11 @@ with_tries = with_subcommand with_look (program_command (codes "tries")).top
 abbrev pub output_flag : Rule
 output_flag = record (new_rule (codes "with-output")) { long = Some (codes "with-output"); action = Some SetTrue }
 
--- `sweep`, with the bytes that it edits, with the words, with the steps at which faults strike, and whole
+abbrev pub sides_flag : Rule
+sides_flag = record (new_rule (codes "sides")) { long = Some (codes "sides"); action = Some SetTrue }
+
+-- `sweep`, with the bytes that it edits, with the words, with the steps at which faults strike, with its flags, and
+-- whole
 abbrev pub sweep_of_bytes : App
 sweep_of_bytes =
     with_rule (with_rule (with_rule (program_command (codes "sweep")) step_option) (option (codes "bytes")))
@@ -115,9 +119,11 @@ sweep_of_steps =
     with_rule (with_rule (with_rule (with_rule sweep_of_words (option (codes "at"))) (option (codes "faults")))
     (option (codes "code-range"))) (option (codes "pairs"))
 
+abbrev pub sweep_of_flags : App
+sweep_of_flags = with_rule (with_rule sweep_of_steps output_flag) sides_flag
+
 abbrev pub sweep_command : App
-sweep_command =
-    with_rule (with_rule sweep_of_steps output_flag) (default_option (codes "part") (codes "1/1"))
+sweep_command = with_rule sweep_of_flags (default_option (codes "part") (codes "1/1"))
 
 -- with `sweep`
 abbrev pub with_sweep : App
@@ -205,6 +211,7 @@ pub record IsSweepOf (rows : List Row) (asked : SweepWords) : Type 0 where
   pub pairs : text_of asked.pairs ≡ first_of (codes "pairs") rows
   pub part : Some asked.part.now ≡ first_of (codes "part") rows
   pub with_output : IsFlagOf (codes "with-output") rows asked.with_output
+  pub with_sides : IsFlagOf (codes "sides") rows asked.with_sides
 
 -- the arguments of what was found for those of `exec`
 pub record IsExecOf (rows : List Row) (asked : ExecWords) : Type 0 where

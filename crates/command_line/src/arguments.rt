@@ -2,7 +2,7 @@
 ghost use Rattle.std.specs.Prelude.{◌≡◌, IfErr, IfOk, IfSome, IsSomeAnd, false, map, string_bytes, true};
 ghost use Rattle.clap.specs.Words.{FailsBy, app_of, fault_of, found_of, kind_of, rows_of, rule_of, subcommand_rows_of, takes};
 ghost use Rattle.clap.specs.declared.builder.command.Command.TheViews.{out-Command};
-ghost use Rattle.command_line.specs.Orders.{IsOrderFor, IsOrderOf, IsProfileOf, IsStepOf, IsSweepOf, IsTaskOf, certify_command, command_line, default_option, file_argument, heap_option, input_command, isa_option, option, output_flag, program_command, run_command, stack_option, step_option, sweep_command, sweep_of_bytes, sweep_of_steps, sweep_of_words, with_certify, with_look, with_profile, with_run, with_session, with_sweep, with_tries};
+ghost use Rattle.command_line.specs.Orders.{IsOrderFor, IsOrderOf, IsProfileOf, IsStepOf, IsSweepOf, IsTaskOf, certify_command, command_line, default_option, file_argument, heap_option, input_command, isa_option, option, output_flag, program_command, run_command, stack_option, step_option, sides_flag, sweep_command, sweep_of_bytes, sweep_of_flags, sweep_of_steps, sweep_of_words, with_certify, with_look, with_profile, with_run, with_session, with_sweep, with_tries};
 
 use crate::exec::{exec_command, exec_of};
 use crate::help::{
@@ -183,7 +183,7 @@ fn with_tries<'a>(alloc: Global) -> Result<Command<'a>, AllocError>
     with_look(alloc)?.subcommand(tries)
 }
 
-/// The flag of `sweep`.
+/// The flag of `sweep` for longer outcomes.
 fn output_flag<'a>(alloc: Global) -> Arg<'a>
     ensures rule { rule_of result ≡ output_flag }
     ensures local { result.global ≡ false }
@@ -192,6 +192,17 @@ fn output_flag<'a>(alloc: Global) -> Arg<'a>
         .long("with-output")
         .action(ArgAction::SetTrue)
         .help("Has each outcome tell how many bytes were written")
+}
+
+/// The flag of `sweep` for what its runs have executed.
+fn sides_flag<'a>(alloc: Global) -> Arg<'a>
+    ensures rule { rule_of result ≡ sides_flag }
+    ensures local { result.global ≡ false }
+{
+    Arg::new(alloc, "sides")
+        .long("sides")
+        .action(ArgAction::SetTrue)
+        .help("Has the table say what its runs have executed; of edits of bytes only")
 }
 
 /// `sweep` with the bytes that it edits.
@@ -233,14 +244,22 @@ fn sweep_of_steps<'a>(alloc: Global) -> Result<Command<'a>, AllocError>
     command.arg(option(alloc, "pairs", "MODEL", pairs))
 }
 
+/// `sweep` with all that it changes, and its flags.
+fn sweep_of_flags<'a>(alloc: Global) -> Result<Command<'a>, AllocError>
+    ensures shape { IfOk result (λ command. app_of command ≡ sweep_of_flags) }
+    ensures globals { IfOk result (λ command. (out-Command command).has_globals ≡ false) }
+{
+    let command = sweep_of_steps(alloc)?.arg(output_flag(alloc))?;
+    command.arg(sides_flag(alloc))
+}
+
 /// `sweep`.
 fn sweep_command<'a>(alloc: Global) -> Result<Command<'a>, AllocError>
     ensures shape { IfOk result (λ command. app_of command ≡ sweep_command) }
     ensures globals { IfOk result (λ command. (out-Command command).has_globals ≡ false) }
 {
-    let command = sweep_of_steps(alloc)?.arg(output_flag(alloc))?;
     let part = "Part I of N of the places, from 1";
-    command.arg(default_option(alloc, "part", "I/N", "1/1", part))
+    sweep_of_flags(alloc)?.arg(default_option(alloc, "part", "I/N", "1/1", part))
 }
 
 /// The command line with `run`, `session`, `look`, `tries` and `sweep`.
@@ -316,6 +335,7 @@ fn sweep_of<'a>(chosen: &ArgMatches<'a>) -> Option<SweepWords<'a>>
         pairs: chosen.get_str("pairs"),
         part: chosen.get_str("part")?,
         with_output: chosen.get_flag("with-output"),
+        with_sides: chosen.get_flag("sides"),
     })
 }
 

@@ -134,7 +134,7 @@ and don't count. Each is answered for the chosen step of the run with all edits:
   look output FROM LEN          of the program's output up to LEN bytes, up to 4096, from position
                                 FROM on: those that there are
   look sides ADDR LEN           of each instruction in LEN bytes, up to 4096, a digit: 0, it wasn't
-                                executed; 1, it was, and the run always continued behind it; 2,
+                                executed; 1, it was, and the run always continued after it; 2,
                                 always elsewhere; 3, both
   look input                    the number of bytes of the input that were read, its length, and
                                 `yes` if a read has asked for more than were left, else `no`
@@ -185,21 +185,24 @@ Example, the last write of a word before the first 5000 steps are over:
 /// The end of the help of `tries`: the lines that it has besides those of `look`.
 pub(crate) const AFTER_TRIES: &str = with_refusals!(
     "\
-The lines of `replaycheck session` and `replaycheck look`, whose help lists them, and these, which
-edit nothing and don't count. Each is answered for the run of another input, with all other edits,
-up to the chosen step. HEX is two hexadecimal digits each byte:
+The lines of `replaycheck session` and `replaycheck look`, whose help lists them, and these. Those
+that begin with `try` and `differs` edit nothing and don't count. Each is answered for the run of
+another input, with all other edits, up to the chosen step. HEX is two hexadecimal digits each byte:
   try [HEX]                 tries these bytes as the whole input
   try A HEX                 tries the input with its bytes from offset A on replaced by these
   differs [HEX]             lists the compares in which the run of these bytes differs from the run
                             of the session, which has all edits and no other input
   differs A HEX             lists them for the input with its bytes from offset A on replaced
+  take                      makes the input of the last try the session's, as `bytes is HEX` or
+                            `bytes A HEX` does. No line may be between them but lines that begin
+                            with `try`, `differs` and `look`
 
 The reply to `try` is this line, after the outcome if no earlier try had the same one:
   tried K new N again M     outcome K; N sides that no earlier try had; M sides that the run has at
                             least twice, and that no earlier try had twice
   outcome K                 an outcome, numbered from 0, and its lines as in a table of
                             `replaycheck sweep`
-A side is an instruction with whether the run continued behind it or elsewhere. Sides are told of
+A side is an instruction with whether the run continued after it or elsewhere. Sides are told of
 the segment in which the program begins, at most of its first 4 MiB in the file.
 
 The reply to `differs` is a line for each compare that differs, and then `end`:
@@ -210,7 +213,7 @@ last step on at which the other input doesn't show, are paired in order, up to t
 two addresses.
 
 Refusals of these lines, besides out of memory (1):
-  2   a field that is missing, too many or of the wrong form
+  2   a field that is missing, too many or of the wrong form; `take` without a try
   3   bytes beyond the input
   14  an input of more than 1048576 bytes
 
@@ -242,12 +245,13 @@ At each step that the unedited run executes, one fault is tried at a time, of ea
   zero, ones one of x1 to x31 is set to 0, or to 0xffffffff
 `--pairs skip` also leaves out two instructions, the second at a later step of --at. --at and
 --faults need each other, and --code-range and --pairs need both. Steps at which a function of the
-heap is called by name are left out.
+heap is called by name are left out. --sides goes with edits of bytes only.
 
 The table, which `replaycheck explore` reads:
-  sweep 1                   its format, 2 with steps or with one of the lines `isa NAME`,
-                            `heap-region BEGIN` and `stack-region A..B`, which follow where these
-                            aren't the usual; then the files' lengths and SHA-256, and what is asked
+  sweep 1                   its format, 2 with steps, with `sides yes`, or with one of the lines
+                            `isa NAME`, `heap-region BEGIN` and `stack-region A..B`, which follow
+                            where these aren't the usual; then the files' lengths and SHA-256, and
+                            what is asked
   outcome K                 an outcome, just before the first row that has it; its lines follow: the
                             state, each error and each shown leak with its trace
   unedited 0                the run with no edit
@@ -256,6 +260,9 @@ The table, which `replaycheck explore` reads:
   skip STEP K               a fault, as `replaycheck look` makes it: also flip STEP xR MASK, flip STEP
                             pc MASK, flip STEP ADDR MASK, set STEP xR VALUE; two lines with `; `
   tally K COUNT             how many edits have an outcome
+  sides ADDR DIGITS         with --sides, for up to 64 instructions from ADDR on, whether the unedited
+                            run or an edited one continued after it (1), went elsewhere (2), both
+                            (3), or none reached it (0); a line of zeros is left out
   end EDITS OUTCOMES STEPS  a table without this line isn't whole
 
 Three more refusals:

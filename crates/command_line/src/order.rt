@@ -70,6 +70,8 @@ pub struct SweepWords<'a> {
     pub part: &'a str,
     /// Whether an outcome has the number of bytes written.
     pub with_output: bool,
+    /// Whether the table says what its runs have executed.
+    pub with_sides: bool,
 }
 
 /// The arguments that say how a program is executed and what is said of it.

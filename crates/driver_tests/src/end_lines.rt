@@ -116,7 +116,7 @@ fn ends_of_files_are_told(rt: HostRuntime) {
     assert_told(&rt, rt.alloc(), &FILE_ENDS);
 }
 
-const STEP_ENDS: [Told; 5] = [
+const STEP_ENDS: [Told; 6] = [
     (End::StepsRefused, 3, b"replaycheck: steps refused 5\n"),
     (
         End::Lone(LoneOption::At),
@@ -137,6 +137,11 @@ const STEP_ENDS: [Told; 5] = [
         End::Lone(LoneOption::Pairs),
         2,
         b"replaycheck: --pairs needs --at\n",
+    ),
+    (
+        End::Lone(LoneOption::Sides),
+        2,
+        b"replaycheck: --sides needs edits of bytes only, without --words and --at\n",
     ),
 ];
 

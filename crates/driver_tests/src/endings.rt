@@ -164,6 +164,7 @@ fn task_of(asked: &Asked) -> (Option<&'static str>, Task<'static>) {
                 pairs: None,
                 part,
                 with_output: true,
+                with_sides: false,
             };
             (Some("input"), Task::Sweep(words))
         }

@@ -37,6 +37,7 @@ fn is_sweep(asked: &SweepWords<'_>, want: &SweepWords<'_>) -> bool {
         && is_text(asked.pairs, want.pairs)
         && asked.part == want.part
         && asked.with_output == want.with_output
+        && asked.with_sides == want.with_sides
 }
 
 /// Whether two commands are.
@@ -239,6 +240,7 @@ const SWEEPS: [Line; 3] = [
                 pairs: None,
                 part: "1/1",
                 with_output: false,
+                with_sides: false,
             }),
         },
     ),
@@ -272,6 +274,7 @@ const SWEEPS: [Line; 3] = [
                 pairs: None,
                 part: "2/3",
                 with_output: true,
+                with_sides: false,
             }),
         },
     ),
@@ -302,6 +305,7 @@ const SWEEPS: [Line; 3] = [
                 pairs: Some("skip"),
                 part: "1/1",
                 with_output: false,
+                with_sides: false,
             }),
         },
     ),

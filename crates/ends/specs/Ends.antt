@@ -78,6 +78,7 @@ lone_text Alone.At = codes "replaycheck: --at needs --faults"
 lone_text Alone.Faults = codes "replaycheck: --faults needs --at"
 lone_text Alone.CodeRange = codes "replaycheck: --code-range needs --at"
 lone_text Alone.Pairs = codes "replaycheck: --pairs needs --at"
+lone_text Alone.Sides = codes "replaycheck: --sides needs edits of bytes only, without --words and --at"
 
 -- the line on regions that overlap, with the texts of both
 abbrev pub overlap_line : List ℕ → List ℕ → List ℕ

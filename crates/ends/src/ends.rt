@@ -39,6 +39,8 @@ pub enum LoneOption {
     Faults,
     CodeRange,
     Pairs,
+    /// It goes with edits of bytes only.
+    Sides,
 }
 
 impl SweepOption {
@@ -70,6 +72,9 @@ impl LoneOption {
             LoneOption::Faults => "replaycheck: --faults needs --at",
             LoneOption::CodeRange => "replaycheck: --code-range needs --at",
             LoneOption::Pairs => "replaycheck: --pairs needs --at",
+            LoneOption::Sides => {
+                "replaycheck: --sides needs edits of bytes only, without --words and --at"
+            }
         }
     }
 }

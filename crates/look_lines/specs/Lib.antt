@@ -3,4 +3,5 @@ pub mod Controls
 pub mod Inputs
 pub mod Lists
 pub mod Looks
+pub mod Ranges
 pub mod Texts

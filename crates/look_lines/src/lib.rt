@@ -9,11 +9,12 @@
 //! | [`begins_with`], [`edit_tried`] | whether this is the first word of a line; reads a line that tries an input as an edit |
 //! | [`push_registers`], [`push_controls`], [`push_memory`], [`push_input`] | append the reply on a machine |
 //! | [`push_output`], [`push_sides`], [`push_step`] | append the reply on bytes of the output, on instructions that were executed, or on a step that was found |
+//! | [`push_digits`], [`range_of`] | appends only the digits of [`push_sides`]; returns the range of a program's addresses of which a table has them |
 //! | [`push_stack`], [`push_blocks`] | append the reply on the calls that a machine is in, or on the blocks of its heap |
 //! | [`push_calls`] | appends the reply on what happens in steps; of that there are at most [`MOST_HAPPENED`] |
 //!
 //! This crate is separate from `looks`, which lists the lines and serves them over a session. In `specs/`: `Looks`, the lines; `Texts`, the
-//! replies to them, `Controls` that of control registers, and `Lists` those that are lists; `Alterations`, the lines that alter; `Inputs`, the lines that give the input
+//! replies to them, `Controls` that of control registers, `Ranges` of which addresses there are digits, and `Lists` those that are lists; `Alterations`, the lines that alter; `Inputs`, the lines that give the input
 //! bytes.
 //!
 //! Source of `__`: Valgrind's gdbserver, `monitor get_vbits` (Memcheck manual, section 4.6).
@@ -25,6 +26,7 @@ mod inputs;
 mod lists;
 mod look;
 mod parsing;
+mod ranges;
 mod texts;
 
 pub use altering::{alteration_asked, alters};
@@ -33,4 +35,7 @@ pub use inputs::{begins_with, edit_asked, edit_tried, gives};
 pub use lists::{MOST_HAPPENED, push_blocks, push_calls, push_stack};
 pub use look::{Look, Search, Stretch};
 pub use parsing::asked;
-pub use texts::{push_input, push_memory, push_output, push_registers, push_sides, push_step};
+pub use ranges::range_of;
+pub use texts::{
+    push_digits, push_input, push_memory, push_output, push_registers, push_sides, push_step,
+};

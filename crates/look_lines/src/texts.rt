@@ -127,7 +127,7 @@ fn side_digit(sides: Sides) -> u64
 }
 
 /// Appends the digits of a table.
-fn push_digits(out: &mut Vec<u8>, table: &[Sides]) -> Result<(), AllocError>
+pub fn push_digits(out: &mut Vec<u8>, table: &[Sides]) -> Result<(), AllocError>
     ensures { OnOk result (out.new.items ≡ out.old.items ++ flat_map digit_text table.now) }
 {
     for sides in table {

@@ -20,7 +20,7 @@ last-fails true true c h = h
 last-fails true false c h = refl
 last-fails false b c h = refl
 
-too-long : (turn : Turn) (line : List ℕ) → longest_line < length line → looks turn line ≡ false
+pub too-long : (turn : Turn) (line : List ℕ) → longest_line < length line → looks turn line ≡ false
 unfolding looks
 too-long turn line h =
     last-fails (starts_with nat_eq line (codes "look ")) (not (is_over turn)) _ (lt-leb (length line) longest_line h)

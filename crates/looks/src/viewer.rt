@@ -17,14 +17,6 @@ use replay_session::{Fault, Session, Texts};
 use run_values::Alteration;
 use std::alloc::AllocError;
 
-/// Whether a line looks at the run of a session.
-#[tactic(auto, unfolding(crate::specs::Views::looks))]
-fn looks(session: &Session<'_>, line: &[u8]) -> bool
-    ensures { result ≡ looks (turn_of session.now) line.now }
-{
-    line.starts_with(b"look ") && !session.is_over() && line.len() <= LONGEST_LINE
-}
-
 /// Returns the command of a line that alters.
 fn marking(asked: Result<Alteration, Fault>) -> Result<Command, Fault>
     ensures { result ≡ marking asked }
@@ -136,6 +128,14 @@ impl<'a> Viewer<'a> {
         })
     }
 
+    /// Returns whether a line looks at the run.
+    #[tactic(auto, unfolding(crate::specs::Views::looks))]
+    pub fn looks(&self, line: &[u8]) -> bool
+        ensures { result ≡ looks (turn_of self.now.session) line.now }
+    {
+        line.starts_with(b"look ") && !self.session.is_over() && line.len() <= LONGEST_LINE
+    }
+
     /// Replies why a line is rejected.
     #[tactic(auto, unfolding(crate::specs::Views::reply_of))]
     pub fn refuse(&mut self, fault: Fault)
@@ -179,14 +179,21 @@ impl<'a> Viewer<'a> {
         self.is_shown = false;
     }
 
-    /// Answers a line that gives the input bytes: as a session answers an edit.
+    /// Answers a line that the caller has read, as an edit or as why it is none: as a session answers an edit.
     #[tactic(auto, unfolding(crate::specs::Views::reply_of))]
+    pub fn answer_as(&mut self, line: &[u8], read: Result<Edit, Fault>)
+        ensures { RepliesAs (stage_of self.old.session) (accepted_as (turn_of self.old.session) line.now (giving read)) (reply_of self.new) (stage_of self.new.session) }
+    {
+        self.texts.answer_as(&mut self.session, line, giving(read));
+        self.is_shown = false;
+    }
+
+    /// Answers a line that gives the input bytes.
     fn give(&mut self, line: &[u8])
         ensures { RepliesAs (stage_of self.old.session) (accepted_as (turn_of self.old.session) line.now (giving (edit_asked line.now))) (reply_of self.new) (stage_of self.new.session) }
     {
         let read = edit_asked(self.session.allocator(), line, self.session.input_len());
-        self.texts.answer_as(&mut self.session, line, giving(read));
-        self.is_shown = false;
+        self.answer_as(line, read);
     }
 }
 
@@ -209,7 +216,7 @@ impl Listener for Viewer<'_> {
 
     #[tactic(auto, unfolding(crate::specs::Views::reply_of))]
     fn answer(&mut self, line: &[u8]) {
-        if looks(&self.session, line) {
+        if self.looks(line) {
             self.look(line);
         } else if alters(line) {
             self.alter(line);

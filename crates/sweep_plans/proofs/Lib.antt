@@ -1,3 +1,4 @@
+pub mod ByteSteps
 pub mod CodeSteps
 pub mod ListSteps
 pub mod GlitchSteps

@@ -20,14 +20,15 @@ use Rattle.sweep_plans.specs.Steps.{AreNoSteps, AreSteps}
 use Rattle.sweep_plans.specs.declared.plan.FaultModels.{FaultModels}
 use Rattle.sweep_plans.specs.declared.steps.StepRequest.{StepRequest}
 use Rattle.ends.specs.declared.ends.End.{End}
-use Rattle.ends.specs.declared.ends.End.TheVariants.{BytesRefused, NoMemory, StepsRefused, WordsRefused}
+use Rattle.ends.specs.declared.ends.End.TheVariants.{BytesRefused, Lone, NoMemory, StepsRefused, WordsRefused}
+use Rattle.ends.specs.declared.ends.LoneOption.TheVariants as Alone
 use Rattle.ends.specs.declared.ends.SweepOption.TheVariants.{Bytes, Values, Words, WordsValues, Part as ThePart}
 use Rattle.sweep_plans.specs.declared.request.Part.{Part}
 use Rattle.sweep_plans.specs.declared.request.Range.{Range}
 use Rattle.sweep_plans.specs.declared.request.Request.{Request}
 
--- the request in the arguments of a sweep
-pub record IsRequestOf (asked : SweepWords) (request : Request) : Type 0 where
+-- the edits that the arguments of a sweep ask for
+pub record AreEditsOf (asked : SweepWords) (request : Request) : Type 0 where
   pub bytes : NamesRange range_of (text_of asked.bytes) request.bytes
   pub byte_values : NamesByteValues asked.byte_values.now request.byte_values
   pub words : NamesRange closed_range_of (text_of asked.words) request.words
@@ -35,6 +36,14 @@ pub record IsRequestOf (asked : SweepWords) (request : Request) : Type 0 where
   pub steps : AreSteps (text_of asked.at) (text_of asked.faults) (text_of asked.code) (text_of asked.pairs)
       request.steps
   pub part : part_of asked.part.now ≡ Some request.part
+
+-- are there edits of words, or at steps?
+abbrev pub has_others : Request → Bool
+has_others request = is_some request.words || is_some request.steps
+
+-- the request in these arguments: `--sides` goes with edits of bytes only
+abbrev pub IsRequestOf : SweepWords → Request → Type 0
+IsRequestOf asked request = AreEditsOf asked request × ((asked.with_sides && has_others request) ≡ false)
 
 -- a text that names no values or no part is how the sweep ends; or, if a list may be read, lack of memory
 abbrev pub AreBadByteValues : List ℕ → End → Type 0
@@ -46,7 +55,7 @@ AreBadWordValues text end = (end ≡ NoMemory) ⊎ (NamesNoWordValues text × Na
 abbrev pub IsBadPart : List ℕ → End → Type 0
 IsBadPart text end = (part_of text ≡ None) × NamesText ThePart text end
 
--- why the arguments of a sweep make no request. Its options are read in this order: `--bytes`, `--values`, `--words`,
+-- why the arguments of a sweep ask for no edits. Its options are read in this order: `--bytes`, `--values`, `--words`,
 -- `--words-values`, those on steps, and `--part`; the first whose text can't be read is how the sweep ends
 abbrev pub NoSteps : SweepWords → End → Type 0
 NoSteps asked end =
@@ -70,10 +79,17 @@ NoByteValues asked end =
     AreBadByteValues asked.byte_values.now end
     ⊎ ((values : ByteValues) × NamesByteValues asked.byte_values.now values × NoWords asked end)
 
-abbrev pub IsNoRequest : SweepWords → End → Type 0
-IsNoRequest asked end =
+abbrev pub AreNoEdits : SweepWords → End → Type 0
+AreNoEdits asked end =
     IsBadRange Bytes range_of (text_of asked.bytes) end
     ⊎ ((bytes : Option Range) × NamesRange range_of (text_of asked.bytes) bytes × NoByteValues asked end)
+
+-- why they make no request: they ask for no edits, or `--sides` is there with edits of words or at steps
+abbrev pub IsNoRequest : SweepWords → End → Type 0
+IsNoRequest asked end =
+    AreNoEdits asked end
+    ⊎ ((request : Request) × AreEditsOf asked request × ((asked.with_sides && has_others request) ≡ true)
+    × (end ≡ Lone Alone.Sides))
 
 abbrev pub nowhere : Places
 nowhere = record { first = 0; end = 0 }
@@ -94,7 +110,7 @@ bytes_by None true len = Some nowhere
 bytes_by None false len = inside 0 len len
 
 unfoldable pub bytes_meant : Request → ℕ → Option Places
-bytes_meant request len = bytes_by request.bytes (is_some request.words || is_some request.steps) len
+bytes_meant request len = bytes_by request.bytes (has_others request) len
 
 -- the words to edit of a program all of whose instructions are words, by a quarter of their addresses: those at the
 -- multiples of 4 from one address to another, if one of them is loaded whole

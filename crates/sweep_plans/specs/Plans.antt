@@ -67,6 +67,11 @@ instructions image inside addr (suc n) =
     let place = instruction_at image inside addr in
     somewhere place ++ instructions image (is_long place) (addr + 2) n
 
+-- are all places bytes of the input?
+abbrev pub has_only_bytes : Plan → Bool
+has_only_bytes plan =
+    count plan.words == 0 && (length plan.instructions.items == 0 && count plan.steps == 0)
+
 -- ---- places by their numbers
 
 -- the place of a number, counted from 0, if there is one

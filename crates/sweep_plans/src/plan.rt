@@ -139,7 +139,7 @@ pub struct Plan {
 
 impl Plan {
     ghost use Rattle.std.specs.Prelude.{◌≡◌, ◌<◌, ◌^◌, IfOk};
-    ghost use Rattle.sweep_plans.specs.Plans.{HasNext, changes_of, place_at, place_behind, place_behind_words, place_count, wanted_halves, wanted_words, word_values};
+    ghost use Rattle.sweep_plans.specs.Plans.{HasNext, changes_of, has_only_bytes, place_at, place_behind, place_behind_words, place_count, wanted_halves, wanted_words, word_values};
 
     /// Returns the number of places.
     pub fn places(&self) -> u64
@@ -150,6 +150,13 @@ impl Plan {
             + u64::from(self.words.count())
             + self.instructions.len() as u64
             + u64::from(self.steps.count())
+    }
+
+    /// Returns whether all places are bytes of the input.
+    pub fn has_only_bytes(&self) -> bool
+        ensures { result ≡ has_only_bytes self.now }
+    {
+        self.words.count() == 0 && self.instructions.len() == 0 && self.steps.count() == 0
     }
 
     /// Returns the place of a number: the bytes come first, then the words or the instructions, then the steps.

@@ -1,7 +1,7 @@
 //! Reads the arguments of a sweep.
 ghost use Rattle.std.specs.Prelude.{◌≡◌, IfErr, IfOk, IfSome, MatchOption, Some, option_map};
 ghost use Rattle.command_line.specs.Orders.{text_of};
-ghost use Rattle.sweep_plans.specs.Planned.{AreBadByteValues, AreBadWordValues, IsBadPart, IsNoRequest, IsPart, IsRequestOf};
+ghost use Rattle.sweep_plans.specs.Planned.{AreBadByteValues, AreBadWordValues, AreEditsOf, AreNoEdits, IsBadPart, IsNoRequest, IsPart, IsRequestOf, has_others};
 ghost use Rattle.sweep_plans.specs.Requests.{IsBadRange, NamesByteValues, NamesNoByteValues, NamesNoWordValues, NamesRange, NamesWordValues, closed_range_of, joined_by, list_of, part_in, part_of, range_in, range_of, up_to};
 ghost use Rattle.ends.specs.declared.ends.SweepOption.TheVariants.{Bytes, Words};
 
@@ -9,7 +9,7 @@ use crate::plan::{ByteValues, WordValues};
 use crate::steps::{StepRequest, named_steps};
 use command_line::SweepWords;
 use commands::number;
-use ends::{End, SweepOption};
+use ends::{End, LoneOption, SweepOption};
 use std::alloc::{AllocError, Global};
 use text_parts::Parts;
 
@@ -282,11 +282,31 @@ fn named_part<'a>(text: &'a str) -> Result<Part, End<'a>>
 
 impl Request {
     /// Returns the request in the arguments of a sweep. They are read in the order of the fields of [`SweepWords`]. The first that can't be
-    /// read is how the sweep ends.
+    /// read is how the sweep ends, or `--sides` if there are other edits than of bytes.
     pub fn of<'a>(alloc: Global, words: &SweepWords<'a>) -> Result<Request, End<'a>>
         ensures ok { IfOk result (λ request. IsRequestOf words.now request) }
         ensures part { IfOk result (λ request. IsPart request.part) }
         ensures err { IfErr result (λ end. IsNoRequest words.now end) }
+    {
+        let request = Request::edits_of(alloc, words)?;
+        if words.with_sides && request.has_others() {
+            return Err(End::Lone(LoneOption::Sides));
+        }
+        Ok(request)
+    }
+
+    /// Returns whether there are edits of words, or at steps.
+    fn has_others(&self) -> bool
+        ensures { result ≡ has_others self.now }
+    {
+        self.words.is_some() || self.steps.is_some()
+    }
+
+    /// Returns the edits that the arguments of a sweep ask for.
+    fn edits_of<'a>(alloc: Global, words: &SweepWords<'a>) -> Result<Request, End<'a>>
+        ensures ok { IfOk result (λ request. AreEditsOf words.now request) }
+        ensures part { IfOk result (λ request. IsPart request.part) }
+        ensures err { IfErr result (λ end. AreNoEdits words.now end) }
     {
         let bytes = named_bytes(words.bytes)?;
         let byte_values = named_byte_values(alloc, words.byte_values)?;

@@ -1,2 +1,3 @@
+pub mod SidesLines
 pub mod Swept
 pub mod Laws

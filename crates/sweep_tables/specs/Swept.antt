@@ -21,10 +21,17 @@ use Rattle.memory_map.specs.declared.regions.StackRegion.{StackRegion}
 use Rattle.report_lines.specs.Text.{address_text, newline}
 use Rattle.scenario.specs.Scenario.{Scenario, IsOutlineOf, at_step, begun}
 use Rattle.suppressions.specs.Rules.{Rule}
+use Rattle.sweeps.specs.Covered.{FitsPlan, HasCovered, apart_in, table_of}
+use Rattle.sweeps.specs.Covered.{range_of as table_range}
 use Rattle.sweeps.specs.Outcomes.{Met, AreMet}
 use Rattle.sweeps.specs.Standing.{changes_from}
 use Rattle.sweeps.specs.Sweeps.{HasMet, scenario_of, tells_output}
 use Rattle.sweeps.specs.Tables.{rows_text, table_text}
+use Rattle.run_values.specs.declared.span.Span.{Span}
+use Rattle.sweep_tables.specs.SidesLines.{TellsSides, range_for, sides_lines}
+use Rattle.look_lines.specs.Texts.{digit_text}
+use Rattle.std.specs.List.{flat_map}
+use Rattle.sweep_plans.specs.declared.change.Change.{Change}
 use Rattle.sweep_plans.specs.declared.plan.Places.{Places}
 use Rattle.sweep_plans.specs.declared.plan.Plan.{Plan}
 use Rattle.sweeps.specs.declared.sweep.Sweep.{Sweep}
@@ -74,11 +81,11 @@ is_heap_moved regions = not (regions.heap == heap_begin)
 abbrev pub is_unusual : Profile → Bool
 is_unusual profile = is_other profile.isa || (is_heap_moved profile.regions || is_moved profile.regions.stack)
 
--- the format of the table: the second one has lines that the first doesn't have, those of faults at steps and those of
--- another profile
-abbrev pub version_line : Places → Profile → List ℕ
-version_line steps profile =
-    if nat_lt steps.first steps.end || is_unusual profile then codes "sweep 2\n" else codes "sweep 1\n"
+-- the format of the table: the second one has lines that the first doesn't have, those of faults at steps, those of
+-- another profile and those on what the runs have executed
+abbrev pub version_line : Places → Profile → Bool → List ℕ
+version_line steps profile with_sides =
+    if nat_lt steps.first steps.end || (is_unusual profile || with_sides) then codes "sweep 2\n" else codes "sweep 1\n"
 
 -- the instruction set, if it is another one
 unfoldable pub isa_line : Isa → List ℕ
@@ -130,6 +137,10 @@ steps_line steps faults code pairs =
     ++ code_text code ++ pairs_text pairs
     else []
 
+-- that lines on what the runs have executed follow
+abbrev pub sides_head : Bool → List ℕ
+sides_head with_sides = if with_sides then codes "sides yes\n" else []
+
 -- the step, whether outcomes have the output's length, and the part
 abbrev pub output_line : Bool → List ℕ
 output_line with_output = if with_output then codes "\noutput yes\npart " else codes "\noutput no\npart "
@@ -142,10 +153,10 @@ step_lines step with_output part =
 -- the head of a table
 unfoldable pub head_text : List ℕ → List ℕ → List ℕ → Profile → SweepWords → Plan → Option Range → Part → List ℕ
 head_text program input rules profile words plan named part =
-    version_line plan.steps profile ++ profile_lines profile ++ file_lines program input rules
+    version_line plan.steps profile words.with_sides ++ profile_lines profile ++ file_lines program input rules
     ++ bytes_line plan.bytes words.byte_values.now ++ words_line named words.word_values.now
     ++ steps_line plan.steps (fault_text (text_of words.faults)) plan.code plan.pairs
-    ++ step_lines words.step words.with_output part
+    ++ sides_head words.with_sides ++ step_lines words.step words.with_output part
 
 -- ---- how far it came
 
@@ -156,13 +167,15 @@ pub record AreOf (with_output : Bool) (sc : Scenario) (plan : Plan) (from n : �
   pub changes : map (λ (m : Met). m.change) met ≡ changes_from sc plan from n
   pub right : AreMet with_output sc met
 
--- what is swept: the head of the table, whether outcomes have the number of bytes written, the scenario, the places
+-- what is swept: the head of the table, whether outcomes have the number of bytes written, the scenario, the places,
+-- and of which addresses lines say what was executed
 pub record Case : Type 0 where
   pub head : List ℕ
   pub with_output : Bool
   pub sc : Scenario
   pub plan : Plan
   pub from : ℕ
+  pub range : Span
 
 -- the rows of this number of places were written, and nothing else
 abbrev pub WritesRows : Case → ℕ → Option (List ℕ) → Option (List ℕ) → Type 0
@@ -170,18 +183,23 @@ WritesRows case n old new =
     (first : List ℕ) × (met : List Met) × AreOf case.with_output case.sc case.plan case.from n first met
     × Appends old new (case.head ++ rows_text first met)
 
+-- lines say what the unedited run and those with the changes of this number of places have executed
+abbrev pub TellsSidesOf : Case → ℕ → List ℕ → Type 0
+TellsSidesOf case n lines = TellsSides case.sc (changes_from case.sc case.plan case.from n) case.range lines
+
 -- the whole table of this number of places
 abbrev pub WritesTable : Case → ℕ → Option (List ℕ) → Option (List ℕ) → Type 0
 WritesTable case n old new =
     (first : List ℕ) × (met : List Met) × AreOf case.with_output case.sc case.plan case.from n first met
-    × Appends old new (case.head ++ table_text first met)
+    × (lines : List ℕ) × TellsSidesOf case n lines × Appends old new (case.head ++ table_text first met lines)
 
 -- a front of the rows of this number of places, or of the whole table of all
 abbrev pub WritesFront : Case → ℕ → ℕ → Option (List ℕ) → Option (List ℕ) → Type 0
 WritesFront case n all old new =
     (first : List ℕ) × (met : List Met) × AreOf case.with_output case.sc case.plan case.from n first met
     × (AppendsFront old new (case.head ++ rows_text first met)
-    ⊎ ((n ≡ all) × AppendsFront old new (case.head ++ table_text first met)))
+    ⊎ ((n ≡ all) × (lines : List ℕ) × TellsSidesOf case n lines
+    × AppendsFront old new (case.head ++ table_text first met lines)))
 
 -- a sweep of this number of places: its whole table was written; or a front of it, after which a write failed; or
 -- nothing, or the rows of whole places, if memory ran out
@@ -191,10 +209,22 @@ Writes case all old new CannotWrite = (n : ℕ) × (n ≤ all) × WritesFront ca
 Writes case all old new NoMemory = Appends old new [] ⊎ ((n : ℕ) × (n ≤ all) × WritesRows case n old new)
 Writes case all old new end = ⊥
 
+-- a sweep has a table of what it has executed in its unedited run and with these changes
+pub record HasTable (case : Case) (changes : List Change) (sweep : Sweep) : Type 0 where
+  pub range : table_range sweep ≡ case.range
+  pub fits : FitsPlan case.plan case.range
+  pub covered : HasCovered sweep changes
+
+-- the lines of its table
+abbrev pub sides_told : Sweep → List ℕ
+sides_told sweep =
+    sides_lines (table_range sweep).start (apart_in (scenario_of sweep)) (flat_map digit_text (table_of sweep))
+
 -- a sweep has met the edits of this number of places, and their rows were written
 abbrev pub Reached : Case → ℕ → Option (List ℕ) → Option (List ℕ) → Sweep → Type 0
 Reached case n old now sweep =
-    (scenario_of sweep ≡ case.sc) × (tells_output sweep ≡ case.with_output) × (first : List ℕ) × (met : List Met)
+    (scenario_of sweep ≡ case.sc) × (tells_output sweep ≡ case.with_output)
+    × HasTable case (changes_from case.sc case.plan case.from n) sweep × (first : List ℕ) × (met : List Met)
     × HasMet sweep first met
     × (map (λ (m : Met). m.change) met ≡ changes_from case.sc case.plan case.from n)
     × Appends old now (case.head ++ rows_text first met)
@@ -211,6 +241,7 @@ case_with file text image input list words named part plan = record {
   sc = at_step (begun image input list) words.step;
   plan = plan;
   from = part_from plan part;
+  range = range_for words.with_sides plan image;
 }
 
 -- and by the plan of a request

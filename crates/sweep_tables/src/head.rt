@@ -5,7 +5,7 @@ ghost use Rattle.sha2.specs.Sha256.{sha256};
 ghost use Rattle.report_lines.specs.Text.{newline};
 ghost use Rattle.command_line.specs.Orders.{text_of};
 ghost use Rattle.guest_elf.specs.File.{is_moved};
-ghost use Rattle.sweep_tables.specs.Swept.{bytes_line, code_text, fault_text, file_line, file_lines, head_text, heap_line, heap_text, heap_word, is_heap_moved, is_other, is_unusual, isa_line, output_line, pairs_text, profile_lines, stack_line, stack_text, stack_word, step_lines, steps_line, version_line, words_line};
+ghost use Rattle.sweep_tables.specs.Swept.{bytes_line, code_text, fault_text, file_line, file_lines, head_text, heap_line, heap_text, heap_word, is_heap_moved, is_other, is_unusual, isa_line, output_line, pairs_text, profile_lines, sides_head, stack_line, stack_text, stack_word, step_lines, steps_line, version_line, words_line};
 
 use command_line::{SweepWords, isa_name};
 use guest_elf::{Isa, Profile};
@@ -122,11 +122,12 @@ fn is_unusual(profile: Profile) -> bool
     is_other(profile.isa) || is_heap_moved(profile.regions) || is_moved(profile.regions.stack())
 }
 
-/// Returns the line of the table's format: the second one, if faults strike at steps or a line names a part of the profile.
-fn version_line(steps: Places, profile: Profile) -> &'static [u8]
-    ensures { result.now ≡ version_line steps profile }
+/// Returns the line of the table's format: the second one, if faults strike at steps, a line names a part of the profile, or lines say what
+/// the runs have executed.
+fn version_line(steps: Places, profile: Profile, with_sides: bool) -> &'static [u8]
+    ensures { result.now ≡ version_line steps profile with_sides }
 {
-    if steps.first < steps.end || is_unusual(profile) {
+    if steps.first < steps.end || is_unusual(profile) || with_sides {
         b"sweep 2\n"
     } else {
         b"sweep 1\n"
@@ -282,6 +283,13 @@ fn output_line(with_output: bool) -> &'static [u8]
     }
 }
 
+/// Returns the line which says that lines on what the runs have executed follow, if they do.
+fn sides_head(with_sides: bool) -> &'static [u8]
+    ensures { result.now ≡ sides_head with_sides }
+{
+    if with_sides { b"sides yes\n" } else { b"" }
+}
+
 /// Appends the lines on the step, on what an outcome has, and on the part.
 #[tactic(auto, unfolding(crate::specs::Swept::step_lines), using(std::proofs::Common::append_assoc))]
 fn push_rest(out: &mut Vec<u8>, step: u32, with_output: bool, part: Part) -> Result<(), AllocError>
@@ -311,7 +319,7 @@ pub(crate) fn push_head(
     ensures { OnOk result (out.new.items ≡ out.old.items
         ++ head_text sources.now.program.now sources.now.input.now sources.now.suppressions.now profile words.now plan.now named part) }
 {
-    push_text(out, version_line(plan.steps, profile))?;
+    push_text(out, version_line(plan.steps, profile, words.with_sides))?;
     push_profile(out, profile)?;
     push_files(alloc, out, sources)?;
     push_bytes(out, plan.bytes, words.byte_values)?;
@@ -323,5 +331,6 @@ pub(crate) fn push_head(
         plan.code,
         plan.pairs,
     )?;
+    push_text(out, sides_head(words.with_sides))?;
     push_rest(out, words.step, words.with_output, part)
 }

@@ -4,12 +4,13 @@
 //! written, or the table of the places of the part is written, or a front of the table, before a write that failed or until memory ran out
 //! (`Sweeps`).
 //!
-//! In `specs/`: `Swept`, the table as it is written; `Laws`, that a sweep has one table ([`laws::table_is_one`]).
+//! In `specs/`: `Swept`, the table as it is written; `SidesLines`, its lines on what the runs have executed; `Laws`, that a sweep has one table ([`laws::table_is_one`]).
 #![tactic(auto)]
 
 mod head;
 pub mod laws;
 mod program;
+mod sides;
 mod table;
 
 pub use program::sweep_program;

@@ -3,13 +3,16 @@ ghost use Rattle.std.specs.Prelude.{◌≡◌, ◌≤◌, ◌-◌, ◌++◌, [],
 ghost use Rattle.ends.specs.Ends.{end_of};
 ghost use Rattle.guest_elf.specs.Images.{profile_of};
 ghost use Rattle.sweep_plans.specs.Planned.{IsPart, part_from, part_to};
-ghost use Rattle.sweep_tables.specs.Swept.{Case, Sweeps, Writes, case_with, head_text};
+ghost use Rattle.sweep_tables.specs.SidesLines.{range_for};
+ghost use Rattle.sweep_tables.specs.Swept.{Case, HasTable, Sweeps, Writes, case_with, head_text};
 ghost use Rattle.scenario.specs.Limits.{longest_input, most_steps};
 ghost use Rattle.scenario.specs.Scenario.{at_step, begun};
+ghost use Rattle.sweeps.specs.Covered.{HasCovered, range_of};
 ghost use Rattle.sweeps.specs.Sweeps.{HasMet, scenario_of, tells_output};
 ghost use Rattle.sweeps.specs.Tables.{rows_text};
 
 use crate::head::{Sources, push_head};
+use crate::sides::range_for;
 use crate::table::{first_place, write_all, write_table};
 use command_line::SweepWords;
 use ends::End;
@@ -39,6 +42,8 @@ fn begin_table<'p>(
     requires empty { out.old.items ≡ [] }
     ensures scenario { IfOk result (λ sweep. scenario_of sweep ≡ at_step (begun image.entry input.items suppressions.items) words.now.step) }
     ensures output { IfOk result (λ sweep. tells_output sweep ≡ words.now.with_output) }
+    ensures range { IfOk result (λ sweep. range_of sweep ≡ range_for words.now.with_sides plan.now image.entry) }
+    ensures covered { IfOk result (λ sweep. HasCovered sweep []) }
     ensures met { IfOk result (λ sweep. (first : List ℕ) × HasMet sweep first []
         × (out.new.items ≡ head_text file.now input.items text.now (profile_of image.entry) words.now plan.now named part ++ rows_text first [])) }
 {
@@ -48,6 +53,7 @@ fn begin_table<'p>(
         suppressions: text,
     };
     let profile = image.profile();
+    let range = range_for(words.with_sides, plan, &image);
     push_head(alloc, out, &sources, profile, words, plan, named, part)?;
     Sweep::begin(
         alloc,
@@ -56,6 +62,7 @@ fn begin_table<'p>(
         suppressions,
         words.step,
         words.with_output,
+        range,
         out,
     )
 }
@@ -72,7 +79,7 @@ fn write_behind<'a, W: Write>(
 ) -> Result<(), End<'a>>
     requires { from ≤ to }
     ensures { (case : Case) (first : List ℕ) → case.plan ≡ plan.now → case.from ≡ from → scenario_of sweep.old ≡ case.sc
-        → tells_output sweep.old ≡ case.with_output → HasMet sweep.old first [] → first_lines.now ≡ case.head ++ rows_text first []
+        → tells_output sweep.old ≡ case.with_output → HasTable case [] sweep.old → HasMet sweep.old first [] → first_lines.now ≡ case.head ++ rows_text first []
         → Writes case (to - from) (W.contents writer.old) (W.contents writer.new) (end_of result) }
 {
     write_all(writer, first_lines)?;

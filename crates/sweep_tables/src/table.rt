@@ -3,15 +3,19 @@ ghost use Rattle.std.specs.Prelude.{◌≡◌, ◌+◌, ◌-◌, ◌++◌, ◌<�
 ghost use Rattle.std.specs.Io.KnownBytes.{Appends};
 ghost use Rattle.ends.specs.Ends.{AppendsFront, end_of};
 ghost use Rattle.sweep_plans.specs.Planned.{first_place};
-ghost use Rattle.sweep_tables.specs.Swept.{Case, Reached, Writes};
+ghost use Rattle.sweep_tables.specs.Swept.{Case, Reached, Writes, sides_told};
 ghost use Rattle.ends.specs.declared.ends.End.TheVariants.{CannotWrite};
 ghost use Rattle.sweeps.specs.Outcomes.{Met};
 ghost use Rattle.sweeps.specs.Standing.{changes_at};
+ghost use Rattle.sweep_plans.specs.declared.change.Change.{Change};
+ghost use Rattle.sweeps.specs.Covered.{FitsPlan, HasCovered, range_of};
 ghost use Rattle.sweeps.specs.Sweeps.{HasMet, scenario_of, tells_output};
 ghost use Rattle.sweeps.specs.Tables.{rows_text, table_text};
 
+use crate::sides::push_lines;
 use ends::End;
 use line_server::send;
+use look_lines::push_digits;
 use std::alloc::{AllocError, Global};
 use std::io::Write;
 use sweep_plans::Plan;
@@ -48,6 +52,9 @@ fn rows_of(
 ) -> Result<Vec<u8>, AllocError>
     ensures scenario { scenario_of sweep.new ≡ scenario_of sweep.old }
     ensures output { tells_output sweep.new ≡ tells_output sweep.old }
+    ensures range { range_of sweep.new ≡ range_of sweep.old }
+    ensures covered { IfOk result (λ out. (done : List Change) → FitsPlan plan.now (range_of sweep.old) → HasCovered sweep.old done
+        → HasCovered sweep.new (done ++ changes_at (scenario_of sweep.old) plan.now place)) }
     ensures met { IfOk result (λ out. (first : List ℕ) (met : List Met) → HasMet sweep.old first met
         → (more : List Met) × (map (λ (m : Met). m.change) more ≡ changes_at (scenario_of sweep.old) plan.now place)
         × HasMet sweep.new first (met ++ more) × (rows_text first (met ++ more) ≡ rows_text first met ++ out.items)) }
@@ -97,12 +104,25 @@ fn write_places<'a, W: Write>(
     Ok(())
 }
 
+/// Returns the lines of a table on what the runs have executed.
+fn sides_of(alloc: Global, sweep: &Sweep<'_>) -> Result<Vec<u8>, AllocError>
+    ensures { IfOk result (λ lines. lines.items ≡ sides_told sweep.now) }
+{
+    let mut digits = Vec::new(alloc);
+    push_digits(&mut digits, sweep.table())?;
+    let mut lines = Vec::new(alloc);
+    push_lines(&mut lines, sweep.range().start, sweep.apart(), &digits)?;
+    Ok(lines)
+}
+
 /// Returns the end of a table.
 fn totals_of(alloc: Global, sweep: &Sweep<'_>) -> Result<Vec<u8>, AllocError>
-    ensures { IfOk result (λ out. (first : List ℕ) (met : List Met) → HasMet sweep.now first met → table_text first met ≡ rows_text first met ++ out.items) }
+    ensures { IfOk result (λ out. (first : List ℕ) (met : List Met) → HasMet sweep.now first met
+        → table_text first met (sides_told sweep.now) ≡ rows_text first met ++ out.items) }
 {
+    let lines = sides_of(alloc, sweep)?;
     let mut out = Vec::new(alloc);
-    sweep.finish(&mut out)?;
+    sweep.finish(&lines, &mut out)?;
     Ok(out)
 }
 

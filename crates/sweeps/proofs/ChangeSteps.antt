@@ -43,7 +43,7 @@ use Rattle.sweep_plans.specs.declared.standing.Standing.{Standing}
 use Rattle.sweep_plans.specs.declared.standing.Standing.TheVariants as At
 
 -- a value that is there if a test holds
-there : {A : Type 0} (b : Bool) (x y : A) → (if b then Some x else None) ≡ Some y → (b ≡ true) × (x ≡ y)
+pub there : {A : Type 0} (b : Bool) (x y : A) → (if b then Some x else None) ≡ Some y → (b ≡ true) × (x ≡ y)
 there true x y h = (refl, ap (λ o. unwrap_or o x) h)
 there false x y h = cc
 

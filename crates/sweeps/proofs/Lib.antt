@@ -13,3 +13,4 @@ pub mod LoneSteps
 pub mod AccessSteps
 pub mod MemorySteps
 pub mod ReadSteps
+pub mod CoverSteps

@@ -8,5 +8,6 @@ pub mod LoneSkips
 pub mod Recall
 pub mod Tables
 pub mod Sweeps
+pub mod Covered
 pub mod Accesses
 pub mod Laws

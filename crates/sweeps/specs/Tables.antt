@@ -77,14 +77,15 @@ unfoldable pub end_line : ℕ → ℕ → ℕ → List ℕ
 end_line edits outcomes steps =
     codes "end " ++ decimal edits ++ codes " " ++ decimal outcomes ++ codes " " ++ decimal steps ++ newline
 
--- the end of a table with this number of edits that need this number of steps
-unfoldable pub total_lines : List (List ℕ × ℕ) → ℕ → ℕ → List ℕ
-total_lines entries edits steps = tally_lines 0 (counts_of entries) ++ end_line edits (length entries) steps
+-- the end of a table with these lines before its last one, and this number of edits that need this number of steps
+unfoldable pub total_lines : List (List ℕ × ℕ) → List ℕ → ℕ → ℕ → List ℕ
+total_lines entries lines edits steps =
+    tally_lines 0 (counts_of entries) ++ lines ++ end_line edits (length entries) steps
 
--- the rows of a table, and a whole one without its head
+-- the rows of a table, and a whole one without its head, with these lines before its last one
 unfoldable pub rows_text : List ℕ → List Met → List ℕ
 rows_text first met = first_lines first ++ rows_after ((first, 0) ∷ []) met
 
-unfoldable pub table_text : List ℕ → List Met → List ℕ
-table_text first met =
-    rows_text first met ++ total_lines (tallied first met) (standing (length met)) (standing (steps_of met))
+unfoldable pub table_text : List ℕ → List Met → List ℕ → List ℕ
+table_text first met lines =
+    rows_text first met ++ total_lines (tallied first met) lines (standing (length met)) (standing (steps_of met))

@@ -11,6 +11,7 @@ use crate::recall::Recall;
 use crate::rows::{push_end, push_outcome, push_row, push_tallies};
 use checkpoints::Fork;
 use jumps::Course;
+use replay_report::push_text;
 use scenario::Scenario;
 use std::alloc::{AllocError, Global};
 use sweep_plans::Change;
@@ -103,13 +104,19 @@ impl Counts {
         Ok(())
     }
 
-    /// Appends the end of a table.
+    /// Appends the end of a table, with some lines before its last one.
     #[tactic(auto, unfolding(crate::specs::Tables::total_lines), using(std::proofs::Common::append_assoc))]
-    pub(crate) fn push_totals(&self, alloc: Global, out: &mut Vec<u8>) -> Result<(), AllocError>
-        ensures { OnOk result (out.new.items ≡ out.old.items ++ total_lines (entries_of self.now.tallies) self.now.edits self.now.steps) }
+    pub(crate) fn push_totals(
+        &self,
+        alloc: Global,
+        lines: &[u8],
+        out: &mut Vec<u8>,
+    ) -> Result<(), AllocError>
+        ensures { OnOk result (out.new.items ≡ out.old.items ++ total_lines (entries_of self.now.tallies) lines.now self.now.edits self.now.steps) }
     {
         let counts = self.tallies.counts(alloc)?;
         push_tallies(out, &counts)?;
+        push_text(out, lines)?;
         push_end(out, self.edits, counts.len() as u64, self.steps)
     }
 }

@@ -10,6 +10,7 @@
 //! |---|---|
 //! | [`Sweep::begin`] | executes the unedited run, and appends its outcome |
 //! | [`Sweep::visit`] | applies each change of a place, and appends its row, after its outcome if that is new |
+//! | [`Sweep::range`], [`Sweep::table`], [`Sweep::apart`] | return the range of addresses of which a table says what the runs have executed, that table, and how far its places are apart |
 //! | [`Sweep::finish`] | appends the number of edits that lead to each outcome, and then the number of edits, of outcomes and of steps |
 //! | [`laws::outcomes_are_counted`], [`laws::steps_are_one`], [`laws::outcomes_are_one`], [`laws::parts_have_all_changes`], [`laws::reads_are_looks`] | do nothing; their contracts are laws of the table |
 //!
@@ -19,6 +20,8 @@
 //! or its outcome is in it. Outcomes are numbered in order of first occurrence. A sweep knows what it has met (`HasMet`): `visit` adds the
 //! changes of its place (`changes_from`), in order. If memory runs out, neither what was appended nor the sweep may be used; the sweep's
 //! scenario is as it was.
+//!
+//! A sweep of bytes can have a table that says which instructions its runs have executed, and how they went on from each (`HasCovered`).
 //!
 //! Not each outcome needs a run. That of a register that is set or has a bit turned before a step is the outcome of the same change before
 //! the next step, if the step keeps the register; if the step overwrites the register, it is that of the unedited run. Bits of a word of
@@ -35,7 +38,7 @@
 //! In `specs/`: `Standing` (what is at a place, and the changes there), `Memory` (those of bytes that are read later), `Outcomes` (the
 //! outcome of a change), `Tables` (the text), `Spots` (where the runs of a place continue), `Recall` (which outcomes are known without a run),
 //! `Landmarks` (the unedited run's machines that are held, and the runs that meet it), `LoneSkips` (what each skip leads to by itself),
-//! `Sweeps` (what a sweep has met), `Accesses` (the table of what steps do first with each byte), `Laws` (what the numbers of a table mean).
+//! `Sweeps` (what a sweep has met), `Covered` (what its runs have executed), `Accesses` (the table of what steps do first with each byte), `Laws` (what the numbers of a table mean).
 //! The places of a plan and the changes at each are defined in the crate `sweep_plans`.
 #![tactic(auto)]
 
@@ -43,6 +46,7 @@ mod accesses;
 mod beginning;
 mod counting;
 mod endings;
+mod entering;
 mod landmarks;
 pub mod laws;
 mod lone_skips;

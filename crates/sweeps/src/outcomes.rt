@@ -109,7 +109,7 @@ pub(crate) fn unmark(scenario: &mut Scenario)
 }
 
 /// Takes a change back, which is one edit: the place is as it was.
-fn take_back(scenario: &mut Scenario, standing: Standing)
+pub(crate) fn take_back(scenario: &mut Scenario, standing: Standing)
     requires { GoesBack scenario.old standing }
     ensures { (sc : ScenarioOf) (change : ChangeOf) → Stands sc standing → IsAt sc standing change → scenario.old ≡ (row sc (edit_of change)).after → scenario.new ≡ sc }
 {

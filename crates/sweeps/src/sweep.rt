@@ -11,11 +11,11 @@ ghost use Rattle.sweeps.specs.Spots.{IsScout};
 
 use crate::beginning::{scenario_at, unedited_run};
 use crate::counting::Counts;
-use crate::meeting::meet_place;
+use crate::entering::{meet_spot, unedited_table};
 use crate::spots::{Origin, find, keep_scout};
-use checkpoints::{Fork, Trail};
+use checkpoints::{Fork, Sides, Trail};
 use guest_elf::Image;
-use guest_machine::Machine;
+use guest_machine::{Machine, Span};
 use scenario::Scenario;
 use std::alloc::{AllocError, Global};
 use suppressions::Suppression;
@@ -40,19 +40,24 @@ pub struct Sweep<'a> {
     ghost copied: { input.items ≡ scenario.setup.input },
     with_output: bool,
     counts: Counts,
+    range: Span,
+    table: Vec<Sides>,
 }
 
 impl<'a> Sweep<'a> {
     ghost use Rattle.std.specs.Prelude.{◌≡◌, ◌≤◌, ◌++◌, [], ℕ, List, IfOk, OnOk, length, map};
     ghost use Rattle.scenario.specs.Limits.{longest_input};
     ghost use Rattle.scenario.specs.Scenario.{at_step, begun};
+    ghost use Rattle.sweep_plans.specs.declared.change.Change.{Change};
+    ghost use Rattle.sweeps.specs.Covered.{FitsPlan, HasCovered, apart_in, range_of, table_of};
     ghost use Rattle.sweeps.specs.Outcomes.{Met};
     ghost use Rattle.sweeps.specs.Standing.{changes_at};
     ghost use Rattle.sweeps.specs.Sweeps.{HasMet, MeetsMore, scenario_of, tells_output};
     ghost use Rattle.sweeps.specs.Tables.{rows_text, table_text};
 
-    /// Returns a sweep of a program with an input and suppressions at a step. Executes the unedited run, and appends its outcome.
-    #[tactic(auto, unfolding(crate::specs::Sweeps::scenario_of, crate::specs::Sweeps::tells_output))]
+    /// Returns a sweep of a program with an input and suppressions at a step, which has a table of a range of addresses. Executes the
+    /// unedited run, and appends its outcome.
+    #[tactic(auto, unfolding(crate::specs::Sweeps::scenario_of, crate::specs::Sweeps::tells_output, crate::specs::Covered::range_of, crate::specs::Covered::table_of))]
     pub fn begin(
         alloc: Global,
         image: Image<'a>,
@@ -60,6 +65,7 @@ impl<'a> Sweep<'a> {
         suppressions: Vec<Suppression>,
         step: u32,
         with_output: bool,
+        range: Span,
         out: &mut Vec<u8>,
     ) -> Result<Self, AllocError>
         requires short { length input.items ≤ longest_input }
@@ -67,19 +73,22 @@ impl<'a> Sweep<'a> {
         ensures scenario { IfOk result (λ sweep. scenario_of sweep ≡ at_step (begun image.entry input.items suppressions.items) step) }
         ensures output { IfOk result (λ sweep. tells_output sweep ≡ with_output) }
         ensures met { IfOk result (λ sweep. (first : List ℕ) × HasMet sweep first [] × (out.new.items ≡ out.old.items ++ rows_text first [])) }
+        ensures range { IfOk result (λ sweep. range_of sweep ≡ range) }
+        ensures covered { IfOk result (λ sweep. HasCovered sweep []) }
     {
         let copy = input.as_slice().to_vec(alloc)?;
         let scenario = scenario_at(alloc, image, input, suppressions, step)?;
-        Sweep::over(alloc, scenario, copy, with_output, out)
+        Sweep::over(alloc, scenario, copy, with_output, range, out)
     }
 
     /// Returns a sweep of an unedited scenario, with a copy of its input. Executes its run, and appends the outcome.
-    #[tactic(auto, unfolding(crate::specs::Sweeps::scenario_of, crate::specs::Sweeps::tells_output))]
+    #[tactic(auto, unfolding(crate::specs::Sweeps::scenario_of, crate::specs::Sweeps::tells_output, crate::specs::Covered::range_of, crate::specs::Covered::table_of))]
     fn over(
         alloc: Global,
         scenario: Scenario<'a>,
         input: Vec<u8>,
         with_output: bool,
+        range: Span,
         out: &mut Vec<u8>,
     ) -> Result<Self, AllocError>
         requires near { scenario.step ≤ most_steps }
@@ -89,8 +98,11 @@ impl<'a> Sweep<'a> {
         ensures scenario { IfOk result (λ sweep. scenario_of sweep ≡ scenario.entry) }
         ensures output { IfOk result (λ sweep. tells_output sweep ≡ with_output) }
         ensures met { IfOk result (λ sweep. (first : List ℕ) × HasMet sweep first [] × (out.new.items ≡ out.old.items ++ rows_text first [])) }
+        ensures range { IfOk result (λ sweep. range_of sweep ≡ range) }
+        ensures covered { IfOk result (λ sweep. HasCovered sweep []) }
     {
         let (start, trail, counts) = unedited_run(alloc, &scenario, with_output, out)?;
+        let table = unedited_table(alloc, &trail, &scenario, range)?;
         Ok(Sweep {
             alloc,
             scenario,
@@ -100,15 +112,21 @@ impl<'a> Sweep<'a> {
             input,
             with_output,
             counts,
+            range,
+            table,
         })
     }
 
-    /// Applies each change of a place, one at a time, and appends its row, after its outcome if that is new.
-    #[tactic(auto, unfolding(crate::specs::Sweeps::scenario_of, crate::specs::Sweeps::tells_output))]
+    /// Applies each change of a place, one at a time, and appends its row, after its outcome if that is new. Enters in the table what the runs
+    /// execute, if all places of the plan are bytes.
+    #[tactic(auto, unfolding(crate::specs::Sweeps::scenario_of, crate::specs::Sweeps::tells_output, crate::specs::Covered::range_of, crate::specs::Covered::table_of))]
     pub fn visit(&mut self, plan: &Plan, place: u64, out: &mut Vec<u8>) -> Result<(), AllocError>
         ensures scenario { scenario_of self.new ≡ scenario_of self.old }
         ensures output { tells_output self.new ≡ tells_output self.old }
         ensures met { OnOk result (MeetsMore self.old self.new (changes_at (scenario_of self.old) plan.now place) out.old.items out.new.items) }
+        ensures range { range_of self.new ≡ range_of self.old }
+        ensures covered { OnOk result ((done : List Change) → FitsPlan plan.now (range_of self.old) → HasCovered self.old done
+            → HasCovered self.new (done ++ changes_at (scenario_of self.old) plan.now place)) }
     {
         let origin = Origin {
             input: &self.input,
@@ -126,12 +144,14 @@ impl<'a> Sweep<'a> {
         let Some(spot) = found else {
             return Ok(());
         };
-        meet_place(
+        meet_spot(
             self.alloc,
             &mut self.scenario,
             &mut self.counts,
             plan,
             &spot,
+            self.range.start,
+            &mut self.table,
             self.with_output,
             out,
         )?;
@@ -139,13 +159,38 @@ impl<'a> Sweep<'a> {
         Ok(())
     }
 
-    /// Appends the number of edits that lead to each outcome, and then the number of edits, of outcomes and of steps. The steps are those
-    /// that the edits need by definition (`TakesSteps`); a sweep may execute fewer.
-    #[tactic(auto, unfolding(crate::specs::Tables::table_text, crate::specs::Sweeps::HasMet))]
-    pub fn finish(&self, out: &mut Vec<u8>) -> Result<(), AllocError>
-        ensures { OnOk result ((first : List ℕ) (met : List Met) → HasMet self.now first met
-            → (text : List ℕ) × (out.new.items ≡ out.old.items ++ text) × (table_text first met ≡ rows_text first met ++ text)) }
+    /// Returns the range of addresses of which the table says what the runs have executed.
+    #[tactic(auto, unfolding(crate::specs::Covered::range_of))]
+    pub fn range(&self) -> Span
+        ensures { result ≡ range_of self.now }
     {
-        self.counts.push_totals(self.alloc, out)
+        self.range
+    }
+
+    /// Returns that table.
+    #[tactic(auto, unfolding(crate::specs::Covered::table_of))]
+    pub fn table(&self) -> &[Sides]
+        ensures { result.now ≡ table_of self.now }
+    {
+        &self.table
+    }
+
+    /// Returns how far the places of the table are apart.
+    #[tactic(auto, unfolding(crate::specs::Sweeps::scenario_of))]
+    pub fn apart(&self) -> u32
+        ensures places { result ≡ apart_in (scenario_of self.now) }
+        ensures few { result ≤ 4 }
+    {
+        self.start.isa().unit()
+    }
+
+    /// Appends the number of edits that lead to each outcome, then some lines, and then the number of edits, of outcomes and of steps. The
+    /// steps are those that the edits need by definition (`TakesSteps`); a sweep may execute fewer.
+    #[tactic(auto, unfolding(crate::specs::Tables::table_text, crate::specs::Sweeps::HasMet))]
+    pub fn finish(&self, lines: &[u8], out: &mut Vec<u8>) -> Result<(), AllocError>
+        ensures { OnOk result ((first : List ℕ) (met : List Met) → HasMet self.now first met
+            → (text : List ℕ) × (out.new.items ≡ out.old.items ++ text) × (table_text first met lines.now ≡ rows_text first met ++ text)) }
+    {
+        self.counts.push_totals(self.alloc, lines, out)
     }
 }

@@ -10,7 +10,7 @@ use Rattle.replay_session.specs.Trying.{IsSeed}
 use Rattle.run_values.specs.declared.span.Span.{Span}
 use Rattle.scenario.specs.Scenario.{Scenario}
 use Rattle.tries.specs.Holding.{IsHeld}
-use Rattle.tries.specs.Tries.{LeavesBase, Refused, TriesStage}
+use Rattle.tries.specs.Tries.{Keeps, LeavesBase, Refused, TriesStage}
 use Rattle.tries.specs.declared.trying.Held.{Held}
 
 -- a seed of a scenario's run is held for the same scenario
@@ -32,17 +32,17 @@ base-on a b c one two = record {
   range = two.range ∙ one.range;
 }
 
+keeps-on : (a b c : TriesStage) → Keeps a b → Keeps b c → Keeps a c
+keeps-on a b c one two =
+    record { told = two.told ∙ one.told; seen = two.seen ∙ one.seen; last = two.last ∙ one.last }
+
 -- what was told, or that memory ran out
 pub told-so : {X E : Type 0} (done : Result X E) (old mid new : TriesStage) (shown reply : List ℕ)
     (T : List ℕ → TriesStage → Type 0)
-    → OnOk done (T shown mid) → OnErr done ((mid.told ≡ old.told) × (mid.seen ≡ old.seen))
+    → OnOk done (T shown mid) → OnErr done (Keeps old mid)
     → OnOk done ((new ≡ mid) × (reply ≡ shown)) → OnErr done (Refused mid Memory reply new)
     → T reply new ⊎ Refused old Memory reply new
 told-so (Ok x) old mid new shown reply T told kept same refused =
     inl (subst (λ s. T reply s) (sym same.0) (subst (λ r. T r mid) (sym same.1) told))
 told-so (Err e) old mid new shown reply T told kept same refused =
-    inr (record {
-      replies = refused.replies;
-      told = refused.told ∙ kept.0;
-      seen = refused.seen ∙ kept.1;
-    })
+    inr (record { replies = refused.replies; keeps = keeps-on old mid new kept refused.keeps })

@@ -1,4 +1,3 @@
-pub mod Ranges
 pub mod Merging
 pub mod Holding
 pub mod Tries

@@ -12,6 +12,7 @@ stage_of_tries tries = record {
   range = tries.range;
   seen = tries.seen.items;
   told = entries_of tries.told;
+  last = tries.last;
 }
 
 -- the text of the last reply

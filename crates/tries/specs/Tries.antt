@@ -1,42 +1,49 @@
 -- The reply to a line of a session whose run can be looked at and tried with other input bytes.
 use Rattle.std.specs.Prelude.{◌≡◌, ◌⊎◌, ◌&&◌, ◌==◌, ℕ, nat_le, Bool, not, if◌then◌else◌, List, [], ◌∷◌, ◌++◌, MatchBool}
-use Rattle.std.specs.Prelude.{Result, Ok, Err, codes, false, length, take}
+use Rattle.std.specs.Prelude.{Option, Some, None, Result, Ok, Err, codes, false, length, take}
 use Rattle.std.specs.Fmt.{decimal}
+use Rattle.std.specs.Str.{bytes_eq}
 use Rattle.checkpoints.specs.Compares.{compares_between}
 use Rattle.checkpoints.specs.Forks.{IsLastUnshown}
 use Rattle.checkpoints.specs.declared.compares.Compare.{Compare}
 use Rattle.checkpoints.specs.declared.sides.Sides.{Sides}
 use Rattle.commands.specs.declared.edit.Edit.{Edit}
 use Rattle.commands.specs.declared.fault.Fault.{Fault}
-use Rattle.commands.specs.declared.fault.Fault.TheVariants.{Memory}
+use Rattle.commands.specs.declared.fault.Fault.TheVariants.{BadCommand, Memory}
 use Rattle.line_server.specs.Answers.{AnswersBy}
 use Rattle.line_server.specs.Lines.{longest_line}
 use Rattle.look_lines.specs.Inputs.{ReadsFor, begins_with, edit_tried}
-use Rattle.looks.specs.Views.{Leaves, Views}
-use Rattle.replay_session.specs.Replies.{is_over, refused_line}
+use Rattle.looks.specs.Views.{Leaves, Views, giving, looks}
+use Rattle.replay_session.specs.Replies.{RepliesAs, is_over, refused_line}
 use Rattle.replay_session.specs.Session.{IsSidesOf}
 use Rattle.replay_session.specs.Stages.{Stage}
-use Rattle.replay_session.specs.Turns.{Turn}
+use Rattle.replay_session.specs.Turns.{Turn, accepted_as}
 use Rattle.report_lines.specs.Text.{address_text, newline}
 use Rattle.run_values.specs.declared.span.Span.{Span}
 use Rattle.scenario.specs.Edits.{row}
 use Rattle.scenario.specs.Scenario.{Scenario, IsOutlineOf, first_state, run_of}
 use Rattle.tallies.specs.Tallied.{is_met, number_of, with_text}
 use Rattle.tries.specs.Merging.{IsMerged, agains_of, news_of}
-use Rattle.tries.specs.Ranges.{range_of}
+use Rattle.look_lines.specs.Ranges.{range_of}
 
 -- what the lines so far have left: the session's stage, the range of which sides are told, what the runs of tries have
--- done there, and their outcomes
+-- done there, their outcomes, and the edit of the last try, if the lines after it only try, ask for compares or look
 pub record TriesStage : Type 0 where
   pub session : Stage
   pub range : Span
   pub seen : List Sides
   pub told : List (List ℕ × ℕ)
+  pub last : Option Edit
 
 -- that of a session without a try
 abbrev pub untried : Stage → TriesStage
-untried session =
-    record { session = session; range = range_of session.turn.scenario.image; seen = []; told = [] }
+untried session = record {
+  session = session;
+  range = range_of session.turn.scenario.image;
+  seen = [];
+  told = [];
+  last = None;
+}
 
 -- is a line begun by a word answered? One that is too long isn't, and none is once the limit of lines is reached
 unfoldable pub asks : List ℕ → Turn → List ℕ → Bool
@@ -78,6 +85,7 @@ pub record Tried (old : TriesStage) (edit : Edit) (text : List ℕ) (new : Tries
       (agains_of old.seen run)
   pub told : new.told ≡ with_text old.told outcome
   pub seen : IsMerged old.seen run new.seen
+  pub last : new.last ≡ Some edit
 
 -- `STEP PC A B A' B'`: the step of a compare, its address, its operands, and those of the other run
 unfoldable pub differ_line : Compare → Compare → List ℕ
@@ -110,6 +118,12 @@ abbrev pub compares_from : ℕ → Scenario → List Compare
 compares_from from sc =
     take most_compares (compares_between (first_state sc) sc.setup sc.marks from sc.step)
 
+-- what tries have left stays as it is
+pub record Keeps (old new : TriesStage) : Type 0 where
+  pub told : new.told ≡ old.told
+  pub seen : new.seen ≡ old.seen
+  pub last : new.last ≡ old.last
+
 -- the compares of two runs were told, from the last step at which an edit doesn't show
 pub record Differ (old : TriesStage) (edit : Edit) (text : List ℕ) (new : TriesStage) : Type 0 where
   pub from : ℕ
@@ -118,14 +132,12 @@ pub record Differ (old : TriesStage) (edit : Edit) (text : List ℕ) (new : Trie
   pub tells : text
       ≡ differ_lines (compares_from from old.session.turn.scenario)
       (compares_from from (row old.session.turn.scenario edit).after) ++ codes "end\n"
-  pub told : new.told ≡ old.told
-  pub seen : new.seen ≡ old.seen
+  pub keeps : Keeps old new
 
 -- or nothing was tried, and the line is rejected
 pub record Refused (old : TriesStage) (fault : Fault) (text : List ℕ) (new : TriesStage) : Type 0 where
   pub replies : text ≡ refused_line fault
-  pub told : new.told ≡ old.told
-  pub seen : new.seen ≡ old.seen
+  pub keeps : Keeps old new
 
 -- what a line tells of an edit
 abbrev pub Telling : Type 1
@@ -145,12 +157,33 @@ TellsLine Tells old line text new =
     × ReadsFor (length old.session.turn.scenario.setup.input) (edit_tried line) read
     × ToldAs Tells old read text new)
 
--- any other line is answered as in a session that can be looked at
+-- does a line make the input of the last try the session's?
+unfoldable pub takes : List ℕ → Bool
+takes line = bytes_eq line (codes "take")
+
+-- such a line is read as the edit of the last try, if there is one
+abbrev pub taken : Option Edit → Result Edit Fault
+taken None = Err BadCommand
+taken (Some edit) = Ok edit
+
+-- it is answered as a session answers that edit, and any other line as in a session that can be looked at
+abbrev pub Passes : TriesStage → List ℕ → List ℕ → Stage → Type 0
+Passes old line text new =
+    MatchBool (takes line)
+    (RepliesAs old.session (accepted_as old.session.turn line (giving (taken old.last))) text new)
+    (Views old.session line text new)
+
+-- the edit of the last try is forgotten, unless the line looks
+abbrev pub last_after : TriesStage → List ℕ → Option Edit
+last_after old line = if looks old.session.turn line then old.last else None
+
+-- what these lines leave
 pub record Others (old : TriesStage) (line text : List ℕ) (new : TriesStage) : Type 0 where
-  pub views : Views old.session line text new.session
+  pub passes : Passes old line text new.session
   pub range : new.range ≡ old.range
   pub seen : new.seen ≡ old.seen
   pub told : new.told ≡ old.told
+  pub last : new.last ≡ last_after old line
 
 abbrev pub Tries : TriesStage → List ℕ → List ℕ → TriesStage → Type 0
 Tries old line text new =

@@ -6,9 +6,9 @@
 //!
 //! # The lines
 //!
-//! Those of a session that can be looked at (the crate `looks`), and these, which change nothing and aren't counted. The run that is tried
-//! is that of the session's program with all edits, but other input bytes, up to the chosen step. HEX is two hexadecimal digits a byte, in
-//! either case, and at least one byte.
+//! Those of a session that can be looked at (the crate `looks`), and these, of which only `take` changes anything and is counted. The run
+//! that is tried is that of the session's program with all edits, but other input bytes, up to the chosen step. HEX is two hexadecimal
+//! digits a byte, in either case, and at least one byte.
 //!
 //! | Line | The input that is tried |
 //! |---|---|
@@ -28,17 +28,20 @@
 //! to the first two at different addresses. For each pair whose operands differ there is a line `STEP PC A B A' B'`: the step and the
 //! address of the session's compare, its operands, and those of the other. The last line is `end`.
 //!
+//! `take` makes the input of the last try the session's. It is answered as the line `bytes is HEX` or `bytes A HEX` that gives the session
+//! this input. Any line forgets the last try, `take` too, unless it tries, asks for compares or looks. What tries have met stays.
+//!
 //! A line is rejected with the first of these numbers that applies: 12 and 11 as a line of a session; 2 for a field of another form or too
-//! many; 3 for bytes beyond the input; 14 for an input of more than 1,048,576 bytes; 1 if memory runs out.
+//! many, or for `take` without a last try; 3 for bytes beyond the input; 14 for an input of more than 1,048,576 bytes; 1 if memory runs out.
 //!
 //! # What a caller can rely on
 //!
 //! [`serve`]: what was written is the replies to the lines of all bytes read (`TriesLines`). The outcome and the sides of a try are those
 //! of **one run from step zero of the edited program** (`Tried`), the compares those of two such runs (`Differ`), and a try leaves the session's turn as it is (`LeavesBase`). If memory
-//! runs out, the next reply counts as if that line had not been given (`Refused`). The reply to any other line is that of a session that can be
-//! looked at (`Views`).
+//! runs out, the next reply counts as if that line had not been given (`Refused`). `take` is answered as a session answers the edit of the
+//! last try (`RepliesAs`), and the reply to any other line is that of a session that can be looked at (`Views`).
 //!
-//! In `specs/`: `Tries`, the reply to a line; `Merging`, what is new; `Ranges`, of which addresses; `Stages` and `Holding`, what a session
+//! In `specs/`: `Tries`, the reply to a line; `Merging`, what is new; `Stages` and `Holding`, what a session
 //! keeps. `LongLines` is a lemma for the server of lines.
 //!
 //! # What it costs
@@ -48,8 +51,8 @@
 #![tactic(auto)]
 
 mod merging;
-mod ranges;
 mod serving;
+mod taking;
 mod texts;
 mod trying;
 

@@ -7,13 +7,13 @@ ghost use Rattle.tries.specs.Merging.{IsMerged, agains_of, news_of};
 ghost use Rattle.tries.specs.Tries.{asks, tried_text};
 
 use crate::merging::merge;
-use crate::ranges::range_of;
+use crate::taking::{copy_of, keep_if, take_last, takes};
 use crate::texts::{push_differs, push_reply};
 use checkpoints::{Effect, Sides};
 use commands::{Edit, Fault};
 use guest_machine::Span;
 use line_server::{LONGEST_LINE, Listener};
-use look_lines::{begins_with, edit_tried};
+use look_lines::{begins_with, edit_tried, range_of};
 use looks::Viewer;
 use replay_session::{Seed, Session, Tried};
 use report_lines::push_text;
@@ -79,6 +79,8 @@ pub struct Tries<'a> {
     range: Span,
     seen: Vec<Sides>,
     told: Tallies,
+    /// The edit of the last try, if the lines after it only try, ask for compares or look.
+    last: Option<Edit>,
     held: Option<Held>,
     ghost seeded: { IsHeld (scenario_of viewer.session) range held } by { held-prop (scenario_of viewer.session) range held },
     shown: Vec<u8>,
@@ -87,14 +89,14 @@ pub struct Tries<'a> {
 }
 
 impl<'a> Tries<'a> {
-    ghost use Rattle.std.specs.Prelude.{◌≡◌, IfOk, OnOk, OnErr};
+    ghost use Rattle.std.specs.Prelude.{◌≡◌, IfOk, OnOk, OnErr, false, true};
     ghost use Rattle.checkpoints.specs.Effects.{IsOfSetup};
     ghost use Rattle.replay_session.specs.Session.{scenario_of, turn_of};
     ghost use Rattle.replay_session.specs.Stages.{stage_of};
     ghost use Rattle.replay_session.specs.Trying.{GivesInput, IsSeed};
     ghost use Rattle.scenario.specs.Edits.{row, IsTaken};
     ghost use Rattle.tries.specs.Stages.{reply_of_tries, stage_of_tries};
-    ghost use Rattle.tries.specs.Tries.{Differ, LeavesBase, Refused, TellsLine, Tried as HasTried, untried};
+    ghost use Rattle.tries.specs.Tries.{Differ, Keeps, LeavesBase, Others, Refused, TellsLine, Tried as HasTried, takes, untried};
 
     pub(crate) fn new(session: Session<'a>) -> Result<Self, AllocError>
         ensures { IfOk result (λ tries. stage_of_tries tries ≡ untried (stage_of session.entry)) }
@@ -107,6 +109,7 @@ impl<'a> Tries<'a> {
             range,
             seen: Vec::new(alloc),
             told: Tallies::new(alloc),
+            last: None,
             held: None,
             shown: Vec::new(alloc),
             is_shown: false,
@@ -128,7 +131,7 @@ impl<'a> Tries<'a> {
     fn take_seed(&mut self, effect: Effect) -> Result<Held, AllocError>
         requires { IsOfSetup effect }
         ensures base { LeavesBase (stage_of_tries self.old) (stage_of_tries self.new) }
-        ensures kept { ((stage_of_tries self.new).told ≡ (stage_of_tries self.old).told) × ((stage_of_tries self.new).seen ≡ (stage_of_tries self.old).seen) }
+        ensures kept { Keeps (stage_of_tries self.old) (stage_of_tries self.new) }
         ensures seed { IfOk result (λ held. (held.effect ≡ effect) × IsSeed (scenario_of self.old.viewer.session) effect self.old.range held.seed) }
     {
         if let Some(held) = self.held.take()
@@ -147,7 +150,7 @@ impl<'a> Tries<'a> {
         requires input { GivesInput edit }
         ensures base { LeavesBase (stage_of_tries self.old) (stage_of_tries self.new) }
         ensures differ { OnOk result (Differ (stage_of_tries self.old) edit self.new.shown.items (stage_of_tries self.new)) }
-        ensures kept { OnErr result (((stage_of_tries self.new).told ≡ (stage_of_tries self.old).told) × ((stage_of_tries self.new).seen ≡ (stage_of_tries self.old).seen)) }
+        ensures kept { OnErr result (Keeps (stage_of_tries self.old) (stage_of_tries self.new)) }
     {
         let effect = self.viewer.session.effect(&edit);
         let held = self.take_seed(effect)?;
@@ -168,14 +171,17 @@ impl<'a> Tries<'a> {
         requires input { GivesInput edit }
         ensures base { LeavesBase (stage_of_tries self.old) (stage_of_tries self.new) }
         ensures tried { OnOk result (HasTried (stage_of_tries self.old) edit self.new.shown.items (stage_of_tries self.new)) }
-        ensures kept { OnErr result (((stage_of_tries self.new).told ≡ (stage_of_tries self.old).told) × ((stage_of_tries self.new).seen ≡ (stage_of_tries self.old).seen)) }
+        ensures kept { OnErr result (Keeps (stage_of_tries self.old) (stage_of_tries self.new)) }
     {
+        let last = copy_of(self.viewer.session.allocator(), &edit)?;
         let effect = self.viewer.session.effect(&edit);
         let held = self.take_seed(effect)?;
         let tried = self.viewer.session.try_edit(edit, &held.seed, self.range)?;
         self.held = Some(held);
         self.shown.clear();
-        tell(&mut self.shown, &mut self.told, &mut self.seen, tried)
+        tell(&mut self.shown, &mut self.told, &mut self.seen, tried)?;
+        self.last = Some(last);
+        Ok(())
     }
 
     /// Replies what was written, or that memory ran out.
@@ -218,6 +224,31 @@ impl<'a> Tries<'a> {
             Err(fault) => self.refuse(fault),
         }
     }
+
+    /// Answers a line that makes the input of the last try the session's.
+    #[tactic(auto, unfolding(crate::specs::Stages::reply_of_tries, crate::specs::Stages::stage_of_tries))]
+    fn take_line(&mut self, line: &[u8])
+        requires { takes line.now ≡ true }
+        ensures { Others (stage_of_tries self.old) line.now (reply_of_tries self.new) (stage_of_tries self.new) }
+    {
+        let read = take_last(&mut self.last);
+        self.held = None;
+        self.viewer.answer_as(line, read);
+        self.is_shown = false;
+    }
+
+    /// Answers any other line.
+    #[tactic(auto, unfolding(crate::specs::Stages::reply_of_tries, crate::specs::Stages::stage_of_tries))]
+    fn pass_line(&mut self, line: &[u8])
+        requires { takes line.now ≡ false }
+        ensures { Others (stage_of_tries self.old) line.now (reply_of_tries self.new) (stage_of_tries self.new) }
+    {
+        let looks = self.viewer.looks(line);
+        keep_if(&mut self.last, looks);
+        self.held = None;
+        self.viewer.answer(line);
+        self.is_shown = false;
+    }
 }
 
 impl Listener for Tries<'_> {
@@ -243,10 +274,10 @@ impl Listener for Tries<'_> {
             self.try_line(line);
         } else if asks(b"differs", &self.viewer.session, line) {
             self.differ_line(line);
+        } else if takes(line) {
+            self.take_line(line);
         } else {
-            self.held = None;
-            self.viewer.answer(line);
-            self.is_shown = false;
+            self.pass_line(line);
         }
     }
 

@@ -1,6 +1,7 @@
 """What runs did at each place of a program's code, as `replaycheck look` says."""
 from __future__ import annotations
 
+import bisect
 from typing import Dict, List
 
 from replaycheck.endings import Fault
@@ -29,6 +30,15 @@ class Sides:
         part = self.parts[begin]
         both = int.from_bytes(part, "big") | int.from_bytes(digits.encode("ascii").translate(VALUES), "big")
         self.parts[begin] = bytearray(both.to_bytes(len(part), "big"))
+
+    def add_line(self, at, digits):
+        """Adds what runs did at the places from an address on, as far as they are in a part."""
+        begins = sorted(self.parts)
+        for index, digit in enumerate(digits):
+            address = at + self.unit * index
+            begin = begins[bisect.bisect_right(begins, address) - 1] if digit != "0" and begins and begins[0] <= address else None
+            if begin is not None and address < begin + self.length(begin):
+                self.parts[begin][(address - begin) // self.unit] |= int(digit)
 
     def all(self) -> Dict[int, int]:
         """The addresses that were executed, in order, with what was done there."""

@@ -120,14 +120,16 @@ def jobs_of(options):
     return options.jobs or len(os.sched_getaffinity(0))
 
 
-def tables_made(options, request, room):
-    """The tables of the parts, made as far as they aren't kept, in order, and what the summary says of a sample."""
+def tables_made(options, request, room, executed):
+    """The tables of the parts, made as far as they aren't kept, in order, and what the summary says of a sample. If it is asked what their
+    runs execute, and the tables can say that, they do."""
     kept = Kept(options.keep) if options.keep is not None else None
     jobs = jobs_of(options)
     places = max(1, request.places)
     count = kept.count(options.parts) if kept else options.parts
     count = count or min(places, MOST_PARTS, jobs * PARTS_A_JOB if options.sample is None else MOST_PARTS)
     parts = chosen(options, count)
+    request.has_sides = request.is_of_bytes and (kept.has_sides() if kept and kept.found else executed is not None and executed.is_whole)
     folder = kept.path if kept else room
     if options.sshlogin is None:
         runner = Runner(program(), request, folder, count, jobs)
@@ -152,7 +154,7 @@ def told(options, request, sources, notes, room, outputs, executed):
     """Reads the tables as one, and tells what is asked for. Gives the status."""
     merged, goal = Merged(sources), None
     if executed:
-        executed.begin(merged.head.step, request.edits() if options.sample is None else 0)
+        executed.begin(merged, request.edits() if options.sample is None else 0)
     if options.goal is not None:
         goal = goals.Goal(options.goal, merged, room)
     picture = Picture(merged, sources, goal) if "svg" in outputs else None
@@ -220,5 +222,5 @@ def explore(options):
             if options.tables:
                 sources, notes = tables_given(options, request, room), []
             else:
-                sources, notes = tables_made(options, request, room)
+                sources, notes = tables_made(options, request, room, executed)
             return told(options, request, sources, [*(request.notes if request else []), *notes], room, outputs, executed)

@@ -7,6 +7,7 @@ import selectors
 from collections import deque
 from typing import Deque, Dict, Iterator, List, Optional, Set, Tuple
 
+from replaycheck.adopting.elf import Elf
 from replaycheck.covering import lcov
 from replaycheck.covering.code import Code
 from replaycheck.covering.covered import Covered
@@ -19,10 +20,12 @@ from replaycheck.refusals import Ended, Refused
 from replaycheck.sessions import Session
 
 from .lines import shown_name
+from .merging import Merged
 from .running import Progress
 
 MOST_LINES = 90000  # of a session, which takes 100,000 and doesn't count looks
 MOST_WAITING = 1000  # lines of a session whose replies are to come
+MOST_TOLD = 1 << 22
 MOST_FILES = 3  # that the summary names
 
 
@@ -131,8 +134,8 @@ def fault_of(edit: Edit, fault: Fault) -> Fault:
 
 class Executed:
     """What runs have executed up to `step`: the unedited one, and those of the edits that are added. The sessions end with the block of
-    `with`. `reached` are the parts of the code in which some run is known to execute something: a look is at one of them, or at parts
-    next to each other of which none is."""
+    `with`. If the tables say it, `merged` has what they say, and no session looks. `reached` are the parts of the code in which some run is
+    known to execute something: a look is at one of them, or at parts next to each other of which none is."""
 
     def __init__(self, request, jobs):
         self.request, self.step = request, 0
@@ -147,13 +150,23 @@ class Executed:
         self.selector = selectors.DefaultSelector()
         self.lookers = [Looker(self.selector, self.opened) for _ in range(jobs)]
         self.progress: Optional[Progress] = None
+        self.merged: Optional[Merged] = None
+
+    @property
+    def is_whole(self):
+        """Whether a table can say all of it: that has the code of the segment in which the program begins."""
+        low, high = told_range(self.request.program.content)
+        return all(low <= begin and end <= high for begin, end in self.code.ranges)
 
     def __enter__(self):
         return self
 
-    def begin(self, step, edits):
-        """Chooses the step. `edits` is the number of edits, or 0 if that isn't known."""
-        self.step, self.progress = step, Progress(edits, "lines executed by ")
+    def begin(self, merged: Merged, edits):
+        """Chooses the step, that of a sweep. `edits` is the number of edits, or 0 if that isn't known."""
+        self.step, self.progress = merged.head.step, Progress(edits, "lines executed by ")
+        if merged.head.has_sides and self.is_whole:
+            self.merged = merged
+            self.queue.clear()
 
     def __exit__(self, *_):
         if self.progress:
@@ -206,6 +219,8 @@ class Executed:
 
     def add(self, place):
         """Adds the edits of a place of a table."""
+        if self.merged:
+            return
         for edit in edits_of(place, self.request):
             self.queue.append(edit)
             if len(self.queue) > MOST_WAITING:
@@ -263,10 +278,23 @@ class Executed:
         """Waits for the last replies."""
         while self.queue or any(it.waiting for it in self.lookers):
             self.work()
+        for at, digits in self.merged.sides.items() if self.merged else ():
+            self.sides.add_line(at, digits.decode("ascii"))
         self.progress.end()
         for it in self.request.files:
             check_unchanged(it)
         return Covered(self.path, self.code, self, self.places)
+
+
+def told_range(program: bytes) -> Tuple[int, int]:
+    """The addresses of which a table says what was executed: of the file's bytes of the segment in which the program begins, at most
+    4 MiB."""
+    elf = Elf(program)
+    for it in elf.loads:
+        if it.vaddr <= elf.entry < it.vaddr + it.memsz:
+            low = it.vaddr - it.vaddr % 4
+            return low, low + min(it.vaddr % 4 + it.filesz, MOST_TOLD)
+    return 0, 0
 
 
 def check_lines(path, code: Code, places: Places):

@@ -21,6 +21,7 @@ WORDS = re.compile(rb"words (%b)\.\.(%b) (skip|flips|%b(?:,%b)*)" % ((WORD,) * 4
 STEPS = re.compile(rb"steps (%b)\.\.(%b) ([!-~]+)(?: code (%b)\.\.(%b))?( pairs skip)?" % (NUMBER, NUMBER, WORD, WORD))
 STEP = re.compile(rb"step (%b)" % NUMBER)
 OUTPUT = re.compile(rb"output (yes|no)")
+SIDES = b"sides yes"
 PART = re.compile(rb"part (%b)/(%b)" % (NUMBER, NUMBER))
 OLD = re.compile(rb"#\t(input|patch)\t")
 SMALL = {"program": 1 << 27, "input": LONGEST_INPUT, "supp": LONGEST_INPUT}
@@ -28,7 +29,7 @@ ISA = re.compile(rb"isa ([a-z0-9]{1,20})")
 HEAP = re.compile(rb"heap-region (%b)" % WORD)
 STACK = re.compile(rb"stack-region (%b)\.\.(%b)" % (WORD, WORD))
 # The versions of tables, each with what its head has: a table has the least version that can say what it is of.
-VERSIONS = {b"sweep 1": "bytes or words", b"sweep 2": "steps too, an instruction set or regions"}
+VERSIONS = {b"sweep 1": "bytes or words", b"sweep 2": "steps too, an instruction set, regions or sides"}
 
 
 @dataclass(frozen=True)
@@ -40,6 +41,7 @@ class Head:
     regions: Regions
     files: Tuple[Tuple[int, str], ...]
     ranges: Tuple[Union[Range, Steps], ...]
+    has_sides: bool
     step: int
     has_output: bool
     part: Tuple[int, int]
@@ -80,7 +82,7 @@ class Head:
 
     def same(self):
         """What must be equal in the parts of one sweep."""
-        return self.isa, self.regions, self.files, self.ranges, self.step, self.has_output
+        return self.isa, self.regions, self.files, self.ranges, self.has_sides, self.step, self.has_output
 
 
 def told_isa(isa):
@@ -182,9 +184,9 @@ def read_regions(lines, version):
 
 def read_steps(lines, version, limit, isa, regions):
     """The steps at which the machine is altered, or None where the next line has none. A table of version 1 has none. One of version 2
-    does, unless it names an instruction set or regions."""
+    does, unless it names an instruction set or regions, or says what its runs have executed."""
     has_steps = lines.next.startswith(b"steps ")
-    if version == b"sweep 2" and not has_steps and isa == ISAS[0] and regions == USUAL_REGIONS:
+    if version == b"sweep 2" and not has_steps and lines.next != SIDES and isa == ISAS[0] and regions == USUAL_REGIONS:
         lines.other("`steps A..B MODELS`, as in each table of `sweep 2`,")
     if not has_steps:
         return None
@@ -198,6 +200,17 @@ def read_steps(lines, version, limit, isa, regions):
     if models_fault(models):
         lines.fault(models_fault(models))
     return Steps(first, last, models, code, bool(found[6]), unit_of(isa))
+
+
+def read_sides(lines, version, ranges):
+    """Whether the table says what its runs have executed. It has edits of bytes only and is of version 2 then."""
+    if lines.next != SIDES:
+        return False
+    must_be_second(lines, version)
+    if any(ranges[1:]):
+        lines.here(f"of edits of bytes only: {shown(lines.next)}")
+    lines.go_on()
+    return True
 
 
 def read_version(lines):
@@ -226,6 +239,7 @@ def read_head(lines):
                                                read_range(lines, "words", WORDS, 0xFFFFFFFF, 0xFFFFFFFF,
                                                           form_of_words(isa)),
                                                read_steps(lines, version, LAST_STEP, isa, regions)]
+    has_sides = read_sides(lines, version, ranges)
     step = at_most(lines, lines.must(STEP, "`step N`")[1], LAST_STEP, "a step")
     has_output = lines.must(OUTPUT, "`output yes` or `output no`")[1] == b"yes"
     before = tuple(taken)
@@ -238,4 +252,4 @@ def read_head(lines):
     if ranges[2] and ranges[2].last >= step:
         lines.fault(f"steps up to {ranges[2].last}, and runs that are compared at step {step}")
     lines.taken = None
-    return Head(before, isa, regions, files, tuple(it for it in ranges if it), step, has_output, (index, count))
+    return Head(before, isa, regions, files, tuple(it for it in ranges if it), has_sides, step, has_output, (index, count))

@@ -1,4 +1,5 @@
 """Folders: one for what is only there while it works, and one that keeps the tables of the parts that are done."""
+import contextlib
 import fcntl
 import os
 import re
@@ -8,6 +9,7 @@ from replaycheck.endings import Fault, undisturbed
 
 from .leftovers import new_folder
 from .lines import shown_name
+from .merging import sources_in
 
 TABLE = re.compile(r"part-([1-9][0-9]{0,6})-of-([1-9][0-9]{0,6})")
 
@@ -57,6 +59,13 @@ class Kept:
             raise Fault(f"{shown_name(self.path)}: it keeps another request: parts of {told}"
                         + (f", not of {wanted}" if wanted else ""))
         return counts.pop() if counts else wanted
+
+    def has_sides(self):
+        """Whether the tables that are here say what their runs have executed; None if there are none that can be read."""
+        for it in self.found:
+            with contextlib.suppress(OSError, Fault):
+                return next(sources_in(os.path.join(self.path, it[0]), it[0])).head.has_sides
+        return None
 
     def parts(self, runner):
         """The tables that are here, by the numbers of their parts."""

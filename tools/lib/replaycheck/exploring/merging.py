@@ -152,6 +152,8 @@ def difference(one, other):
         if left != right:
             return (f"another {name}, {left[0]} bytes with the digest {left[1][:16]}.., not {right[0]} with "
                     f"{right[1][:16]}..")
+    if one.has_sides != other.has_sides:
+        return f"{'' if one.has_sides else 'without '}sides, not {'without ' if one.has_sides else ''}sides"
     names = [(it.ranges, it.step, it.has_output) for it in (one, other)]
     for what, left, right in zip(("", "step ", "output "), *names):
         if left != right:
@@ -162,7 +164,7 @@ def difference(one, other):
 
 class Merged:
     """Tables that are read as one. `outcomes` and `tallies` are those of the whole, `firsts` the first edit of each:
-    the range, the place, the value and which edit of all that is."""
+    the range, the place, the value and which edit of all that is; `sides` are the digits of the whole by the addresses of lines."""
 
     def __init__(self, sources: List[Source]):
         self.sources, self.head = sources, sources[0].head
@@ -171,6 +173,7 @@ class Merged:
         self.tallies: List[int] = []
         self.firsts: Dict[int, Tuple[Range, int, int, int]] = {}
         self.edits = self.steps = 0
+        self.sides: Dict[int, bytes] = {}
 
     def number(self, text):
         if text not in self.numbers:
@@ -205,6 +208,8 @@ class Merged:
                 place.edits[value] = self.add(place, value, old, of_table, table, write)
             yield place
         self.steps += table.steps
+        for at, digits in table.sides.items():
+            self.sides[at] = either(self.sides.get(at, digits), digits, source)
 
     def add(self, place, value, old, of_table, table, write):
         """Counts an edit. Gives the number of its outcome."""
@@ -224,4 +229,13 @@ class Merged:
     def write_end(self, write):
         for number, tally in enumerate(self.tallies):
             write(b"tally %d %d\n" % (number, tally))
+        for at, digits in sorted(self.sides.items()):
+            write(b"sides 0x%08x %b\n" % (at, digits))
         write(b"end %d %d %d\n" % (self.edits, len(self.outcomes), self.steps))
+
+
+def either(one: bytes, other: bytes, source: Source) -> bytes:
+    """The digits of what one of two tables says. Digits are characters that differ only in their two lowest bits."""
+    if len(one) != len(other):
+        raise BadTable(f"{source}: lines of sides end elsewhere than in the other parts")
+    return (int.from_bytes(one, "big") | int.from_bytes(other, "big")).to_bytes(len(one), "big")

@@ -109,6 +109,7 @@ class Request:
 
     def __init__(self, options, room):
         self.step, self.step_note, self.has_output = options.step, "", options.with_output
+        self.has_sides = False  # whether the tables say what their runs have executed
         self.files = [given(what, name, room) for what, name in
                       (("program", options.file), ("input", options.input), ("supp", options.supp))]
         self.program, self.input, self.supp = self.files
@@ -299,7 +300,13 @@ class Request:
         words += [word for it in self.ranges for word in it.words()]
         words += [f"--input={self.input.path}"] if self.input.path else []
         words += [f"--supp={self.supp.path}"] if self.supp.path else []
-        return [*words, *(["--with-output"] if self.has_output else []), path_of(self.program.path)]
+        words += ["--with-output"] if self.has_output else []
+        return [*words, *(["--sides"] if self.has_sides else []), path_of(self.program.path)]
+
+    @property
+    def is_of_bytes(self):
+        """Whether all edits are of bytes of the input."""
+        return all(it.kind == "bytes" for it in self.ranges)
 
     def title(self):
         words = [os.path.basename(it.name) or it.name for it in self.files[:2] if it.name]

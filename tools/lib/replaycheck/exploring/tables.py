@@ -4,6 +4,7 @@ import re
 from dataclasses import dataclass, field
 from typing import Dict, List, Union
 
+from replaycheck.programs import unit_of
 from replaycheck.reports import LEAK_KINDS, kind_of
 
 from .heads import Head, read_head
@@ -22,10 +23,12 @@ STATE = re.compile(rb"running|exited %b|stopped (?:break|illegal|misaligned) 0x[
 WRITTEN = re.compile(rb"output %b" % NUMBER)
 FRAME = re.compile(rb"   (at|by) 0x[0-9a-f]{8}: [!-~]+")
 TALLY = re.compile(rb"tally (%b) (%b)" % (NUMBER, NUMBER))
+SIDES = re.compile(rb"sides (0x[0-9a-f]{8}) ([0-3]{1,64})")
 END = re.compile(rb"end (%b) (%b) (%b)" % (NUMBER, NUMBER, NUMBER))
 UNEDITED = re.compile(rb"unedited 0")
 EDGES = (0, 1, 0x7F, 0x80, 0xFF)
 MOST_FRAMES, MOST_LINES = 24, 200000
+LINE_PLACES = 64
 NO_FRAME = b"Jump to the invalid address stated on the next line"
 
 
@@ -145,6 +148,7 @@ class Table:
         self.known: Dict[bytes, int] = {}
         self.tallies: List[int] = []
         self.edits = self.steps = 0
+        self.sides: Dict[int, bytes] = {}
         self.read_new()
         self.lines.must(UNEDITED, "`unedited 0`")
         self.tallies[0] = 0
@@ -242,12 +246,25 @@ class Table:
             found = self.lines.must(TALLY, f"`tally {number} {tally}`")
             if (int(found[1]), int(found[2])) != (number, tally):
                 self.lines.fault(f"`tally {number} {tally}` comes here")
+        if self.head.has_sides:
+            self.read_sides()
         found = self.lines.must(END, f"`end {self.edits} {len(self.outcomes)} STEPS`")
         if (int(found[1]), int(found[2])) != (self.edits, len(self.outcomes)):
             self.lines.fault(f"`end {self.edits} {len(self.outcomes)} ..` comes here")
         self.steps = int(found[3])
         if self.lines.next and not self.lines.next.startswith(b"sweep "):
             self.lines.here(f"something behind the end: {shown(self.lines.next)}")
+
+    def read_sides(self):
+        """What the runs have executed: lines of digits, in order, each of them with another digit than 0."""
+        lines, stride, first, last = self.lines, LINE_PLACES * unit_of(self.head.isa), None, None
+        while lines.next.startswith(b"sides "):
+            found = lines.must(SIDES, "`sides ADDR DIGITS`")
+            at, digits = int(found[1], 16), found[2]
+            first = at if first is None else first
+            if last is not None and (at <= last or (at - first) % stride or len(self.sides[last]) < LINE_PLACES) or not digits.strip(b"0"):
+                lines.fault("a line out of turn")
+            self.sides[at], last = digits, at
 
 
 def edit_of(found):

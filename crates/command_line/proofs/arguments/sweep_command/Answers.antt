@@ -5,14 +5,10 @@ use Rattle.command_line.proofs.arguments.sweep_command.Goals as goal
 
 pub returns-clause-shape : goal.returns-clause-shape
 returns-clause-shape c =
-    IfOk-weaker c.arg-2.result _ _ (λ command added. added.shape c.default_option.ensures.local
-    ∙ ap₂ with_rule (c.in_ok-command.ensures.shape c.output_flag.ensures.local
-    ∙ ap₂ with_rule c.in_ok-sweep_of_steps.ensures.shape c.output_flag.ensures.rule)
-    c.default_option.ensures.rule) c.arg-2.ensures
+    IfOk-weaker c.arg.result _ _ (λ command added. added.shape c.default_option.ensures.local
+    ∙ ap₂ with_rule c.in_ok-sweep_of_flags.ensures.shape c.default_option.ensures.rule) c.arg.ensures
 
 pub returns-clause-globals : goal.returns-clause-globals
 returns-clause-globals c =
-    IfOk-weaker c.arg-2.result _ _ (λ command added. added.globals
-    ∙ ap₂ ◌||◌ (c.in_ok-command.ensures.globals
-    ∙ ap₂ ◌||◌ c.in_ok-sweep_of_steps.ensures.globals c.output_flag.ensures.local)
-    c.default_option.ensures.local) c.arg-2.ensures
+    IfOk-weaker c.arg.result _ _ (λ command added. added.globals
+    ∙ ap₂ ◌||◌ c.in_ok-sweep_of_flags.ensures.globals c.default_option.ensures.local) c.arg.ensures

@@ -21,4 +21,8 @@ returns c =
         given = λ e. c.get_flag.ensures.value (one_text-rows found (codes "with-output") ∙ e);
         absent = λ e. c.get_flag.ensures.other (one_text-rows found (codes "with-output") ∙ e);
       };
+      with_sides = record {
+        given = λ e. c.get_flag-2.ensures.value (one_text-rows found (codes "sides") ∙ e);
+        absent = λ e. c.get_flag-2.ensures.other (one_text-rows found (codes "sides") ∙ e);
+      };
     }

@@ -4,6 +4,7 @@ use Rattle.ends.specs.Ends.{end_of}
 use Rattle.sweep_plans.specs.Planned.{first_place, part_from, part_to}
 use Rattle.sweep_tables.specs.Swept.{case_with}
 use Rattle.sweep_tables.specs.Swept.{Writes}
+use Rattle.sweep_tables.proofs.SidesSteps.{fits-plan}
 use Rattle.sweep_tables.proofs.program.sweep_part.Goals as goal
 
 pub returns-in_default : goal.returns-in_default
@@ -23,5 +24,9 @@ returns g c =
     ∙ ap (λ places. first_place places part.index part.count) c.places-places.ensures.number) in
     let met = c.in-Ok.ensures.met in
     subst (λ n. Writes case n old later (end_of c.write_behind.result)) (ap₂ (λ b a. b - a) (sym to) (sym from))
-    (c.write_behind.ensures case met.0 refl from c.in-Ok.ensures.scenario c.in-Ok.ensures.output met.1
+    (c.write_behind.ensures case met.0 refl from c.in-Ok.ensures.scenario c.in-Ok.ensures.output (record {
+      range = c.in-Ok.ensures.range;
+      fits = fits-plan c.args.words.now.with_sides plan c.args.image;
+      covered = c.in-Ok.ensures.covered;
+    }) met.1
     (c.deref.ensures.value ∙ met.2))

@@ -16,7 +16,8 @@ returns-clause-ok g c =
     let later = g.W.Write.contents c.write_all.new.writer in
     on_ok_weaker c.write_all.result (λ sent case n base is at reached. reached-more case n c.args.place c.args.plan.now
     c.args.sweep.now c.rows_of.new.sweep
-    c.in-Ok.out.items base now later is at c.in-Ok.ensures.scenario c.in-Ok.ensures.output c.in-Ok.ensures.met
+    c.in-Ok.out.items base now later is at c.in-Ok.ensures.scenario c.in-Ok.ensures.output c.in-Ok.ensures.range
+    c.in-Ok.ensures.covered c.in-Ok.ensures.met
     (subst (Appends now later) c.deref.ensures.value sent) reached)
     c.write_all.ensures.ok
 
@@ -28,5 +29,6 @@ returns-clause-err g c =
     (Writes case all base later) (sym failed.0)
     (stops-writing case n c.args.place c.args.plan.now c.args.sweep.now c.rows_of.new.sweep c.in-Ok.out.items base now
     later is at c.in-Ok.ensures.scenario
-    c.in-Ok.ensures.output c.in-Ok.ensures.met all l (subst (AppendsFront now later) c.deref.ensures.value failed.1)
+    c.in-Ok.ensures.output c.in-Ok.ensures.range c.in-Ok.ensures.covered c.in-Ok.ensures.met all l
+    (subst (AppendsFront now later) c.deref.ensures.value failed.1)
     reached)) c.write_all.ensures.err

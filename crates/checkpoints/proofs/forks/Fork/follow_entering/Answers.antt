@@ -1,11 +1,13 @@
-use Rattle.std.proofs.Common.{◌≡◌, ◌+◌, ◌*◌, ◌<◌, ◌∙◌, ap, get_or, length, refl, subst, sym}
+use Rattle.std.proofs.Common.{◌≡◌, ◌+◌, ◌*◌, ◌<◌, ◌||◌, ◌∙◌, ap, get_or, length, refl, subst, sym}
 use Rattle.guest_elf.specs.Profiles.{unit}
 use Rattle.guest_machine.specs.Run.{post, pre}
 use Rattle.guest_machine.specs.Shows.{Shows}
 use Rattle.guest_machine.specs.State.{State}
 use Rattle.checkpoints.specs.Effects.{Run}
 use Rattle.checkpoints.specs.Entering.{IsApart}
+use Rattle.checkpoints.specs.Merged.{AlsoSays}
 use Rattle.checkpoints.specs.Sides.{RowTells, places, sided}
+use Rattle.checkpoints.proofs.AlsoSteps.{covers-same}
 use Rattle.checkpoints.proofs.EffectSteps.{Laws}
 use Rattle.checkpoints.proofs.ForkSteps.{pre-led}
 use Rattle.checkpoints.proofs.MarkSteps.{shows-along}
@@ -68,3 +70,34 @@ returns-clause-sides c one start last len l fork told =
           (tells-there laws effect of one other n l fork.step.hidden
           (sided (c.args.first + unit one.start.core.isa * i) on) old (told.tells i on d within))));
     }
+
+pub returns-clause-also : goal.returns-clause-also
+returns-clause-also c one start last i on others d l fork less says =
+    let laws : Laws = record {
+      input = c.keeps_input.ensures;
+      end = c.keeps_end.ensures;
+      reads = c.reads_on.ensures;
+      stays = c.end_stays.ensures;
+      heap = c.keeps_heap.ensures;
+    } in
+    let effect = c.args.effect in
+    let setup = c.args.setup.now in
+    let marks = c.args.marks.now in
+    let n = c.args.self.now.step in
+    let other : Run = record { start = start; setup = setup; marks = marks } in
+    let of = c.requires.of in
+    let same = pre-led laws (record { pokes = c.keeps_pokes.ensures; isa = c.keeps_isa.ensures }) effect one other n
+    fork.whole l fork.step.hidden in
+    let shows : Shows c.in_ok-written.written (pre start setup marks n) =
+    shows-along _ _ _ _ refl same (c.in_ok-written.ensures _ fork.shows) in
+    let begins : start ≡ one.start = l.start ∙ same-start effect one.start of in
+    let units : unit start.core.isa ≡ unit one.start.core.isa = ap (λ (s : State). unit s.core.isa) begins in
+    let far : c.unit-apart.result ≡ unit one.start.core.isa =
+    c.unit-apart.ensures ∙ ap unit (c.isa.ensures _ shows ∙ pre-isa c.keeps_isa.ensures start setup marks n) ∙ units in
+    let old = get_or c.args.table.now.items i d in
+    let side = sided (c.args.first + unit one.start.core.isa * i) on in
+    subst (λ m. AlsoSays others start setup marks c.args.step (sided (c.args.first + m * i) on)
+    (get_or c.enter_sides.new.table.items i d)) far
+    (c.in_ok-machine.ensures.also start i on others d shows less
+    (subst (λ m. AlsoSays others start setup marks n (sided (c.args.first + m * i) on) old) (sym far)
+    (says ∙ ap (λ b. others || b) (covers-same laws effect of one other n l fork.step.hidden side))))

@@ -1,35 +1,37 @@
-use Rattle.std.proofs.Common.{◌≡◌, ◌≤◌, ap, sym, ◌∙◌, subst, List, [], refl}
+use Rattle.std.proofs.Common.{◌≡◌, ◌≤◌, ap, sym, ◌∙◌, ◌++◌, subst, List, [], refl}
 use Rattle.checkpoints.specs.Edits.{IsRightForRun}
 use Rattle.checkpoints.specs.Trails.{LoadsAs}
 use Rattle.guest_machine.specs.Shows.{Shows}
 use Rattle.scenario.specs.Limits.{most_steps}
 use Rattle.scenario.specs.Scenario.{Scenario, first_state, run_of}
 use Rattle.sweep_plans.specs.declared.change.Change.{Change}
+use Rattle.sweeps.specs.Covered.{AreCovered, range_of, table_of}
 use Rattle.sweeps.specs.Spots.{IsScout}
-use Rattle.sweeps.specs.Standing.{all_changes, standing_in}
+use Rattle.sweeps.specs.Standing.{all_changes, changes_at, standing_in}
 use Rattle.sweeps.specs.Sweeps.{CountsMore, HasMet, scenario_of, tells_output}
 use Rattle.sweeps.proofs.ChangeSteps.{found-none, found-some, stands-there}
+use Rattle.sweeps.proofs.CoverSteps.{covers-none, may-cover}
 use Rattle.sweeps.proofs.Steps.{counts-none, meets-from}
 use Rattle.sweeps.proofs.sweep.Sweep.visit.Goals as goal
 
-pub meet_place-requires-clause-stands : goal.meet_place-requires-clause-stands
-meet_place-requires-clause-stands c =
+pub meet_spot-requires-clause-stands : goal.meet_spot-requires-clause-stands
+meet_spot-requires-clause-stands c =
     let self = c.args.self.now in
     let there = found-some self.scenario _ c.in_ok-found.found c.in-Some.spot c.in-Some.is c.in_ok-found.ensures.found
     in
     (stands-there self.scenario c.args.plan.now self.near self.unmarked c.place-place.result c.in-Some.spot.standing
     there.0).0
 
-pub meet_place-requires-clause-below : goal.meet_place-requires-clause-below
-meet_place-requires-clause-below c =
+pub meet_spot-requires-clause-below : goal.meet_spot-requires-clause-below
+meet_spot-requires-clause-below c =
     let self = c.args.self.now in
     let there = found-some self.scenario _ c.in_ok-found.found c.in-Some.spot c.in-Some.is c.in_ok-found.ensures.found
     in
     (stands-there self.scenario c.args.plan.now self.near self.unmarked c.place-place.result c.in-Some.spot.standing
     there.0).1
 
-pub meet_place-requires-clause-fork : goal.meet_place-requires-clause-fork
-meet_place-requires-clause-fork c =
+pub meet_spot-requires-clause-fork : goal.meet_spot-requires-clause-fork
+meet_spot-requires-clause-fork c =
     let self = c.args.self.now in
     (found-some self.scenario _ c.in_ok-found.found c.in-Some.spot c.in-Some.is c.in_ok-found.ensures.found).1
 
@@ -56,15 +58,43 @@ returns-clause-met c =
     in
     let all = ap (all_changes self.scenario plan) (ap (standing_in self.scenario plan) (sym c.place-place.ensures)
     ∙ there.0) in
-    meets-from self.with_output self.scenario c.meet_place.new.scenario self.counts c.meet_place.new.counts _
-    c.args.out.now.items c.meet_place.new.out.items c.meet_place.ensures.same
-    (subst (λ (xs : List Change). CountsMore self.counts c.meet_place.new.counts self.with_output self.scenario xs
-    c.args.out.now.items c.meet_place.new.out.items) (sym all) c.in_ok-meet_place.ensures.met)
+    meets-from self.with_output self.scenario c.meet_spot.new.scenario self.counts c.meet_spot.new.counts _
+    c.args.out.now.items c.meet_spot.new.out.items c.meet_spot.ensures.same
+    (subst (λ (xs : List Change). CountsMore self.counts c.meet_spot.new.counts self.with_output self.scenario xs
+    c.args.out.now.items c.meet_spot.new.out.items) (sym all) c.in_ok-meet_spot.ensures.met)
+
+pub returns-in_default-clause-covered : goal.returns-in_default-clause-covered
+unfolding scenario_of range_of table_of
+returns-in_default-clause-covered c done fits are =
+    let self = c.args.self.now in
+    let plan = c.args.plan.now in
+    let none = found-none self.scenario _ c.in_ok-found.found c.in_default.not-Some c.in_ok-found.ensures.found in
+    let nothing = ap (all_changes self.scenario plan) (ap (standing_in self.scenario plan) (sym c.place-place.ensures)
+    ∙ none) in
+    subst (λ (xs : List Change). AreCovered self.scenario (done ++ xs) self.range self.table.items) (sym nothing)
+    (covers-none self.scenario self.range.start self.table.items done self.range.len are)
+
+pub returns-clause-covered : goal.returns-clause-covered
+unfolding scenario_of range_of table_of
+returns-clause-covered c done fits are =
+    let self = c.args.self.now in
+    let plan = c.args.plan.now in
+    let new = c.meet_spot.new.table.items in
+    let there = found-some self.scenario _ c.in_ok-found.found c.in-Some.spot c.in-Some.is c.in_ok-found.ensures.found
+    in
+    let is = ap (standing_in self.scenario plan) (sym c.place-place.ensures) ∙ there.0 in
+    let may = may-cover self.scenario plan c.args.place self.range done self.table.items c.in-Some.spot.standing fits
+    are is in
+    let more = done ++ changes_at self.scenario plan c.args.place in
+    subst (λ (s : Scenario). AreCovered s more self.range new) (sym c.meet_spot.ensures.same)
+    (subst (λ (xs : List Change). AreCovered self.scenario (done ++ xs) self.range new)
+    (sym (ap (all_changes self.scenario plan) is))
+    (c.in_ok-meet_spot.ensures.covers may done self.range.len are))
 
 pub invariant_of-self-in-Break-branch-2 : goal.invariant_of-self-in-Break-branch-2
 invariant_of-self-in-Break-branch-2 c =
     let self = c.args.self.now in
-    let same = sym c.meet_place.ensures.same in
+    let same = sym c.meet_spot.ensures.same in
     record {
       loads = subst (λ (s : Scenario). LoadsAs c.find.new.trail s.image) same c.find.ensures.loads;
       right = subst (λ (s : Scenario). IsRightForRun c.find.new.trail (run_of s)) same c.find.ensures.right;
@@ -78,7 +108,7 @@ invariant_of-self-in-Break-branch-2 c =
 pub invariant_of-self-2 : goal.invariant_of-self-2
 invariant_of-self-2 c =
     let self = c.args.self.now in
-    let same = sym c.meet_place.ensures.same in
+    let same = sym c.meet_spot.ensures.same in
     record {
       loads = subst (λ (s : Scenario). LoadsAs c.find.new.trail s.image) same c.find.ensures.loads;
       right = subst (λ (s : Scenario). IsRightForRun c.find.new.trail (run_of s)) same c.find.ensures.right;

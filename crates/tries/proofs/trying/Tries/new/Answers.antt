@@ -1,6 +1,6 @@
-use Rattle.std.proofs.Common.{◌∙◌, ap}
+use Rattle.std.proofs.Common.{◌∙◌, ap, None}
 use Rattle.replay_session.specs.Stages.{stage_of}
-use Rattle.tries.specs.Ranges.{range_of}
+use Rattle.look_lines.specs.Ranges.{range_of}
 use Rattle.tries.specs.Stages.{stage_of_tries}
 use Rattle.tries.proofs.trying.Tries.new.Goals as goal
 
@@ -11,4 +11,5 @@ returns c = λ i. record {
   range = (c.range_of-range.ensures ∙ ap range_of c.image.ensures) i;
   seen = c.new-2.ensures.items i;
   told = c.new-3.ensures i;
+  last = None;
 }

@@ -1,6 +1,6 @@
 //! The range of a program's addresses of which sides are told.
 ghost use Rattle.std.specs.Prelude.{◌≡◌};
-ghost use Rattle.tries.specs.Ranges.{range_at, range_in, range_of};
+ghost use Rattle.look_lines.specs.Ranges.{range_at, range_in, range_of};
 
 use guest_elf::{Image, Segment};
 use guest_machine::Span;
@@ -33,9 +33,10 @@ fn range_at(entry: u32, segments: &[Segment<'_>]) -> Span
     range
 }
 
-/// Returns the range of the segment in which a program begins.
+/// Returns the range of addresses of which a program's sides are told: of the segment in which it begins, the bytes of the file, from the
+/// multiple of four before them on, and at most 4 MiB.
 #[tactic(auto, unfolding(crate::specs::Ranges::range_of))]
-pub(crate) fn range_of(image: &Image<'_>) -> Span
+pub fn range_of(image: &Image<'_>) -> Span
     ensures { result ≡ range_of image.now }
 {
     range_at(image.entry(), image.segments())

@@ -1,0 +1,248 @@
+//! The changes of a byte, one at a time, each by a run that enters in a table what it executes.
+ghost use Rattle.std.specs.Prelude.{◌≡◌, ◌≤◌, ◌∷◌, [], ℕ, IfOk, OnOk, Some, length};
+ghost use Rattle.std.specs.List.{All};
+ghost use Rattle.checkpoints.specs.Edits.{IsRightForRun};
+ghost use Rattle.checkpoints.specs.Effects.{IsOfSetup, LeadsTo, Run};
+ghost use Rattle.checkpoints.specs.Forks.{IsForkFor};
+ghost use Rattle.checkpoints.specs.Merged.{AlsoEnters};
+ghost use Rattle.scenario.specs.Edits.{row};
+ghost use Rattle.scenario.specs.Limits.{most_steps};
+ghost use Rattle.scenario.specs.Scenario.{IsOutlineOf, run_of};
+ghost use Rattle.sweep_plans.specs.Changes.{edit_of};
+ghost use Rattle.sweeps.specs.Covered.{AreCovered, CoversMore, IsByte, MayCover};
+ghost use Rattle.sweeps.specs.Outcomes.{IsOutcome};
+ghost use Rattle.sweeps.specs.Spots.{Continues};
+ghost use Rattle.sweeps.specs.Standing.{IsAt, IsBelow, Stands, all_changes};
+ghost use Rattle.sweeps.specs.Sweeps.{CountsMore};
+
+use crate::counting::Counts;
+use crate::meeting::meet_place;
+use crate::outcomes::take_back;
+use crate::spots::Spot;
+use checkpoints::{Effect, Fork, Sides, Trail};
+use guest_machine::Span;
+use scenario::Scenario;
+use scenario::laws::edits_follow;
+use std::alloc::{AllocError, Global};
+use sweep_plans::{Change, Plan, Standing};
+
+/// Returns the table of a range that says what the unedited run has executed. That of a range of no bytes needs no run.
+pub(crate) fn unedited_table(
+    alloc: Global,
+    trail: &Trail,
+    scenario: &Scenario,
+    range: Span,
+) -> Result<Vec<Sides>, AllocError>
+    requires { IsRightForRun trail.now (run_of scenario.now) }
+    ensures { IfOk result (λ table. AreCovered scenario.now [] range table.items) }
+{
+    if range.len == 0 {
+        return Ok(Vec::new(alloc));
+    }
+    trail.sides(
+        alloc,
+        range,
+        scenario.step(),
+        scenario.setup(),
+        scenario.marks(),
+    )
+}
+
+/// Returns the outline of an edited scenario, whose run continues from a fork, and enters in a table what the run executes from there on. An
+/// effect leads to it from the run of the fork.
+fn outline_entering(
+    scenario: &Scenario,
+    fork: &Fork,
+    effect: Effect,
+    first: u32,
+    table: &mut Vec<Sides>,
+    with_output: bool,
+) -> Result<Vec<u8>, AllocError>
+    requires before { fork.now.step ≤ scenario.now.step }
+    requires of { IsOfSetup effect }
+    ensures outline { IfOk result (λ text. (one : Run) (last : ℕ) → LeadsTo effect one (run_of scenario.now) → IsForkFor effect one last fork.now
+        → IsOutlineOf with_output scenario.now text.items) }
+    ensures entered { OnOk result ((length table.new.items ≡ length table.old.items)
+        × AlsoEnters effect fork.now first scenario.now.setup scenario.now.marks scenario.now.step table.old.items table.new.items) }
+{
+    let machine = fork.follow_entering(
+        effect,
+        scenario.setup(),
+        scenario.marks(),
+        scenario.step(),
+        first,
+        table,
+    )?;
+    scenario.outline(&machine, with_output)
+}
+
+/// Returns the outcome of a change of a byte, whose run continues from a fork, and enters in a table what the run executes. Afterwards the
+/// scenario is as it was.
+fn outcome_entering(
+    scenario: &mut Scenario,
+    fork: &Fork,
+    standing: Standing,
+    change: Change,
+    first: u32,
+    table: &mut Vec<Sides>,
+    with_output: bool,
+) -> Result<Vec<u8>, AllocError>
+    requires before { fork.now.step ≤ scenario.old.step }
+    requires stands { Stands scenario.old standing }
+    requires byte { IsByte standing }
+    requires at { IsAt scenario.old standing change }
+    requires fork { IsForkFor (row scenario.old (edit_of change)).effect (run_of scenario.old) scenario.old.step fork.now }
+    ensures same { scenario.new ≡ scenario.old }
+    ensures outcome { IfOk result (λ text. IsOutcome with_output scenario.old change text.items) }
+    ensures covers { OnOk result (CoversMore scenario.old first (change ∷ []) table.old.items table.new.items) }
+{
+    edits_follow();
+    let effect = scenario.effect(&change.edit());
+    scenario.edit(change.edit())?;
+    let told = outline_entering(scenario, fork, effect, first, table, with_output);
+    take_back(scenario, standing);
+    told
+}
+
+/// Applies a change of a byte at a spot, and no other edit, counts the outcome, appends its row, and enters in a table what its run executes.
+/// Afterwards the scenario is as it was.
+fn meet_entering(
+    scenario: &mut Scenario,
+    counts: &mut Counts,
+    spot: &Spot,
+    change: Change,
+    first: u32,
+    table: &mut Vec<Sides>,
+    with_output: bool,
+    out: &mut Vec<u8>,
+) -> Result<(), AllocError>
+    requires stands { Stands scenario.old spot.now.standing }
+    requires byte { IsByte spot.now.standing }
+    requires at { IsAt scenario.old spot.now.standing change }
+    requires fork { IsForkFor (row scenario.old (edit_of change)).effect (run_of scenario.old) scenario.old.step spot.now.fork }
+    ensures same { scenario.new ≡ scenario.old }
+    ensures met { OnOk result (CountsMore counts.old counts.new with_output scenario.old (change ∷ []) out.old.items out.new.items) }
+    ensures covers { OnOk result (CoversMore scenario.old first (change ∷ []) table.old.items table.new.items) }
+{
+    let outcome = outcome_entering(
+        scenario,
+        &spot.fork,
+        spot.standing,
+        change,
+        first,
+        table,
+        with_output,
+    )?;
+    let steps = scenario.step() - spot.fork.step;
+    counts.count(change, &outcome, steps, out)?;
+    Ok(())
+}
+
+/// Does the same for each of some changes.
+fn meet_each_entering(
+    scenario: &mut Scenario,
+    counts: &mut Counts,
+    spot: &Spot,
+    changes: &[Change],
+    first: u32,
+    table: &mut Vec<Sides>,
+    with_output: bool,
+    out: &mut Vec<u8>,
+) -> Result<(), AllocError>
+    requires stands { Stands scenario.old spot.now.standing }
+    requires byte { IsByte spot.now.standing }
+    requires at { All (IsAt scenario.old spot.now.standing) changes.now }
+    requires fork { Continues scenario.old spot.now.standing spot.now.fork }
+    ensures same { scenario.new ≡ scenario.old }
+    ensures met { OnOk result (CountsMore counts.old counts.new with_output scenario.old changes.now out.old.items out.new.items) }
+    ensures covers { OnOk result (CoversMore scenario.old first changes.now table.old.items table.new.items) }
+{
+    for change in changes {
+        meet_entering(
+            scenario,
+            counts,
+            spot,
+            *change,
+            first,
+            table,
+            with_output,
+            out,
+        )?;
+    }
+    Ok(())
+}
+
+/// Does the same for each change of a plan there.
+fn meet_byte(
+    alloc: Global,
+    scenario: &mut Scenario,
+    counts: &mut Counts,
+    plan: &Plan,
+    spot: &Spot,
+    first: u32,
+    table: &mut Vec<Sides>,
+    with_output: bool,
+    out: &mut Vec<u8>,
+) -> Result<(), AllocError>
+    requires near { scenario.old.step ≤ most_steps }
+    requires unmarked { scenario.old.marks ≡ [] }
+    requires stands { Stands scenario.old spot.now.standing }
+    requires byte { IsByte spot.now.standing }
+    requires fork { Continues scenario.old spot.now.standing spot.now.fork }
+    ensures same { scenario.new ≡ scenario.old }
+    ensures met { OnOk result (CountsMore counts.old counts.new with_output scenario.old (all_changes scenario.old plan.now (Some spot.now.standing)) out.old.items out.new.items) }
+    ensures covers { OnOk result (CoversMore scenario.old first (all_changes scenario.old plan.now (Some spot.now.standing)) table.old.items table.new.items) }
+{
+    let changes = plan.changes(alloc, spot.standing)?;
+    meet_each_entering(
+        scenario,
+        counts,
+        spot,
+        &changes,
+        first,
+        table,
+        with_output,
+        out,
+    )
+}
+
+/// Applies each change of a plan at a spot, one at a time. If a table has rows and a byte is there, what the runs execute is entered in it.
+pub(crate) fn meet_spot(
+    alloc: Global,
+    scenario: &mut Scenario,
+    counts: &mut Counts,
+    plan: &Plan,
+    spot: &Spot,
+    first: u32,
+    table: &mut Vec<Sides>,
+    with_output: bool,
+    out: &mut Vec<u8>,
+) -> Result<(), AllocError>
+    requires near { scenario.old.step ≤ most_steps }
+    requires unmarked { scenario.old.marks ≡ [] }
+    requires stands { Stands scenario.old spot.now.standing }
+    requires below { IsBelow scenario.old.step spot.now.standing }
+    requires fork { Continues scenario.old spot.now.standing spot.now.fork }
+    ensures same { scenario.new ≡ scenario.old }
+    ensures met { OnOk result (CountsMore counts.old counts.new with_output scenario.old (all_changes scenario.old plan.now (Some spot.now.standing)) out.old.items out.new.items) }
+    ensures covers { OnOk result (MayCover spot.now.standing table.old.items
+        → CoversMore scenario.old first (all_changes scenario.old plan.now (Some spot.now.standing)) table.old.items table.new.items) }
+{
+    if table.is_empty() {
+        return meet_place(alloc, scenario, counts, plan, spot, with_output, out);
+    }
+    match spot.standing {
+        Standing::Byte { .. } => meet_byte(
+            alloc,
+            scenario,
+            counts,
+            plan,
+            spot,
+            first,
+            table,
+            with_output,
+            out,
+        ),
+        _ => meet_place(alloc, scenario, counts, plan, spot, with_output, out),
+    }
+}
