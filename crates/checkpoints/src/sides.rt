@@ -1,17 +1,19 @@
 //! Which instructions a run has executed, and how it went on from each.
-ghost use Rattle.std.specs.Prelude.{◌≡◌, ◌+◌, ◌*◌, ◌<◌, ◌≤◌, ℕ, Bool, List, false, length, slice_index_or, IfOk, IfNone, IfSome, IsTrue, OnOk};
+ghost use Rattle.std.specs.Prelude.{◌≡◌, ◌+◌, ◌-◌, ◌*◌, ◌^◌, ◌<◌, ◌≤◌, ℕ, Bool, List, false, length, slice_index_or, IfOk, IfNone, IfSome, IsTrue, OnOk};
 ghost use Rattle.guest_elf.specs.Profiles.{unit};
 ghost use Rattle.guest_machine.specs.State.{State};
 ghost use Rattle.guest_machine.specs.Exec.{exec};
 ghost use Rattle.guest_machine.specs.Run.{pre, post};
 ghost use Rattle.guest_machine.specs.Shows.{Shows};
 ghost use Rattle.run_values.specs.declared.alteration.Alteration.{Alteration as AlterationOf};
+ghost use Rattle.guest_machine.specs.declared.setup.Setup.{Setup as SetupOf};
 ghost use Rattle.checkpoints.specs.Entering.{Enters, IsApart, with_side};
 ghost use Rattle.checkpoints.specs.Effects.{IsOfSetup, LeadsTo, Run};
 ghost use Rattle.checkpoints.specs.Forks.{IsForkFor, ShowsEdited};
 ghost use Rattle.checkpoints.specs.Marks.{NoneBetween};
-ghost use Rattle.checkpoints.specs.Merged.{AlsoEnters, AlsoSays};
-ghost use Rattle.checkpoints.specs.Sides.{IsSides, RowTells, has_again, has_side, places, side_by, side_of, sided, span};
+ghost use Rattle.checkpoints.specs.Merged.{AlsoEnters};
+ghost use Rattle.checkpoints.specs.Extending.{Extends, GoesStraight, HasLength, Turns};
+ghost use Rattle.checkpoints.specs.Sides.{IsSides, has_again, has_side, places, side_by, side_of, sided, span};
 ghost use Rattle.checkpoints.specs.Trails.{machines_of, IsRightFor};
 
 use crate::effect::Effect;
@@ -148,12 +150,8 @@ fn enter_sides(
     requires apart { IsApart apart }
     ensures shows { IfOk result (λ r. (start : State) → Shows machine (pre start setup.now marks.now from) → Shows r (pre start setup.now marks.now to)) }
     ensures rows { OnOk result (length table.new.items ≡ length table.old.items) }
-    ensures tells { OnOk result ((start : State) (i : ℕ) (on : Bool) (d : Sides) → Shows machine (pre start setup.now marks.now from) → i < length table.old.items
-        → RowTells start setup.now marks.now from (sided (first + apart * i) on) (slice_index_or table.old.items i d)
-        → RowTells start setup.now marks.now to (sided (first + apart * i) on) (slice_index_or table.new.items i d)) }
-    ensures also { OnOk result ((start : State) (i : ℕ) (on others : Bool) (d : Sides) → Shows machine (pre start setup.now marks.now from) → i < length table.old.items
-        → AlsoSays others start setup.now marks.now from (sided (first + apart * i) on) (slice_index_or table.old.items i d)
-        → AlsoSays others start setup.now marks.now to (sided (first + apart * i) on) (slice_index_or table.new.items i d)) }
+    ensures extends { OnOk result ((start : State) → Shows machine (pre start setup.now marks.now from)
+        → Extends start setup.now marks.now from to first apart table.old.items table.new.items) }
 {
     stays_halted();
     let mut machine = machine;
@@ -192,43 +190,119 @@ fn enter_quietly(
     ensures shows { IfOk result (λ r. (start : State) (marks : List AlterationOf) → NoneBetween from end marks
         → Shows machine (post start setup.now marks from) → Shows r.0 (pre start setup.now marks r.1)) }
     ensures rows { OnOk result (length table.new.items ≡ length table.old.items) }
-    ensures tells { IfOk result (λ r. (start : State) (marks : List AlterationOf) → NoneBetween from end marks
-        → Shows machine (post start setup.now marks from) → (i : ℕ) (on : Bool) (d : Sides) → i < length table.old.items
-        → RowTells start setup.now marks from (sided (first + apart * i) on) (slice_index_or table.old.items i d)
-        → RowTells start setup.now marks r.1 (sided (first + apart * i) on) (slice_index_or table.new.items i d)) }
-    ensures also { IfOk result (λ r. (start : State) (marks : List AlterationOf) → NoneBetween from end marks
-        → Shows machine (post start setup.now marks from) → (i : ℕ) (on others : Bool) (d : Sides) → i < length table.old.items
-        → AlsoSays others start setup.now marks from (sided (first + apart * i) on) (slice_index_or table.old.items i d)
-        → AlsoSays others start setup.now marks r.1 (sided (first + apart * i) on) (slice_index_or table.new.items i d)) }
+    ensures extends { IfOk result (λ r. (start : State) (marks : List AlterationOf) → NoneBetween from end marks
+        → Shows machine (post start setup.now marks from)
+        → Extends start setup.now marks from r.1 first apart table.old.items table.new.items) }
 {
     let mut machine = machine;
-    for k in from..end {
-        let (stepped, fetched) = step_entering(machine, setup, first, apart, table)?;
+    let mut at = from;
+    while at < end {
+        let pc = machine.pc();
+        let (stepped, count, code) = run_straight(machine, setup, pc, apart, end - at)?;
         machine = stepped;
-        if !fetched && !is_running(&machine) {
-            return Ok((machine, k + 1));
+        enter_straight(table, first, apart, pc, count);
+        at += count;
+        if at == end {
+            return Ok((machine, end));
+        }
+        enter(table, first, apart, code, machine.pc());
+        at += 1;
+        if code.is_none() && !is_running(&machine) {
+            return Ok((machine, at));
         }
     }
     Ok((machine, end))
 }
 
-/// Executes one step, and enters its side. Returns whether it fetched code.
+/// Executes so many steps, with no marks between, or up to the first that doesn't go straight ahead: that fetches no code as long as places
+/// are apart, or doesn't continue after it. Returns the number of steps that go straight ahead, and which code the one after them fetched.
+/// `pc` is where the machine is.
 #[inline(always)]
-fn step_entering(
+fn run_straight(
     machine: Machine,
     setup: &Setup,
-    first: u32,
+    pc: u32,
     apart: u32,
-    table: &mut Vec<Sides>,
-) -> Result<(Machine, bool), AllocError>
-    requires { IsApart apart }
-    ensures shows { IfOk result (λ r. (s : State) → Shows machine s → Shows r.0 (exec s setup.now)) }
-    ensures rows { OnOk result (length table.new.items ≡ length table.old.items) }
-    ensures entered { OnOk result ((s : State) → Shows machine s → Enters first apart (side_of s setup.now) table.old.items table.new.items) }
+    most: u32,
+) -> Result<(Machine, u32, Option<Span>), AllocError>
+    requires { (s : State) → Shows machine s → pc ≡ s.core.pc }
+    ensures within { IfOk result (λ r. r.1 ≤ most) }
+    ensures room { IfOk result (λ r. pc + apart * r.1 < 2 ^ 32) }
+    ensures straight { IfOk result (λ r. (start : State) (marks : List AlterationOf) (from : ℕ) → NoneBetween from (from + most) marks
+        → Shows machine (post start setup.now marks from) → GoesStraight start setup.now marks from pc apart r.1) }
+    ensures ended { IfOk result (λ r. (start : State) (marks : List AlterationOf) (from : ℕ) → NoneBetween from (from + most) marks
+        → Shows machine (post start setup.now marks from) → 0 < most → r.1 ≡ most → Shows r.0 (pre start setup.now marks (from + most))) }
+    ensures turned { IfOk result (λ r. (start : State) (marks : List AlterationOf) (from : ℕ) → NoneBetween from (from + most) marks
+        → Shows machine (post start setup.now marks from) → r.1 < most → Turns start setup.now marks (from + r.1) r.0 r.2) }
 {
-    let (stepped, touched) = machine.step_on(setup)?;
-    enter(table, first, apart, touched.fetch, stepped.pc());
-    Ok((stepped, touched.fetch.is_some()))
+    let mut machine = machine;
+    let mut next = pc;
+    for i in 0..most {
+        let (stepped, touched) = machine.step_on(setup)?;
+        machine = stepped;
+        match next.checked_add(apart) {
+            Some(after) if is_of(touched.fetch, apart) && machine.pc() == after => next = after,
+            _ => return Ok((machine, i, touched.fetch)),
+        }
+    }
+    Ok((machine, most, None))
+}
+
+/// Whether a step fetched a code of a length.
+#[inline(always)]
+fn is_of(code: Option<Span>, len: u32) -> bool
+    ensures { IsTrue result → HasLength len code }
+{
+    match code {
+        Some(code) => code.len == len,
+        None => false,
+    }
+}
+
+/// Enters the sides of so many steps that go straight ahead from an address.
+#[inline(always)]
+fn enter_straight(table: &mut Vec<Sides>, first: u32, apart: u32, pc: u32, count: u32)
+    requires apart { IsApart apart }
+    requires room { pc + apart * count < 2 ^ 32 }
+    ensures rows { length table.new.items ≡ length table.old.items }
+    ensures extends { (start : State) (setup : SetupOf) (marks : List AlterationOf) (from : ℕ) → GoesStraight start setup marks from pc apart count
+        → Extends start setup marks from (from + count) first apart table.old.items table.new.items }
+{
+    match place_at(first, apart, pc) {
+        Some(place) => enter_rows(table, first, apart, place, count),
+        None => enter_each(table, first, apart, pc, count),
+    }
+}
+
+/// The same, where a place is at the address.
+#[inline(always)]
+fn enter_rows(table: &mut Vec<Sides>, first: u32, apart: u32, place: usize, count: u32)
+    requires apart { IsApart apart }
+    requires room { place + count < 2 ^ 64 }
+    ensures rows { length table.new.items ≡ length table.old.items }
+    ensures extends { (start : State) (setup : SetupOf) (marks : List AlterationOf) (from : ℕ) → GoesStraight start setup marks from (first + apart * place) apart count
+        → Extends start setup marks from (from + count) first apart table.old.items table.new.items }
+{
+    for i in 0..count {
+        enter_row(table, first, apart, place + i as usize, true);
+    }
+}
+
+/// The same, one step after another.
+#[inline(never)]
+fn enter_each(table: &mut Vec<Sides>, first: u32, apart: u32, pc: u32, count: u32)
+    requires apart { IsApart apart }
+    requires room { pc + apart * count < 2 ^ 32 }
+    ensures rows { length table.new.items ≡ length table.old.items }
+    ensures extends { (start : State) (setup : SetupOf) (marks : List AlterationOf) (from : ℕ) → GoesStraight start setup marks from pc apart count
+        → Extends start setup marks from (from + count) first apart table.old.items table.new.items }
+{
+    let mut start = pc;
+    for _step in 0..count {
+        let after = start.wrapping_add(apart);
+        enter(table, first, apart, Some(Span { start, len: apart }), after);
+        start = after;
+    }
 }
 
 /// Enters the side of a step that fetches a code, if it does, and leaves pc at an address.
@@ -243,8 +317,17 @@ fn enter(table: &mut Vec<Sides>, first: u32, apart: u32, code: Option<Span>, pc:
     let Some(place) = place_at(first, apart, code.start) else {
         return;
     };
+    enter_row(table, first, apart, place, pc == code.start.wrapping_add(code.len));
+}
+
+/// Enters the side of the instruction of a row, if there is that row.
+#[inline(always)]
+fn enter_row(table: &mut Vec<Sides>, first: u32, apart: u32, place: usize, on: bool)
+    requires { IsApart apart }
+    ensures { Enters first apart (Some (sided (first + apart * place) on)) table.old.items table.new.items }
+{
     if place < table.len() {
-        add_side(&mut table[place], pc == code.start.wrapping_add(code.len));
+        add_side(&mut table[place], on);
     }
 }
 

@@ -1,4 +1,4 @@
-use Rattle.std.proofs.Common.{◌≡◌, ◌+◌, Bool, true, false, refl, arith, subst, sym}
+use Rattle.std.proofs.Common.{◌+◌, Bool, refl, arith, subst}
 use Rattle.guest_machine.specs.State.{State}
 use Rattle.guest_machine.specs.Shows.{Shows}
 use Rattle.guest_machine.specs.Run.{pre}

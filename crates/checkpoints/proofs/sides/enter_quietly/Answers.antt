@@ -1,83 +1,90 @@
-use Rattle.std.proofs.Common.{◌≡◌, ℕ, ◌+◌, ◌*◌, ◌<◌, ◌∙◌, Bool, List, arith, get_or, length, refl, sym, subst}
+use Rattle.std.proofs.Common.{◌≡◌, ◌+◌, ◌-◌, ◌<◌, ◌∙◌, List, arith, refl, subst}
 use Rattle.guest_machine.specs.State.{State}
-use Rattle.guest_machine.specs.Run.{post, pre}
+use Rattle.guest_machine.specs.Run.{post}
 use Rattle.guest_machine.specs.Shows.{Shows}
 use Rattle.run_values.specs.declared.alteration.Alteration.{Alteration}
+use Rattle.checkpoints.specs.Extending.{Extends, Turns}
 use Rattle.checkpoints.specs.Marks.{NoneBetween}
-use Rattle.checkpoints.specs.Merged.{AlsoSays}
-use Rattle.checkpoints.specs.Sides.{RowTells, sided}
-use Rattle.checkpoints.proofs.AlsoSteps.{also-more}
-use Rattle.checkpoints.proofs.QuietSteps.{steps-on, unmarked}
-use Rattle.checkpoints.proofs.SideSteps.{tells-more}
+use Rattle.checkpoints.proofs.ExtendSteps.{extends-none, extends-past, extends-then}
+use Rattle.checkpoints.proofs.QuietSteps.{unmarked}
 use Rattle.checkpoints.proofs.sides.enter_quietly.Goals as goal
 
-pub loop-k-init : goal.loop-k-init
-loop-k-init c = record {
+pub loop-at-init : goal.loop-at-init
+loop-at-init c = record {
+  later = omega arith;
+  within = omega arith;
   marked = λ start marks none h within. h;
   shows = λ start marks none h later. absurd (omega arith);
   rows = refl;
-  tells = λ start marks none h i on d less told. told;
-  also = λ start marks none h i on others d less says. says;
+  extends = λ start marks none h. extends-none start c.args.setup.now marks c.args.first c.args.apart c.args.from _;
 }
 
-pub loop-k-preserved : goal.loop-k-preserved
-loop-k-preserved c =
-    let inv = c.loop-k.invariant in
-    let k = c.loop-k.k in
+pub returns-then-at-end-clause-extends : goal.returns-then-at-end-clause-extends
+returns-then-at-end-clause-extends c start marks none h =
+    let inv = c.loop-at.invariant in
+    let at = c.loop-at.at in
     let setup = c.args.setup.now in
-    let done = c.in_ok-stepped.ensures in
-    let within : k < c.args.end = omega arith in
-    let next : (start : State) (marks : List Alteration) → NoneBetween c.args.from c.args.end marks
+    let till : NoneBetween at (at + (c.args.end - at)) marks = λ k low high. none k (omega (arith, low))
+    (omega (arith, high)) in
+    let all : at + c.in_ok-stepped.count ≡ c.args.end = omega arith in
+    subst (λ n. Extends start setup marks c.args.from n c.args.first c.args.apart c.args.table.now.items
+    c.enter_straight.new.table.items) all
+    (extends-then start setup marks c.args.first c.args.apart c.args.from at (at + c.in_ok-stepped.count) _ _ _
+    inv.rows (inv.extends start marks none h)
+    (c.enter_straight.ensures.extends start setup marks at
+    (c.in_ok-stepped.ensures.straight start marks at till (inv.marked start marks none h (omega arith)))))
+
+pub loop-at-preserved : goal.loop-at-preserved
+loop-at-preserved c =
+    let inv = c.loop-at.invariant in
+    let at = c.loop-at.at in
+    let setup = c.args.setup.now in
+    let stepped = c.in_ok-stepped.stepped in
+    let count = c.in_ok-stepped.count in
+    let within : at < c.args.end = omega arith in
+    let fewer : count < c.args.end - at = omega (arith, c.if-at-end.false, c.in_ok-stepped.ensures.within) in
+    let till : (marks : List Alteration) → NoneBetween c.args.from c.args.end marks
+    → NoneBetween at (at + (c.args.end - at)) marks =
+    λ marks none k low high. none k (omega (arith, low)) (omega (arith, high)) in
+    let turns : (start : State) (marks : List Alteration) → NoneBetween c.args.from c.args.end marks
     → Shows c.args.machine (post start setup marks c.args.from)
-    → Shows c.in_ok-stepped.stepped (pre start setup marks (k + 1)) =
-    λ start marks none h. steps-on start setup marks k c.loop-k.machine c.in_ok-stepped.stepped done.shows
-    (inv.marked start marks none h within) in
+    → Turns start setup marks (at + count) stepped c.in_ok-stepped.code =
+    λ start marks none h. c.in_ok-stepped.ensures.turned start marks at (till marks none)
+    (inv.marked start marks none h within) fewer in
     record {
-      marked = λ start marks none h low. unmarked start setup marks (k + 1) c.in_ok-stepped.stepped
-          (none (k + 1) (omega arith) low) (next start marks none h);
-      shows = λ start marks none h later. next start marks none h;
-      rows = done.rows ∙ inv.rows;
-      tells = λ start marks none h i on d less told.
-          let entered = done.entered _ (inv.marked start marks none h within) in
-          let there = subst (λ n. i < n) (sym inv.rows) less in
-          tells-more start setup marks k _ on _ _ (inv.tells start marks none h i on d less told)
-          (entered.tells i on d there) (entered.again i on d there);
-      also = λ start marks none h i on others d less says.
-          let entered = done.entered _ (inv.marked start marks none h within) in
-          also-more start setup marks k _ on others (get_or c.loop-k.table.items i d)
-          (get_or c.step_entering.new.table.items i d) (inv.also start marks none h i on others d less says)
-          (entered.tells i on d (subst (λ n. i < n) (sym inv.rows) less));
+      later = omega arith;
+      within = omega arith;
+      marked = λ start marks none h less. unmarked start setup marks (at + count + 1) stepped
+          (none (at + count + 1) (omega arith) less) (turns start marks none h).shows;
+      shows = λ start marks none h later. (turns start marks none h).shows;
+      rows = c.enter.ensures.rows ∙ c.enter_straight.ensures.rows ∙ inv.rows;
+      extends = λ start marks none h.
+          extends-past start setup marks c.args.first c.args.apart c.args.from at count c.pc.result stepped
+          c.in_ok-stepped.code _ _ _ _ inv.rows c.enter_straight.ensures.rows (inv.extends start marks none h)
+          (c.enter_straight.ensures.extends start setup marks at
+          (c.in_ok-stepped.ensures.straight start marks at (till marks none)
+          (inv.marked start marks none h within)))
+          (turns start marks none h) c.pc.ensures c.enter.ensures;
     }
 
-pub returns-then-not-is_running-clause-shows : goal.returns-then-not-is_running-clause-shows
-returns-then-not-is_running-clause-shows c start marks none h =
-    steps-on start c.args.setup.now marks c.loop-k.k c.loop-k.machine c.in_ok-stepped.stepped
-    c.in_ok-stepped.ensures.shows (c.loop-k.invariant.marked start marks none h (omega arith))
+pub returns-then-not-is_running-clause-extends : goal.returns-then-not-is_running-clause-extends
+returns-then-not-is_running-clause-extends c start marks none h =
+    let inv = c.loop-at.invariant in
+    let at = c.loop-at.at in
+    let setup = c.args.setup.now in
+    let till : NoneBetween at (at + (c.args.end - at)) marks = λ k low high. none k (omega (arith, low))
+    (omega (arith, high)) in
+    let marked = inv.marked start marks none h (omega arith) in
+    extends-past start setup marks c.args.first c.args.apart c.args.from at c.in_ok-stepped.count c.pc.result
+    c.in_ok-stepped.stepped c.in_ok-stepped.code _ _ _ _ inv.rows c.enter_straight.ensures.rows
+    (inv.extends start marks none h)
+    (c.enter_straight.ensures.extends start setup marks at
+    (c.in_ok-stepped.ensures.straight start marks at till marked))
+    (c.in_ok-stepped.ensures.turned start marks at till marked
+    (omega (arith, c.if-at-end.false, c.in_ok-stepped.ensures.within))) c.pc.ensures c.enter.ensures
 
-pub returns-then-not-is_running-clause-tells : goal.returns-then-not-is_running-clause-tells
-returns-then-not-is_running-clause-tells c start marks none h i on d less told =
-    let inv = c.loop-k.invariant in
-    let entered = c.in_ok-stepped.ensures.entered _ (inv.marked start marks none h (omega arith)) in
-    let there = subst (λ n. i < n) (sym inv.rows) less in
-    tells-more start c.args.setup.now marks c.loop-k.k _ on _ _ (inv.tells start marks none h i on d less told)
-    (entered.tells i on d there) (entered.again i on d there)
-
-pub returns-clause-tells : goal.returns-clause-tells
-returns-clause-tells c start marks none h i on d less told =
-    let all : c.loop-k.k ≡ c.args.end = omega arith in
-    subst (λ n. RowTells start c.args.setup.now marks n (sided (c.args.first + c.args.apart * i) on)
-    (get_or c.loop-k.table.items i d)) all (c.loop-k.invariant.tells start marks none h i on d less told)
-
-pub returns-then-not-is_running-clause-also : goal.returns-then-not-is_running-clause-also
-returns-then-not-is_running-clause-also c start marks none h i on others d less says =
-    let inv = c.loop-k.invariant in
-    let entered = c.in_ok-stepped.ensures.entered _ (inv.marked start marks none h (omega arith)) in
-    also-more start c.args.setup.now marks c.loop-k.k _ on others (get_or c.loop-k.table.items i d)
-    (get_or c.step_entering.new.table.items i d) (inv.also start marks none h i on others d less says)
-    (entered.tells i on d (subst (λ n. i < n) (sym inv.rows) less))
-
-pub returns-clause-also : goal.returns-clause-also
-returns-clause-also c start marks none h i on others d less says =
-    let all : c.loop-k.k ≡ c.args.end = omega arith in
-    subst (λ n. AlsoSays others start c.args.setup.now marks n (sided (c.args.first + c.args.apart * i) on)
-    (get_or c.loop-k.table.items i d)) all (c.loop-k.invariant.also start marks none h i on others d less says)
+pub returns-clause-extends : goal.returns-clause-extends
+returns-clause-extends c start marks none h =
+    let all : c.loop-at.at ≡ c.args.end = omega arith in
+    subst (λ n. Extends start c.args.setup.now marks c.args.from n c.args.first c.args.apart c.args.table.now.items
+    c.loop-at.table.items) all (c.loop-at.invariant.extends start marks none h)

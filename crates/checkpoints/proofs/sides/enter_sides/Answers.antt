@@ -1,12 +1,10 @@
-use Rattle.std.proofs.Common.{◌≡◌, ◌+◌, ◌*◌, ◌<◌, ◌≤◌, ◌∙◌, arith, get_or, refl, sym, subst}
+use Rattle.std.proofs.Common.{◌≡◌, ◌+◌, ◌≤◌, ◌∙◌, arith, refl, subst, sym}
 use Rattle.guest_machine.specs.Run.{pre, post}
 use Rattle.guest_machine.specs.Shows.{Shows}
+use Rattle.checkpoints.specs.Extending.{Extends}
 use Rattle.checkpoints.specs.Marks.{NoneBetween}
-use Rattle.checkpoints.specs.Merged.{AlsoSays}
-use Rattle.checkpoints.specs.Sides.{RowTells, sided}
-use Rattle.checkpoints.proofs.AlsoSteps.{also-halted}
+use Rattle.checkpoints.proofs.ExtendSteps.{extends-halted, extends-none, extends-then}
 use Rattle.checkpoints.proofs.MarkSteps.{none-later}
-use Rattle.checkpoints.proofs.SideSteps.{tells-halted}
 use Rattle.checkpoints.proofs.sides.enter_sides.Goals as goal
 
 pub loop-at-init : goal.loop-at-init
@@ -16,8 +14,7 @@ loop-at-init c = record {
   later = omega arith;
   within = c.requires.forward;
   rows = refl;
-  tells = λ start i on d h less told. told;
-  also = λ start i on others d h less says. says;
+  extends = λ start h. extends-none start c.args.setup.now c.args.marks.now c.args.first c.args.apart c.args.from _;
 }
 
 pub loop-at-preserved : goal.loop-at-preserved
@@ -38,29 +35,22 @@ loop-at-preserved c =
       later = omega (arith, inv.later, on);
       within = omega (arith, done.within, quiet.within);
       rows = done.rows ∙ inv.rows;
-      tells = λ start i on d h less told.
-          done.tells start marks none (c.in_ok-marked.ensures.shows _ (inv.shows start h)) i on d
-          (subst (λ n. i < n) (sym inv.rows) less) (inv.tells start i on d h less told);
-      also = λ start i on others d h less says.
-          done.also start marks none (c.in_ok-marked.ensures.shows _ (inv.shows start h)) i on others d
-          (subst (λ n. i < n) (sym inv.rows) less) (inv.also start i on others d h less says);
+      extends = λ start h. extends-then start c.args.setup.now marks c.args.first c.args.apart c.args.from at _ _ _ _
+          inv.rows (inv.extends start h)
+          (done.extends start marks none (c.in_ok-marked.ensures.shows _ (inv.shows start h)));
     }
 
-pub returns-then-not-is_running-clause-tells : goal.returns-then-not-is_running-clause-tells
-returns-then-not-is_running-clause-tells c start i on d h less told =
+pub returns-then-not-is_running-clause-extends : goal.returns-then-not-is_running-clause-extends
+returns-then-not-is_running-clause-extends c start h =
     let inv = c.loop-at.invariant in
     let at = c.loop-at.at in
+    let setup = c.args.setup.now in
+    let marks = c.args.marks.now in
     let halted = sym (c.if-not-is_running.ensures _ (inv.shows start h)) in
-    tells-halted start c.args.setup.now c.args.marks.now c.stays_halted.ensures at c.args.to _ on _ (omega arith) halted
-    (inv.tells start i on d h less told)
-
-pub returns-then-not-is_running-clause-also : goal.returns-then-not-is_running-clause-also
-returns-then-not-is_running-clause-also c start i on others d h less says =
-    let inv = c.loop-at.invariant in
-    let at = c.loop-at.at in
-    let halted = sym (c.if-not-is_running.ensures _ (inv.shows start h)) in
-    also-halted start c.args.setup.now c.args.marks.now c.stays_halted.ensures at c.args.to _ on others
-    (get_or c.loop-at.table.items i d) (omega arith) halted (inv.also start i on others d h less says)
+    extends-then start setup marks c.args.first c.args.apart c.args.from at c.args.to _ _ _ inv.rows
+    (inv.extends start h)
+    (extends-halted start setup marks c.args.first c.args.apart c.stays_halted.ensures at c.args.to _ (omega arith)
+    halted)
 
 pub returns : goal.returns
 returns c =
@@ -70,10 +60,6 @@ returns c =
     let all : c.loop-at.at ≡ c.args.to = omega arith in record {
       shows = λ start h. subst (λ n. Shows c.loop-at.machine (pre start setup marks n)) all (inv.shows start h);
       rows = inv.rows;
-      tells = λ start i on d h less told.
-          subst (λ n. RowTells start setup marks n (sided (c.args.first + c.args.apart * i) on)
-          (get_or c.loop-at.table.items i d)) all (inv.tells start i on d h less told);
-      also = λ start i on others d h less says.
-          subst (λ n. AlsoSays others start setup marks n (sided (c.args.first + c.args.apart * i) on)
-          (get_or c.loop-at.table.items i d)) all (inv.also start i on others d h less says);
+      extends = λ start h. subst (λ n. Extends start setup marks c.args.from n c.args.first c.args.apart
+          c.args.table.now.items c.loop-at.table.items) all (inv.extends start h);
     }

@@ -1,4 +1,4 @@
-use Rattle.std.proofs.Common.{◌≡◌, ℕ, ◌+◌, ◌≤◌, ◌^◌, subst, sym}
+use Rattle.std.proofs.Common.{ℕ, ◌+◌, ◌≤◌, ◌^◌, subst, sym}
 use Rattle.std.proofs.lemmas.Result.{IfOk-weaker}
 use Rattle.instructions.specs.Codes.{len_of}
 use Rattle.checkpoints.specs.Effects.{code_effect}

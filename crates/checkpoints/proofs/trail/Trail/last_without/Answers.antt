@@ -1,4 +1,4 @@
-use Rattle.std.proofs.Common.{◌≡◌, ℕ, Bool, ap, sym, ◌∙◌, subst}
+use Rattle.std.proofs.Common.{Bool, ap, sym, ◌∙◌, subst}
 use Rattle.checkpoints.specs.Effects.{Run, effect_by}
 use Rattle.checkpoints.specs.Forks.{IsLastUnshown}
 use Rattle.checkpoints.specs.Writes.{touch_code}

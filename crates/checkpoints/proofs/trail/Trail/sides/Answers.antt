@@ -33,7 +33,7 @@ returns c start right =
           let within = subst (λ n. i < n) c.in_ok-enter_sides.ensures.rows less in
           subst (λ n. RowTells start setup marks c.args.step (sided (first + n * i) on)
           (get_or c.enter_sides.new.table.items i d)) far
-          (c.in_ok-enter_sides.ensures.tells start i on d shows within
+          ((c.in_ok-enter_sides.ensures.extends start shows).tells i on d within
           (tells-none start setup marks (first + c.unit-apart.result * i) on (get_or c.in_ok-table.table.items i d)
           (c.in_ok-table.ensures.once i on d (subst (λ n. i < n) c.in_ok-table.ensures.rows within))
           (c.in_ok-table.ensures.again i on d (subst (λ n. i < n) c.in_ok-table.ensures.rows within))));
