@@ -51,6 +51,8 @@
 #![tactic(auto)]
 
 mod merging;
+mod plan_text;
+mod plans;
 mod serving;
 mod taking;
 mod texts;
