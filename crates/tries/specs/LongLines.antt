@@ -69,7 +69,7 @@ pub long_alike : (old new : TriesStage) (a b text : List ℕ) → longest_line <
 long_alike old new a b text f g h =
     let turn = old.session.turn in
     let other = is-other old new a text (too-long (codes "try") turn a f) (too-long (codes "tries") turn a f)
-        (too-long (codes "differs") turn a f) h in
+    (too-long (codes "differs") turn a f) h in
     as_other old new b text (too-long (codes "try") turn b g) (too-long (codes "tries") turn b g)
     (too-long (codes "differs") turn b g) (record {
       passes = as_passed old b text new.session (never-takes b g)

@@ -198,30 +198,30 @@ TriedAll sc range (attempt ∷ attempts) old new =
 abbrev pub AreFirstOf : List Attempt → List Attempt → Type 0
 AreFirstOf done attempts = (rest : List Attempt) × (attempts ≡ done ++ rest)
 
--- all edits were tried, or the first of them, until memory ran out
-abbrev pub Covers : {X E : Type 0} → Result X E → List Attempt → List Attempt → Type 0
-Covers (Ok _) attempts done = done ≡ attempts
-Covers (Err _) attempts done = AreFirstOf done attempts
+-- were all edits tried? If not, the first of them were, until memory ran out
+abbrev pub Covers : Bool → List Attempt → List Attempt → Type 0
+Covers true attempts done = done ≡ attempts
+Covers false attempts done = AreFirstOf done attempts
 
 -- the last line of a reply to a plan says so
-abbrev pub last_line : {X E : Type 0} → Result X E → List ℕ
-last_line (Ok _) = codes "end\n"
-last_line (Err _) = refused_line Memory
+abbrev pub last_line : Bool → List ℕ
+last_line true = codes "end\n"
+last_line false = refused_line Memory
 
--- edits were tried, as far as memory went
-pub record TriedUpTo {X E : Type 0} (done : Result X E) (sc : Scenario) (range : Span) (attempts : List Attempt)
-    (old new : Gathered) : Type 0 where
-  pub tries : List Attempt
-  pub covers : Covers done attempts tries
-  pub tried : TriedAll sc range tries old new
+-- edits were tried, all or as many as memory allowed
+pub record TriedUpTo (all : Bool) (sc : Scenario) (range : Span) (attempts : List Attempt) (old new : Gathered)
+    : Type 0 where
+  pub done : List Attempt
+  pub covers : Covers all attempts done
+  pub tried : TriedAll sc range done old new
 
--- a plan's edits were tried, as far as memory went, and then there is no last try
+-- a plan's edits were tried, and then there is no last try
 pub record Planned (old : TriesStage) (plan : BytePlan) (text : List ℕ) (new : TriesStage) : Type 0 where
-  pub done : Result Unit Unit
+  pub all : Bool
   pub told : List ℕ
-  pub tried : TriedUpTo done old.session.turn.scenario old.range
+  pub tried : TriedUpTo all old.session.turn.scenario old.range
       (attempts_of plan old.session.turn.scenario.setup.input) (gathered old []) (gathered new told)
-  pub replies : text ≡ told ++ last_line done
+  pub replies : text ≡ told ++ last_line all
   pub last : new.last ≡ None
 
 -- the reply to a line that tries a plan, unless it is rejected

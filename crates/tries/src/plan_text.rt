@@ -1,5 +1,5 @@
 //! The reply to a plan of tries, as it grows.
-ghost use Rattle.std.specs.Prelude.{◌≡◌, ◌≤◌, ◌+◌, length, vec_capacity, vec_len};
+ghost use Rattle.std.specs.Prelude.{◌≡◌, ◌≤◌, ◌+◌, is_ok, length, vec_capacity, vec_len};
 ghost use Rattle.tries.specs.Tries.{last_line};
 
 use std::alloc::{AllocError, Global};
@@ -22,7 +22,7 @@ pub(crate) struct PlanText {
 
 /// The last line, by whether all was tried.
 fn last_line(done: Result<(), AllocError>) -> &'static [u8]
-    ensures line { result.now ≡ last_line done }
+    ensures line { result.now ≡ last_line (is_ok done) }
     ensures short { length result.now ≤ 10 }
 {
     match done {
@@ -65,7 +65,7 @@ impl PlanText {
 
     /// Returns the reply with its last line.
     pub(crate) fn end(self, done: Result<(), AllocError>) -> Vec<u8>
-        ensures { result.items ≡ self.bytes.items ++ last_line done }
+        ensures { result.items ≡ self.bytes.items ++ last_line (is_ok done) }
     {
         let mut bytes = self.bytes;
         let Ok(()) = bytes.extend_from_slice(last_line(done)) else {

@@ -85,17 +85,17 @@ fn tell_planned(
         (number_of (entries_of told.old) tried.outcome.items) tried.outcome.items (news_of seen.old.items tried.sides.items) (agains_of seen.old.items tried.sides.items)) }
     ensures told { OnOk result (entries_of told.new ≡ with_text (entries_of told.old) tried.outcome.items) }
     ensures seen { OnOk result (IsMerged seen.old.items tried.sides.items seen.new.items) }
-    ensures kept { OnErr result ((entries_of told.new ≡ entries_of told.old) × (seen.new ≡ seen.old) × (text.new.bytes.items ≡ text.old.bytes.items)) }
+    ensures kept { OnErr result ((entries_of told.new ≡ entries_of told.old) × (seen.new.items ≡ seen.old.items) × (text.new.bytes.items ≡ text.old.bytes.items)) }
 {
-    let mut run = tried.sides;
-    let news = merge(seen, &mut run);
+    let mut sides = tried.sides;
+    let news = merge(seen, &mut sides);
     piece.clear();
     let found = told.find(&tried.outcome);
     push_planned(piece, attempt, found, &tried.outcome, news)?;
     text.make_room(piece.len())?;
-    let _found = told.meet(&tried.outcome)?;
+    let _met = told.meet(&tried.outcome)?;
     text.push(piece);
-    *seen = run;
+    *seen = sides;
     Ok(())
 }
 
@@ -123,7 +123,7 @@ pub struct Tries<'a> {
 }
 
 impl<'a> Tries<'a> {
-    ghost use Rattle.std.specs.Prelude.{◌≡◌, ◌<◌, ◌≤◌, ◌∷◌, [], if◌then◌else◌, length, IfOk, OnOk, OnErr, false, true};
+    ghost use Rattle.std.specs.Prelude.{◌≡◌, ◌<◌, ◌≤◌, ◌∷◌, [], if◌then◌else◌, is_ok, length, slice_index_or, IfOk, OnOk, OnErr, false, true};
     ghost use Rattle.checkpoints.specs.Effects.{IsOfSetup};
     ghost use Rattle.replay_session.specs.Session.{scenario_of, turn_of};
     ghost use Rattle.replay_session.specs.Stages.{stage_of};
@@ -263,7 +263,7 @@ impl<'a> Tries<'a> {
     ) -> Result<(), AllocError>
         requires { attempt.offset < length (scenario_of self.old.viewer.session).setup.input }
         ensures base { LeavesBase (stage_of_tries self.old) (stage_of_tries self.new) }
-        ensures tried { TriedUpTo result (scenario_of self.old.viewer.session) self.old.range (if is_wanted then attempt ∷ [] else [])
+        ensures tried { TriedUpTo (is_ok result) (scenario_of self.old.viewer.session) self.old.range (if is_wanted then attempt ∷ [] else [])
             (gathered (stage_of_tries self.old) text.old.bytes.items) (gathered (stage_of_tries self.new) text.new.bytes.items) }
     {
         if is_wanted {
@@ -271,6 +271,14 @@ impl<'a> Tries<'a> {
         } else {
             Ok(())
         }
+    }
+
+    /// Returns a byte of the session's input.
+    fn byte_at(&self, offset: u32) -> u8
+        requires { offset < length (scenario_of self.now.viewer.session).setup.input }
+        ensures { result ≡ slice_index_or (scenario_of self.now.viewer.session).setup.input offset 0 }
+    {
+        self.viewer.session.input()[offset as usize]
     }
 
     /// Tries a byte with each of the wanted values.
@@ -282,14 +290,15 @@ impl<'a> Tries<'a> {
     ) -> Result<(), AllocError>
         requires { offset < length (scenario_of self.old.viewer.session).setup.input }
         ensures base { LeavesBase (stage_of_tries self.old) (stage_of_tries self.new) }
-        ensures tried { TriedUpTo result (scenario_of self.old.viewer.session) self.old.range
+        ensures tried { TriedUpTo (is_ok result) (scenario_of self.old.viewer.session) self.old.range
             (attempts_at values.now (scenario_of self.old.viewer.session).setup.input offset)
             (gathered (stage_of_tries self.old) text.old.bytes.items) (gathered (stage_of_tries self.new) text.new.bytes.items) }
     {
-        let old = self.viewer.session.input()[offset as usize];
-        for value in 0..VALUES {
-            let value = value as u8;
-            self.try_if(text, values.wants_other(old, value), Attempt { offset, value })?;
+        let own = self.byte_at(offset);
+        for other in 0..VALUES {
+            let value = other as u8;
+            let is_wanted = values.wants_other(own, value);
+            self.try_if(text, is_wanted, Attempt { offset, value })?;
         }
         Ok(())
     }
@@ -298,12 +307,13 @@ impl<'a> Tries<'a> {
     fn try_places(&mut self, text: &mut PlanText, plan: &BytePlan) -> Result<(), AllocError>
         requires { plan.now.places.end ≤ length (scenario_of self.old.viewer.session).setup.input }
         ensures base { LeavesBase (stage_of_tries self.old) (stage_of_tries self.new) }
-        ensures tried { TriedUpTo result (scenario_of self.old.viewer.session) self.old.range
+        ensures tried { TriedUpTo (is_ok result) (scenario_of self.old.viewer.session) self.old.range
             (attempts_of plan.now (scenario_of self.old.viewer.session).setup.input)
             (gathered (stage_of_tries self.old) text.old.bytes.items) (gathered (stage_of_tries self.new) text.new.bytes.items) }
     {
-        for i in 0..plan.places.count() {
-            self.try_place(text, &plan.values, plan.places.first + i)?;
+        let places = plan.places;
+        for i in 0..places.count() {
+            self.try_place(text, &plan.values, places.first + i)?;
         }
         Ok(())
     }
@@ -315,8 +325,8 @@ impl<'a> Tries<'a> {
         ensures base { LeavesBase (stage_of_tries self.old) (stage_of_tries self.new) }
         ensures planned { Planned (stage_of_tries self.old) plan.now (reply_of_tries self.new) (stage_of_tries self.new) }
     {
-        self.last = None;
         let Ok(mut text) = PlanText::new(self.viewer.session.allocator()) else {
+            self.last = None;
             self.refuse(Fault::Memory);
             return;
         };
