@@ -186,10 +186,13 @@ Example, the last write of a word before the first 5000 steps are over:
 pub(crate) const AFTER_TRIES: &str = with_refusals!(
     "\
 The lines of `replaycheck session` and `replaycheck look`, whose help lists them, and these. Those
-that begin with `try` and `differs` edit nothing and don't count. Each is answered for the run of
-another input, with all other edits, up to the chosen step. HEX is two hexadecimal digits each byte:
+that begin with `try`, `tries` and `differs` edit nothing and don't count. Each is answered for the
+run of another input, with all other edits, up to the chosen step. HEX is two hexadecimal digits
+each byte:
   try [HEX]                 tries these bytes as the whole input
   try A HEX                 tries the input with its bytes from offset A on replaced by these
+  tries A..B VALUES         tries the bytes from offset A up to B, which isn't one of them, each
+                            with the values that `sweep --values` names: all, flips or edges
   differs [HEX]             lists the compares in which the run of these bytes differs from the run
                             of the session, which has all edits and no other input
   differs A HEX             lists them for the input with its bytes from offset A on replaced
@@ -202,6 +205,7 @@ The reply to `try` is this line, after the outcome if no earlier try had the sam
                             least twice, and that no earlier try had twice
   outcome K                 an outcome, numbered from 0, and its lines as in a table of
                             `replaycheck sweep`
+The reply to `tries` is each line `try A HEX` that does something new, with its reply, and `end`.
 A side is an instruction with whether the run continued after it or elsewhere. Sides are told of
 the segment in which the program begins, at most of its first 4 MiB in the file.
 

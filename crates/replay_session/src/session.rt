@@ -413,6 +413,14 @@ impl<'a> Session<'a> {
         self.scenario.setup().input.len() as u64
     }
 
+    /// Returns the input.
+    #[tactic(auto, unfolding(crate::specs::Session::turn_of))]
+    pub fn input(&self) -> &[u8]
+        ensures { result.now ≡ (scenario_of self.now).setup.input }
+    {
+        self.scenario.input()
+    }
+
     /// Appends the line of the verdict on the run up to the chosen step. The trail then holds machines as after a report. The steps that
     /// find the first use count on its meter too.
     #[tactic(auto, unfolding(crate::specs::Session::turn_of, crate::specs::Session::trail_of))]

@@ -40,7 +40,7 @@ impl ByteValues {
     }
 
     /// Returns the same, but false if `new` is `old`.
-    fn wants_other(&self, old: u8, new: u8) -> bool
+    pub fn wants_other(&self, old: u8, new: u8) -> bool
         ensures { result ≡ (not (new == old) && is_wanted self.now old new) }
     {
         new != old && self.wants(old, new)

@@ -11,8 +11,8 @@ use Rattle.looks.specs.Views.{Views, giving, looks}
 use Rattle.replay_session.specs.Replies.{RepliesAs, is_over}
 use Rattle.replay_session.specs.Stages.{Stage}
 use Rattle.replay_session.specs.Turns.{Turn, accepted_as}
-use Rattle.tries.specs.Tries.{Differ, Others, Passes, TellsLine, Tried, Tries, TriesStage, asks, differs, last_after}
-use Rattle.tries.specs.Tries.{taken, takes, tries}
+use Rattle.tries.specs.Tries.{Differ, Others, Passes, PlansLine, TellsLine, Tried, Tries, TriesStage, asks, differs}
+use Rattle.tries.specs.Tries.{last_after, plans, taken, takes, tries}
 
 too-long : (word : List ℕ) (turn : Turn) (line : List ℕ) → longest_line < length line → asks word turn line ≡ false
 unfolding asks
@@ -29,21 +29,26 @@ never-takes line h =
     not-so _ (λ same. true≢false (lt-leb (length (codes "take")) longest_line
     (subst (λ (l : List ℕ). longest_line < length l) ((bytes_eq-Decides line (codes "take")).0 same) h)))
 
--- a line that is neither
+-- a line that is none of the three
 module _ (old new : TriesStage) (line text : List ℕ) (no : tries old.session.turn line ≡ false)
-    (nor : differs old.session.turn line ≡ false) where
+    (none : plans old.session.turn line ≡ false) (nor : differs old.session.turn line ≡ false) where
   abbrev Rest : Type 0
   Rest = MatchBool (differs old.session.turn line) (TellsLine Differ old line text new) (Others old line text new)
 
+  abbrev More : Type 0
+  More = MatchBool (plans old.session.turn line) (PlansLine old line text new) Rest
+
   pub as_other : Others old line text new → Tries old line text new
   as_other h =
-      subst (λ (t : Bool). MatchBool t (TellsLine Tried old line text new) Rest) (sym no)
-      (subst (λ (t : Bool). MatchBool t (TellsLine Differ old line text new) (Others old line text new)) (sym nor) h)
+      subst (λ (t : Bool). MatchBool t (TellsLine Tried old line text new) More) (sym no)
+      (subst (λ (t : Bool). MatchBool t (PlansLine old line text new) Rest) (sym none)
+      (subst (λ (t : Bool). MatchBool t (TellsLine Differ old line text new) (Others old line text new)) (sym nor) h))
 
   is-other : Tries old line text new → Others old line text new
   is-other h =
       subst (λ (t : Bool). MatchBool t (TellsLine Differ old line text new) (Others old line text new)) nor
-      (subst (λ (t : Bool). MatchBool t (TellsLine Tried old line text new) Rest) no h)
+      (subst (λ (t : Bool). MatchBool t (PlansLine old line text new) Rest) none
+      (subst (λ (t : Bool). MatchBool t (TellsLine Tried old line text new) More) no h))
 
 -- nor is it `take`
 module _ (old : TriesStage) (line text : List ℕ) (new : Stage) (no : takes line ≡ false) where
@@ -63,8 +68,10 @@ pub long_alike : (old new : TriesStage) (a b text : List ℕ) → longest_line <
     → Tries old a text new → Tries old b text new
 long_alike old new a b text f g h =
     let turn = old.session.turn in
-    let other = is-other old new a text (too-long (codes "try") turn a f) (too-long (codes "differs") turn a f) h in
-    as_other old new b text (too-long (codes "try") turn b g) (too-long (codes "differs") turn b g) (record {
+    let other = is-other old new a text (too-long (codes "try") turn a f) (too-long (codes "tries") turn a f)
+    (too-long (codes "differs") turn a f) h in
+    as_other old new b text (too-long (codes "try") turn b g) (too-long (codes "tries") turn b g)
+    (too-long (codes "differs") turn b g) (record {
       passes = as_passed old b text new.session (never-takes b g)
           (views_alike old.session new.session a b text f g
           (is-passed old a text new.session (never-takes a f) other.passes));

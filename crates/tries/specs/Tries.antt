@@ -25,6 +25,9 @@ use Rattle.scenario.specs.Scenario.{Scenario, IsOutlineOf, first_state, run_of}
 use Rattle.tallies.specs.Tallied.{is_met, number_of, with_text}
 use Rattle.tries.specs.Merging.{IsMerged, agains_of, news_of}
 use Rattle.look_lines.specs.Ranges.{range_of}
+use Rattle.tries.specs.Plans.{attempts_of, edit_of, plan_asked, try_line}
+use Rattle.tries.specs.declared.plans.Attempt.{Attempt}
+use Rattle.tries.specs.declared.plans.BytePlan.{BytePlan}
 
 -- what the lines so far have left: the session's stage, the range of which sides are told, what the runs of tries have
 -- done there, their outcomes, and the edit of the last try, if the lines after it only try, ask for compares or look
@@ -49,9 +52,12 @@ untried session = record {
 unfoldable pub asks : List ℕ → Turn → List ℕ → Bool
 asks word turn line = begins_with word line && not (is_over turn) && nat_le (length line) longest_line
 
--- does a line try an input, or ask in which compares its run differs?
+-- does a line try an input, or a plan of inputs, or ask in which compares its run differs?
 abbrev pub tries : Turn → List ℕ → Bool
 tries = asks (codes "try")
+
+abbrev pub plans : Turn → List ℕ → Bool
+plans = asks (codes "tries")
 
 abbrev pub differs : Turn → List ℕ → Bool
 differs = asks (codes "differs")
@@ -70,21 +76,39 @@ unfoldable pub tried_text : Bool → ℕ → List ℕ → ℕ → ℕ → List �
 tried_text met number outcome sides again =
     (if met then [] else outcome_text number outcome) ++ tried_line number sides again
 
+-- what the runs of tries have done, their outcomes, and the text of a reply so far
+pub record Gathered : Type 0 where
+  pub seen : List Sides
+  pub told : List (List ℕ × ℕ)
+  pub text : List ℕ
+
+abbrev pub gathered : TriesStage → List ℕ → Gathered
+gathered stage text = record { seen = stage.seen; told = stage.told; text = text }
+
+-- what is told of a try: by whether its outcome was met, its number, the outcome, and how many sides are new
+abbrev pub Wording : Type 0
+Wording = Bool → ℕ → List ℕ → ℕ → ℕ → List ℕ
+
+-- an edit of a scenario was tried: the outcome and the sides are those of one run from step zero of the edited scenario
+pub record TriedAs (sc : Scenario) (range : Span) (wording : Wording) (edit : Edit) (old new : Gathered) : Type 0 where
+  pub outcome : List ℕ
+  pub run : List Sides
+  pub is_outcome : IsOutlineOf false (row sc edit).after outcome
+  pub is_run : IsSidesOf (row sc edit).after range run
+  pub tells : new.text
+      ≡ old.text ++ wording (is_met old.told outcome) (number_of old.told outcome) outcome (news_of old.seen run)
+      (agains_of old.seen run)
+  pub told : new.told ≡ with_text old.told outcome
+  pub seen : IsMerged old.seen run new.seen
+
 -- a try leaves the session's turn and whether the trail is short, and the range
 pub record LeavesBase (old new : TriesStage) : Type 0 where
   pub session : Leaves old.session new.session
   pub range : new.range ≡ old.range
 
--- an edit was tried: the outcome and the sides are those of one run from step zero of the edited scenario
+-- an edit was tried, and is that of the last try
 pub record Tried (old : TriesStage) (edit : Edit) (text : List ℕ) (new : TriesStage) : Type 0 where
-  pub outcome : List ℕ
-  pub run : List Sides
-  pub is_outcome : IsOutlineOf false (row old.session.turn.scenario edit).after outcome
-  pub is_run : IsSidesOf (row old.session.turn.scenario edit).after old.range run
-  pub tells : text ≡ tried_text (is_met old.told outcome) (number_of old.told outcome) outcome (news_of old.seen run)
-      (agains_of old.seen run)
-  pub told : new.told ≡ with_text old.told outcome
-  pub seen : IsMerged old.seen run new.seen
+  pub tried : TriedAs old.session.turn.scenario old.range tried_text edit (gathered old []) (gathered new text)
   pub last : new.last ≡ Some edit
 
 -- `STEP PC A B A' B'`: the step of a compare, its address, its operands, and those of the other run
@@ -157,6 +181,58 @@ TellsLine Tells old line text new =
     × ReadsFor (length old.session.turn.scenario.setup.input) (edit_tried line) read
     × ToldAs Tells old read text new)
 
+-- what is told of a try of a plan: nothing, unless its outcome or sides are new; and else the line that tries the edit
+-- comes first
+unfoldable pub planned_text : Attempt → Wording
+planned_text attempt met number outcome sides again =
+    if met && (sides == 0 && again == 0) then [] else try_line attempt ++ tried_text met number outcome sides again
+
+-- edits of a scenario were tried, one after another
+abbrev pub TriedAll : Scenario → Span → List Attempt → Gathered → Gathered → Type 0
+TriedAll sc range [] old new = new ≡ old
+TriedAll sc range (attempt ∷ attempts) old new =
+    (mid : Gathered) × TriedAs sc range (planned_text attempt) (edit_of attempt) old mid
+    × TriedAll sc range attempts mid new
+
+-- these are the first of some edits
+abbrev pub AreFirstOf : List Attempt → List Attempt → Type 0
+AreFirstOf done attempts = (rest : List Attempt) × (attempts ≡ done ++ rest)
+
+-- were all edits tried? If not, the first of them were, until memory ran out
+abbrev pub Covers : Bool → List Attempt → List Attempt → Type 0
+Covers true attempts done = done ≡ attempts
+Covers false attempts done = AreFirstOf done attempts
+
+-- the last line of a reply to a plan says so
+abbrev pub last_line : Bool → List ℕ
+last_line true = codes "end\n"
+last_line false = refused_line Memory
+
+-- edits were tried, all or as many as memory allowed
+pub record TriedUpTo (all : Bool) (sc : Scenario) (range : Span) (attempts : List Attempt) (old new : Gathered)
+    : Type 0 where
+  pub done : List Attempt
+  pub covers : Covers all attempts done
+  pub tried : TriedAll sc range done old new
+
+-- a plan's edits were tried, and then there is no last try
+pub record Planned (old : TriesStage) (plan : BytePlan) (text : List ℕ) (new : TriesStage) : Type 0 where
+  pub all : Bool
+  pub told : List ℕ
+  pub tried : TriedUpTo all old.session.turn.scenario old.range
+      (attempts_of plan old.session.turn.scenario.setup.input) (gathered old []) (gathered new told)
+  pub replies : text ≡ told ++ last_line all
+  pub last : new.last ≡ None
+
+-- the reply to a line that tries a plan, unless it is rejected
+abbrev pub PlannedAs : TriesStage → Result BytePlan Fault → List ℕ → TriesStage → Type 0
+PlannedAs old (Ok plan) text new = Planned old plan text new
+PlannedAs old (Err fault) text new = Refused old fault text new
+
+abbrev pub PlansLine : TriesStage → List ℕ → List ℕ → TriesStage → Type 0
+PlansLine old line text new =
+    LeavesBase old new × PlannedAs old (plan_asked (length old.session.turn.scenario.setup.input) line) text new
+
 -- does a line make the input of the last try the session's?
 unfoldable pub takes : List ℕ → Bool
 takes line = bytes_eq line (codes "take")
@@ -188,7 +264,8 @@ pub record Others (old : TriesStage) (line text : List ℕ) (new : TriesStage) :
 abbrev pub Tries : TriesStage → List ℕ → List ℕ → TriesStage → Type 0
 Tries old line text new =
     MatchBool (tries old.session.turn line) (TellsLine Tried old line text new)
-    (MatchBool (differs old.session.turn line) (TellsLine Differ old line text new) (Others old line text new))
+    (MatchBool (plans old.session.turn line) (PlansLine old line text new)
+    (MatchBool (differs old.session.turn line) (TellsLine Differ old line text new) (Others old line text new)))
 
 -- the replies to one line after another, up to the first that is rejected because there were too many
 abbrev pub TriesLines : TriesStage → List (List ℕ) → List (List ℕ) → Type 0

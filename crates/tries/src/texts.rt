@@ -1,10 +1,12 @@
 //! The replies to lines that try an input, as text.
 ghost use Rattle.std.specs.Prelude.{◌≡◌, ◌++◌, OnOk};
-ghost use Rattle.tries.specs.Tries.{differ_line, differ_lines, have_same, outcome_text, pair_lines, tried_line, tried_text};
+ghost use Rattle.tries.specs.Plans.{try_line};
+ghost use Rattle.tries.specs.Tries.{differ_line, differ_lines, have_same, outcome_text, pair_lines, planned_text, tried_line, tried_text};
 
 use crate::merging::News;
+use crate::plans::Attempt;
 use checkpoints::Compare;
-use report_lines::{push_address, push_number, push_text};
+use report_lines::{push_address, push_byte, push_number, push_text};
 use std::alloc::AllocError;
 use tallies::Found;
 
@@ -48,6 +50,36 @@ pub(crate) fn push_reply(
         push_outcome(out, number, outcome)?;
     }
     push_tried(out, number, news)
+}
+
+/// Appends the line that tries a byte with another value.
+#[tactic(auto, unfolding(crate::specs::Plans::try_line), using(std::proofs::Common::append_assoc))]
+fn push_attempt(out: &mut Vec<u8>, attempt: Attempt) -> Result<(), AllocError>
+    ensures { OnOk result (out.new.items ≡ out.old.items ++ try_line attempt) }
+{
+    push_text(out, b"try ")?;
+    push_number(out, u64::from(attempt.offset))?;
+    push_text(out, b" ")?;
+    push_byte(out, attempt.value)?;
+    push_text(out, b"\n")
+}
+
+/// Appends what is told of a try of a plan: nothing, unless its outcome or sides are new.
+#[tactic(auto, unfolding(crate::specs::Tries::planned_text), using(std::proofs::Common::append_assoc))]
+pub(crate) fn push_planned(
+    out: &mut Vec<u8>,
+    attempt: Attempt,
+    found: Found,
+    outcome: &[u8],
+    news: News,
+) -> Result<(), AllocError>
+    ensures { OnOk result (out.new.items ≡ out.old.items ++ planned_text attempt found.is_met found.number outcome.now news.sides news.again) }
+{
+    if found.is_met && news.sides == 0 && news.again == 0 {
+        return Ok(());
+    }
+    push_attempt(out, attempt)?;
+    push_reply(out, found, outcome, news)
 }
 
 /// Whether two compares have the same operands.

@@ -1,14 +1,16 @@
 //! A session that gets one line after another, some of which try an input.
-ghost use Rattle.std.specs.Prelude.{◌≡◌, [], IsTrue, OnErr, OnOk};
+ghost use Rattle.std.specs.Prelude.{◌≡◌, ◌++◌, [], IsTrue, OnErr, OnOk};
 ghost use Rattle.replay_session.specs.Session.{scenario_of, turn_of};
 ghost use Rattle.tallies.specs.Tallied.{entries_of, is_met, number_of, with_text};
 ghost use Rattle.tries.specs.Holding.{IsHeld, held-prop};
 ghost use Rattle.tries.specs.Merging.{IsMerged, agains_of, news_of};
-ghost use Rattle.tries.specs.Tries.{asks, tried_text};
+ghost use Rattle.tries.specs.Tries.{asks, planned_text, tried_text};
 
 use crate::merging::merge;
+use crate::plan_text::{END, PlanText};
+use crate::plans::{Attempt, BytePlan, plan_asked};
 use crate::taking::{copy_of, keep_if, take_last, takes};
-use crate::texts::{push_differs, push_reply};
+use crate::texts::{push_differs, push_planned, push_reply};
 use checkpoints::{Effect, Sides};
 use commands::{Edit, Fault};
 use guest_machine::Span;
@@ -18,10 +20,14 @@ use looks::Viewer;
 use replay_session::{Seed, Session, Tried};
 use report_lines::push_text;
 use std::alloc::AllocError;
+use sweep_plans::ByteValues;
 use tallies::Tallies;
 
 /// How many compares of a run are looked at.
 const MOST_COMPARES: usize = 65_536;
+
+/// The number of values of a byte.
+const VALUES: u32 = 256;
 
 /// Whether a line is one that a word begins, and is answered.
 #[tactic(auto, unfolding(crate::specs::Tries::asks))]
@@ -65,6 +71,34 @@ fn tell(
     Ok(())
 }
 
+/// Appends what is told of a try of a plan, which is written as `piece` first, and keeps what the try has told. If memory runs out, nothing
+/// is kept.
+fn tell_planned(
+    text: &mut PlanText,
+    piece: &mut Vec<u8>,
+    told: &mut Tallies,
+    seen: &mut Vec<Sides>,
+    attempt: Attempt,
+    tried: Tried,
+) -> Result<(), AllocError>
+    ensures tells { OnOk result (text.new.bytes.items ≡ text.old.bytes.items ++ planned_text attempt (is_met (entries_of told.old) tried.outcome.items)
+        (number_of (entries_of told.old) tried.outcome.items) tried.outcome.items (news_of seen.old.items tried.sides.items) (agains_of seen.old.items tried.sides.items)) }
+    ensures told { OnOk result (entries_of told.new ≡ with_text (entries_of told.old) tried.outcome.items) }
+    ensures seen { OnOk result (IsMerged seen.old.items tried.sides.items seen.new.items) }
+    ensures kept { OnErr result ((entries_of told.new ≡ entries_of told.old) × (seen.new.items ≡ seen.old.items) × (text.new.bytes.items ≡ text.old.bytes.items)) }
+{
+    let mut sides = tried.sides;
+    let news = merge(seen, &mut sides);
+    piece.clear();
+    let found = told.find(&tried.outcome);
+    push_planned(piece, attempt, found, &tried.outcome, news)?;
+    text.make_room(piece.len())?;
+    let _met = told.meet(&tried.outcome)?;
+    text.push(piece);
+    *seen = sides;
+    Ok(())
+}
+
 /// A seed, and the effect of the edits that it is for.
 #[derive(Drop)]
 struct Held {
@@ -89,14 +123,16 @@ pub struct Tries<'a> {
 }
 
 impl<'a> Tries<'a> {
-    ghost use Rattle.std.specs.Prelude.{◌≡◌, IfOk, OnOk, OnErr, false, true};
+    ghost use Rattle.std.specs.Prelude.{◌≡◌, ◌<◌, ◌≤◌, ◌∷◌, [], if◌then◌else◌, is_ok, length, slice_index_or, IfOk, OnOk, OnErr, false, true};
     ghost use Rattle.checkpoints.specs.Effects.{IsOfSetup};
     ghost use Rattle.replay_session.specs.Session.{scenario_of, turn_of};
     ghost use Rattle.replay_session.specs.Stages.{stage_of};
-    ghost use Rattle.replay_session.specs.Trying.{GivesInput, IsSeed};
+    ghost use Rattle.replay_session.specs.Trying.{GivesInput, IsSeed, IsTried};
     ghost use Rattle.scenario.specs.Edits.{row, IsTaken};
     ghost use Rattle.tries.specs.Stages.{reply_of_tries, stage_of_tries};
-    ghost use Rattle.tries.specs.Tries.{Differ, Keeps, LeavesBase, Others, Refused, TellsLine, Tried as HasTried, takes, untried};
+    ghost use Rattle.tries.specs.Plans.{attempts_at, attempts_of, edit_of};
+    ghost use Rattle.tries.specs.Tries.{Differ, Keeps, LeavesBase, Others, Planned, PlansLine, Refused, TellsLine, Tried as HasTried, TriedAs, TriedUpTo};
+    ghost use Rattle.tries.specs.Tries.{gathered, planned_text, takes, untried};
 
     pub(crate) fn new(session: Session<'a>) -> Result<Self, AllocError>
         ensures { IfOk result (λ tries. stage_of_tries tries ≡ untried (stage_of session.entry)) }
@@ -161,12 +197,28 @@ impl<'a> Tries<'a> {
         self.held = Some(held);
         self.shown.clear();
         push_differs(&mut self.shown, &compared.own, &compared.other)?;
-        push_text(&mut self.shown, b"end\n")
+        push_text(&mut self.shown, END)
+    }
+
+    /// Runs the session's program with an edit that gives the input bytes.
+    #[tactic(auto, unfolding(crate::specs::Stages::stage_of_tries))]
+    fn run(&mut self, edit: Edit) -> Result<Tried, AllocError>
+        requires taken { IsTaken (scenario_of self.old.viewer.session) edit }
+        requires input { GivesInput edit }
+        ensures base { LeavesBase (stage_of_tries self.old) (stage_of_tries self.new) }
+        ensures kept { Keeps (stage_of_tries self.old) (stage_of_tries self.new) }
+        ensures tried { IfOk result (IsTried (row (scenario_of self.old.viewer.session) edit).after self.old.range) }
+    {
+        let effect = self.viewer.session.effect(&edit);
+        let held = self.take_seed(effect)?;
+        let tried = self.viewer.session.try_edit(edit, &held.seed, self.range)?;
+        self.held = Some(held);
+        Ok(tried)
     }
 
     /// Tries an edit that gives the input bytes, and writes the reply.
     #[tactic(auto, unfolding(crate::specs::Stages::stage_of_tries))]
-    fn run(&mut self, edit: Edit) -> Result<(), AllocError>
+    fn try_edit(&mut self, edit: Edit) -> Result<(), AllocError>
         requires taken { IsTaken (scenario_of self.old.viewer.session) edit }
         requires input { GivesInput edit }
         ensures base { LeavesBase (stage_of_tries self.old) (stage_of_tries self.new) }
@@ -174,14 +226,114 @@ impl<'a> Tries<'a> {
         ensures kept { OnErr result (Keeps (stage_of_tries self.old) (stage_of_tries self.new)) }
     {
         let last = copy_of(self.viewer.session.allocator(), &edit)?;
-        let effect = self.viewer.session.effect(&edit);
-        let held = self.take_seed(effect)?;
-        let tried = self.viewer.session.try_edit(edit, &held.seed, self.range)?;
-        self.held = Some(held);
+        let tried = self.run(edit)?;
         self.shown.clear();
         tell(&mut self.shown, &mut self.told, &mut self.seen, tried)?;
         self.last = Some(last);
         Ok(())
+    }
+
+    /// Tries a byte with another value, and appends to the reply what is new. If memory runs out, nothing is kept.
+    #[tactic(auto, unfolding(crate::specs::Stages::stage_of_tries))]
+    fn try_byte(&mut self, text: &mut PlanText, attempt: Attempt) -> Result<(), AllocError>
+        requires { attempt.offset < length (scenario_of self.old.viewer.session).setup.input }
+        ensures base { LeavesBase (stage_of_tries self.old) (stage_of_tries self.new) }
+        ensures tried { OnOk result (TriedAs (scenario_of self.old.viewer.session) self.old.range (planned_text attempt) (edit_of attempt)
+            (gathered (stage_of_tries self.old) text.old.bytes.items) (gathered (stage_of_tries self.new) text.new.bytes.items)) }
+        ensures kept { OnErr result (gathered (stage_of_tries self.new) text.new.bytes.items ≡ gathered (stage_of_tries self.old) text.old.bytes.items) }
+    {
+        let edit = attempt.edit(self.viewer.session.allocator())?;
+        let tried = self.run(edit)?;
+        tell_planned(
+            text,
+            &mut self.shown,
+            &mut self.told,
+            &mut self.seen,
+            attempt,
+            tried,
+        )
+    }
+
+    /// The same, if the value is wanted.
+    fn try_if(
+        &mut self,
+        text: &mut PlanText,
+        is_wanted: bool,
+        attempt: Attempt,
+    ) -> Result<(), AllocError>
+        requires { attempt.offset < length (scenario_of self.old.viewer.session).setup.input }
+        ensures base { LeavesBase (stage_of_tries self.old) (stage_of_tries self.new) }
+        ensures tried { TriedUpTo (is_ok result) (scenario_of self.old.viewer.session) self.old.range (if is_wanted then attempt ∷ [] else [])
+            (gathered (stage_of_tries self.old) text.old.bytes.items) (gathered (stage_of_tries self.new) text.new.bytes.items) }
+    {
+        if is_wanted {
+            self.try_byte(text, attempt)
+        } else {
+            Ok(())
+        }
+    }
+
+    /// Returns a byte of the session's input.
+    fn byte_at(&self, offset: u32) -> u8
+        requires { offset < length (scenario_of self.now.viewer.session).setup.input }
+        ensures { result ≡ slice_index_or (scenario_of self.now.viewer.session).setup.input offset 0 }
+    {
+        self.viewer.session.input()[offset as usize]
+    }
+
+    /// Tries a byte with each of the wanted values.
+    fn try_place(
+        &mut self,
+        text: &mut PlanText,
+        values: &ByteValues,
+        offset: u32,
+    ) -> Result<(), AllocError>
+        requires { offset < length (scenario_of self.old.viewer.session).setup.input }
+        ensures base { LeavesBase (stage_of_tries self.old) (stage_of_tries self.new) }
+        ensures tried { TriedUpTo (is_ok result) (scenario_of self.old.viewer.session) self.old.range
+            (attempts_at values.now (scenario_of self.old.viewer.session).setup.input offset)
+            (gathered (stage_of_tries self.old) text.old.bytes.items) (gathered (stage_of_tries self.new) text.new.bytes.items) }
+    {
+        let own = self.byte_at(offset);
+        for other in 0..VALUES {
+            let value = other as u8;
+            let is_wanted = values.wants_other(own, value);
+            self.try_if(text, is_wanted, Attempt { offset, value })?;
+        }
+        Ok(())
+    }
+
+    /// Tries the bytes of a plan with each of their values.
+    fn try_places(&mut self, text: &mut PlanText, plan: &BytePlan) -> Result<(), AllocError>
+        requires { plan.now.places.end ≤ length (scenario_of self.old.viewer.session).setup.input }
+        ensures base { LeavesBase (stage_of_tries self.old) (stage_of_tries self.new) }
+        ensures tried { TriedUpTo (is_ok result) (scenario_of self.old.viewer.session) self.old.range
+            (attempts_of plan.now (scenario_of self.old.viewer.session).setup.input)
+            (gathered (stage_of_tries self.old) text.old.bytes.items) (gathered (stage_of_tries self.new) text.new.bytes.items) }
+    {
+        let places = plan.places;
+        for i in 0..places.count() {
+            self.try_place(text, &plan.values, places.first + i)?;
+        }
+        Ok(())
+    }
+
+    /// Tries a plan, and writes the reply.
+    #[tactic(auto, unfolding(crate::specs::Stages::reply_of_tries, crate::specs::Stages::stage_of_tries))]
+    fn try_plan(&mut self, plan: &BytePlan)
+        requires { plan.now.places.end ≤ length (scenario_of self.old.viewer.session).setup.input }
+        ensures base { LeavesBase (stage_of_tries self.old) (stage_of_tries self.new) }
+        ensures planned { Planned (stage_of_tries self.old) plan.now (reply_of_tries self.new) (stage_of_tries self.new) }
+    {
+        let Ok(mut text) = PlanText::new(self.viewer.session.allocator()) else {
+            self.last = None;
+            self.refuse(Fault::Memory);
+            return;
+        };
+        let done = self.try_places(&mut text, plan);
+        self.last = None;
+        self.shown = text.end(done);
+        self.is_shown = true;
     }
 
     /// Replies what was written, or that memory ran out.
@@ -197,6 +349,16 @@ impl<'a> Tries<'a> {
         }
     }
 
+    /// Answers a line that tries a plan of inputs.
+    fn plan_line(&mut self, line: &[u8])
+        ensures { PlansLine (stage_of_tries self.old) line.now (reply_of_tries self.new) (stage_of_tries self.new) }
+    {
+        match plan_asked(line, self.viewer.session.input_len()) {
+            Ok(plan) => self.try_plan(&plan),
+            Err(fault) => self.refuse(fault),
+        }
+    }
+
     /// Answers a line that tries an input.
     fn try_line(&mut self, line: &[u8])
         ensures { TellsLine HasTried (stage_of_tries self.old) line.now (reply_of_tries self.new) (stage_of_tries self.new) }
@@ -204,7 +366,7 @@ impl<'a> Tries<'a> {
         let len = self.viewer.session.input_len();
         match edit_tried(self.viewer.session.allocator(), line, len) {
             Ok(edit) => {
-                let done = self.run(edit);
+                let done = self.try_edit(edit);
                 self.finish(done);
             }
             Err(fault) => self.refuse(fault),
@@ -272,6 +434,8 @@ impl Listener for Tries<'_> {
     fn answer(&mut self, line: &[u8]) {
         if asks(b"try", &self.viewer.session, line) {
             self.try_line(line);
+        } else if asks(b"tries", &self.viewer.session, line) {
+            self.plan_line(line);
         } else if asks(b"differs", &self.viewer.session, line) {
             self.differ_line(line);
         } else if takes(line) {

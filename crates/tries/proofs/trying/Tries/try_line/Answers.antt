@@ -10,18 +10,18 @@ pub returns-in-Ok : goal.returns-in-Ok
 unfolding stage_of_tries
 returns-in-Ok c =
     let old = stage_of_tries c.args.self.now in
-    let mid = stage_of_tries c.run-done.new.self in
+    let mid = stage_of_tries c.try_edit-done.new.self in
     let new = stage_of_tries c.finish.new.self in
     let edit = c.in-Ok.edit in
     let line = c.args.line.now in (
-      base-on old mid new c.run-done.ensures.base c.finish.ensures.base,
+      base-on old mid new c.try_edit-done.ensures.base c.finish.ensures.base,
       (
         Ok edit,
         subst (ReadsFor (length (scenario_of c.args.self.now.viewer.session).setup.input) (edit_tried line)) c.in-Ok.is
             (subst (λ n. ReadsFor n (edit_tried line) c.edit_tried.result) c.input_len-len.ensures
             c.edit_tried.ensures),
-        told-so c.run-done.result old mid new c.run-done.new.self.shown.items (reply_of_tries c.finish.new.self)
-            (HasTried old edit) c.run-done.ensures.tried c.run-done.ensures.kept c.finish.ensures.ok
+        told-so c.try_edit-done.result old mid new c.try_edit-done.new.self.shown.items (reply_of_tries c.finish.new.self)
+            (HasTried old edit) c.try_edit-done.ensures.tried c.try_edit-done.ensures.kept c.finish.ensures.ok
             c.finish.ensures.refused,
       ),
     )
