@@ -317,7 +317,13 @@ fn enter(table: &mut Vec<Sides>, first: u32, apart: u32, code: Option<Span>, pc:
     let Some(place) = place_at(first, apart, code.start) else {
         return;
     };
-    enter_row(table, first, apart, place, pc == code.start.wrapping_add(code.len));
+    enter_row(
+        table,
+        first,
+        apart,
+        place,
+        pc == code.start.wrapping_add(code.len),
+    );
 }
 
 /// Enters the side of the instruction of a row, if there is that row.

@@ -50,15 +50,15 @@ loop-i-preserved c =
       straight = λ start marks from none h j less. elim (cases_lt j i) [
         | inl before ↦ inv.straight start marks from none h j before
         | inr past ↦ (
-          let s = post start setup marks (from + i) in
-          let marked = inv.marked start marks from none h within in
-          let here : i ≡ j = omega (arith, less, past) in
-          let on = sym (there _ (done.shows s marked)) ∙ after in
-          subst (λ n. side_of (post start setup marks (from + n)) setup
-          ≡ Some (sided (c.args.pc + apart * n) true)) here
-          (subst (λ a. side_of s setup ≡ Some (sided a true)) inv.at
-          (goes-ahead s setup c.in_ok-stepped.touched c.loop-i.next apart (done.touched s marked)
-          (c.if-is_of.ensures refl) (inv.there s marked) on (omega (arith, after))))
-          )
+            let s = post start setup marks (from + i) in
+            let marked = inv.marked start marks from none h within in
+            let here : i ≡ j = omega (arith, less, past) in
+            let on = sym (there _ (done.shows s marked)) ∙ after in
+            subst (λ n. side_of (post start setup marks (from + n)) setup
+            ≡ Some (sided (c.args.pc + apart * n) true)) here
+            (subst (λ a. side_of s setup ≡ Some (sided a true)) inv.at
+            (goes-ahead s setup c.in_ok-stepped.touched c.loop-i.next apart (done.touched s marked)
+            (c.if-is_of.ensures refl) (inv.there s marked) on (omega (arith, after))))
+            )
       ];
     }
