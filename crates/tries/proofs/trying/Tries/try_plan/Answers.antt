@@ -17,7 +17,8 @@ returns-clause-planned c =
       tried = subst
           (λ (xs : List ℕ). TriedUpTo (is_ok c.try_places-done.result) sc c.args.self.now.range
           (attempts_of c.args.plan.now sc.setup.input) (gathered (stage_of_tries c.args.self.now) xs)
-          (gathered (stage_of_tries after.self) after.text.bytes.items)) c.in-Ok.ensures c.try_places-done.ensures.tried;
+          (gathered (stage_of_tries after.self) after.text.bytes.items)) c.in-Ok.ensures
+          c.try_places-done.ensures.tried;
       replies = c.end.ensures;
       last = refl;
     }
