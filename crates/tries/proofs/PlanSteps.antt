@@ -191,5 +191,5 @@ pub more-places : (values : ByteValues) (input : List ℕ) (first n : ℕ)
 unfolding numbers_from
 more-places values input first n =
     ap (attempts_to values input first) (plus-one n)
-    ∙ flat_map-append (attempts_at values input) (numbers_from first n) (first + n ∷ [])
+    ∙ flat_map-append (attempts_at values input) (numbers_from first n) ((first + n) ∷ [])
     ∙ ap (λ xs. attempts_to values input first n ++ xs) (append-nil (attempts_at values input (first + n)))

@@ -1,6 +1,6 @@
 -- The reply to a line of a session whose run can be looked at and tried with other input bytes.
 use Rattle.std.specs.Prelude.{◌≡◌, ◌⊎◌, ◌&&◌, ◌==◌, ℕ, nat_le, Bool, not, if◌then◌else◌, List, [], ◌∷◌, ◌++◌, MatchBool}
-use Rattle.std.specs.Prelude.{Option, Some, None, Result, Ok, Err, codes, false, length, take}
+use Rattle.std.specs.Prelude.{Option, Some, None, Result, Ok, Err, codes, false, true, length, take}
 use Rattle.std.specs.Fmt.{decimal}
 use Rattle.std.specs.Str.{bytes_eq}
 use Rattle.checkpoints.specs.Compares.{compares_between}

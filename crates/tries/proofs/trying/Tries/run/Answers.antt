@@ -23,15 +23,3 @@ invariant_of-self-2 c =
           (subst IsOfSetup (sym c.effect-effect.ensures)
           (of-setup (scenario_of c.args.self.now.viewer.session) c.args.edit c.requires.input)) seed.1;
     }
-
-pub invariant_of-self-in-Break-branch-4 : goal.invariant_of-self-in-Break-branch-4
-unfolding stage_of_tries
-invariant_of-self-in-Break-branch-4 c =
-    let seed = c.in_ok-held.ensures.seed in
-    record {
-      seeded = held-is _ _ c.args.self.now.range _ c.effect-effect.result c.in_ok-held.held
-          (ap (λ (turn : Turn). turn.scenario) (c.try_edit.ensures.turn ∙ c.take_seed.ensures.base.session.turn))
-          c.take_seed.ensures.base.range seed.0
-          (subst IsOfSetup (sym c.effect-effect.ensures)
-          (of-setup (scenario_of c.args.self.now.viewer.session) c.args.edit c.requires.input)) seed.1;
-    }

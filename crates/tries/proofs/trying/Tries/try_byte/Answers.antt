@@ -50,6 +50,6 @@ returns-clause-kept c =
 
 pub returns-in_err-tried-clause-kept : goal.returns-in_err-tried-clause-kept
 returns-in_err-tried-clause-kept c =
-    kept-at-failure c.from_residual.result _
+    kept-at-failure c.from_residual-in_err-tried.result _
     (kept-gathered (stage_of_tries c.args.self.now) (stage_of_tries c.run.new.self) c.args.text.now.bytes.items
     c.run.ensures.kept)

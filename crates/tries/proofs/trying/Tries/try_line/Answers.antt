@@ -20,7 +20,8 @@ returns-in-Ok c =
         subst (ReadsFor (length (scenario_of c.args.self.now.viewer.session).setup.input) (edit_tried line)) c.in-Ok.is
             (subst (λ n. ReadsFor n (edit_tried line) c.edit_tried.result) c.input_len-len.ensures
             c.edit_tried.ensures),
-        told-so c.try_edit-done.result old mid new c.try_edit-done.new.self.shown.items (reply_of_tries c.finish.new.self)
+        told-so c.try_edit-done.result old mid new c.try_edit-done.new.self.shown.items
+            (reply_of_tries c.finish.new.self)
             (HasTried old edit) c.try_edit-done.ensures.tried c.try_edit-done.ensures.kept c.finish.ensures.ok
             c.finish.ensures.refused,
       ),

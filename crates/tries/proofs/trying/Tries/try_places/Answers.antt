@@ -23,7 +23,7 @@ try_place-requires c =
     let first = c.args.plan.now.places.first in
     let i = c.loop-i.i in
     let within : first + i < length (scenario_of c.args.self.now.viewer.session).setup.input =
-    omega (arith, c.count.ensures, c.requires) in
+    omega (arith, c.count-i-end.ensures, c.requires) in
     subst (λ (s : Scenario). first + i < length s.setup.input)
     (sym (same-scenario (stage_of_tries c.args.self.now) (stage_of_tries c.loop-i.self) c.loop-i.invariant.base)) within
 
@@ -70,7 +70,7 @@ returns-in_err-try_place-clause-tried c =
     c.from_residual.ensures.1
     (stops sc range (attempts_to values sc.setup.input first) (λ k. attempts_at values sc.setup.input (first + k))
     (more-places values sc.setup.input first) n (count plan.places) begun before after
-    (omega (arith, c.count.ensures)) inv.tried
+    (omega (arith, c.count-i-end.ensures)) inv.tried
     (of-base false (λ (s : Scenario). attempts_at values s.setup.input (first + n)) start mid before after inv.base
     c.in_err-try_place.ensures.tried))
 
@@ -88,7 +88,7 @@ returns-clause-tried c =
     (λ k. attempts_at plan.values sc.setup.input (plan.places.first + k))
     (more-places plan.values sc.setup.input plan.places.first) c.loop-i.i (count plan.places)
     (gathered (stage_of_tries c.args.self.now) c.args.text.now.bytes.items)
-    (gathered (stage_of_tries c.loop-i.self) c.loop-i.text.bytes.items) (omega (arith, c.count.ensures))
+    (gathered (stage_of_tries c.loop-i.self) c.loop-i.text.bytes.items) (omega (arith, c.count-i-end.ensures))
     c.loop-i.invariant.tried
 
 pub returns-clause-base : goal.returns-clause-base
