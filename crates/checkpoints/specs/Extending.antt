@@ -12,8 +12,8 @@ use Rattle.checkpoints.specs.Merged.{AlsoSays}
 use Rattle.checkpoints.specs.Sides.{RowTells, side_of, sided}
 use Rattle.checkpoints.specs.declared.sides.Sides.{Sides}
 
--- what a table says of the steps of a run below one, another says of those below a later one: whether they have the sides
--- of its places, and whether they or other runs do
+-- what a table says of the steps of a run below one, another says of those below a later one: whether they have the
+-- sides of its places, and whether they or other runs do
 pub record Extends (start : State) (setup : Setup) (marks : List Alteration) (from to first apart : ℕ)
     (old new : List Sides) : Type 0 where
   pub tells : (i : ℕ) (on : Bool) (d : Sides) → i < length old

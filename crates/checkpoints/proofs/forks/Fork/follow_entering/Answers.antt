@@ -64,7 +64,8 @@ returns c =
                 (subst (λ m. RowTells start setup marks n (sided (c.args.first + m * i) on) old)
                 (sym (far start there ∙ units one start l))
                 (tells-there laws effect of one (record { start = start; setup = setup; marks = marks }) n l
-                fork.step.hidden (sided (c.args.first + unit one.start.core.isa * i) on) old (told.tells i on d within))));
+                fork.step.hidden (sided (c.args.first + unit one.start.core.isa * i) on) old
+                (told.tells i on d within))));
           };
       rows = c.in_ok-machine.ensures.rows;
       also = λ one start last i on others d l fork less says.
