@@ -66,7 +66,8 @@ TARGETS = [
            file="examples/case-study/json/driver.c", package="cjson", sources="cJSON.c"),
     # CVE-2021-21401: a choice that changes from a number to a text takes the number for a pointer.
     Target("nanopb", r"Invalid free\(\) / realloc\(\) at \S+ (realloc\b.*, by allocate_field|free\b.*, by pb_release_single_field)\b",
-           bytes.fromhex("08921212 0161"), package="nanopb", sources="pb_decode.c pb_common.c", options=("-DPB_ENABLE_MALLOC",), planted={"pb_decode.c": NANOPB}),
+           bytes.fromhex("08921212 0161"), package="nanopb", sources="pb_decode.c pb_common.c", options=("-DPB_ENABLE_MALLOC",),
+           planted={"pb_decode.c": NANOPB}),
     # CVE-2020-22283: an answer to a short packet copies what is after it.
     Target("lwip", r"Invalid read of size [14] at \S+ memcpy\b.*, by icmp6_send_response_with_addrs_and_netif\b",
            struct.pack(">IHBB", 0x60000000, 0, 0xfd, 64) + ADDRESSES, package="lwip",
