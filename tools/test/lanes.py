@@ -10,6 +10,7 @@ import re
 import signal
 import subprocess
 import sys
+import threading
 import time
 
 sys.path.insert(0, os.path.realpath(f"{__file__}/../../lib"))
@@ -23,6 +24,9 @@ MOST_LINES = 30
 # How long a check that is told to end has for it.
 SECONDS_TO_END = 10
 groups: set[int] = set()
+# Held while a command starts, until its group is known, and by the end of the lane. A signal that comes meanwhile is sent again.
+starting = threading.Lock()
+come: list[int] = []
 
 
 @dataclasses.dataclass
@@ -68,11 +72,15 @@ def judged(check: Check, status: int) -> Result:
 def measured(words: list[str], log: int) -> tuple[int, float]:
     """A command's status, and the seconds of processors that it took with all that it started."""
     try:
-        child = subprocess.Popen(words, cwd=TOP, stdin=subprocess.DEVNULL, stdout=log, stderr=subprocess.STDOUT, start_new_session=True)
+        with starting:
+            child = subprocess.Popen(words, cwd=TOP, stdin=subprocess.DEVNULL, stdout=log, stderr=subprocess.STDOUT, start_new_session=True)
+            groups.add(child.pid)
     except OSError as fault:
         os.write(log, f"cannot run {words[0]}: {fault.strerror}\n".encode())
         return 127, 0
-    groups.add(child.pid)
+    finally:
+        if come:
+            os.kill(os.getpid(), come[0])
     _, status, used = os.wait4(child.pid, 0)
     groups.discard(child.pid)
     child.returncode = os.waitstatus_to_exitcode(status)
@@ -131,6 +139,9 @@ def send(number: int) -> None:
 
 def stop(number: int, _: object) -> None:
     """Ends all that the lane has started, and then the lane by the same signal."""
+    come.append(number)
+    if not starting.acquire(blocking=False):
+        return
     send(signal.SIGTERM)
     until = time.monotonic() + SECONDS_TO_END
     while not all(has_ended(it) for it in [*groups]) and time.monotonic() < until:
