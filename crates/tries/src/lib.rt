@@ -24,11 +24,11 @@
 //! try before had, M the number of those that it has more than once and no try before had more than once. They are told of the segment of
 //! the file in which the program begins, as far as the file has bytes for it, and of at most 4 MiB.
 //!
-//! `tries A..B VALUES` is a plan of tries. It tries the bytes from offset A up to B, which isn't one of them, in order, and each of them with
-//! each other value of VALUES, in ascending order: `all`, `flips`, those that differ in one bit, or `edges`, those of a sweep. For each of
-//! these tries that has a new outcome or of which N or M isn't 0 the reply has the line `try P HH` with that byte's offset and value, and
-//! the reply to that line. The last line is `end`. If memory runs out before the last try, the reply ends with `refused 1` in place of
-//! `end`; what was tried until then counts as tried.
+//! `tries A..B VALUES` is a plan of tries. It tries the bytes from offset A up to B, which isn't one of them, in order, and each of them
+//! with each other value of VALUES, in ascending order: `all`, `flips`, those that differ in one bit, or `edges`, those of a sweep. For
+//! each of these tries that has a new outcome or of which N or M isn't 0 the reply has the line `try P HH` with that byte's offset and
+//! value, and the reply to that line. The last line is `end`. If memory runs out before the last try, the reply ends with `refused 1` in
+//! place of `end`; what was tried until then counts as tried.
 //!
 //! `differs HEX`, `differs` and `differs A HEX` ask in which compares that run differs from the session's: the branches, `slt`, `sltu`,
 //! `slti` and `sltiu` that the two execute from the last step on at which the input doesn't show, the first 65,536 of each, pair by pair up
@@ -36,18 +36,21 @@
 //! address of the session's compare, its operands, and those of the other. The last line is `end`.
 //!
 //! `take` makes the input of the last try the session's. It is answered as the line `bytes is HEX` or `bytes A HEX` that gives the session
-//! this input. Any line forgets the last try, `take` and a plan too, unless it tries, asks for compares or looks. What tries have met stays.
+//! this input. Any line forgets the last try, `take` and a plan that isn't rejected too, unless it tries, asks for compares or looks. What
+//! tries have met stays.
 //!
 //! A line is rejected with the first of these numbers that applies: 12 and 11 as a line of a session; 2 for a field of another form or too
-//! many, for a B that isn't above A, or for `take` without a last try; 3 for bytes beyond the input; 14 for an input of more than 1,048,576 bytes; 1 if memory runs out.
+//! many, for a B that isn't above A, or for `take` without a last try; 3 for bytes beyond the input; 14 for an input of more than 1,048,576
+//! bytes; 1 if memory runs out.
 //!
 //! # What a caller can rely on
 //!
 //! [`serve`]: what was written is the replies to the lines of all bytes read (`TriesLines`). The outcome and the sides of a try are those
-//! of **one run from step zero of the edited program** (`Tried`), the compares those of two such runs (`Differ`), and a try leaves the session's turn as it is (`LeavesBase`). A
-//! plan does what its tries do one after another, and only tells less (`Planned`). If memory runs out, the next reply counts as if that line
-//! had not been given (`Refused`), or of a plan only those of its first tries (`TriedUpTo`). `take` is answered as a session answers the edit of the
-//! last try (`RepliesAs`), and the reply to any other line is that of a session that can be looked at (`Views`).
+//! of **one run from step zero of the edited program** (`Tried`), the compares those of two such runs (`Differ`), and a try leaves the
+//! session's turn as it is (`LeavesBase`). A plan does what its tries do one after another, and only tells less (`Planned`). If memory runs
+//! out, the next reply counts as if that line had not been given (`Refused`), or of a plan only those of its first tries (`TriedUpTo`).
+//! `take` is answered as a session answers the edit of the last try (`RepliesAs`), and the reply to any other line is that of a session
+//! that can be looked at (`Views`).
 //!
 //! In `specs/`: `Tries`, the reply to a line; `Plans`, the tries of a plan; `Merging`, what is new; `Stages` and `Holding`, what a session
 //! keeps. `LongLines` is a lemma for the server of lines.
@@ -55,8 +58,8 @@
 //! # What it costs
 //!
 //! A try executes the run from the last step at which its input doesn't show yet. The machine there is held for the next try whose input
-//! begins to differ at the same byte, so a plan executes the run up to a byte once for all values of the byte. Another try executes the run up
-//! to there again, so tries in order of that byte cost least.
+//! begins to differ at the same byte, so a plan executes the run up to a byte once for all values of the byte. Another try executes the run
+//! up to there again, so tries in order of that byte cost least.
 #![tactic(auto)]
 
 mod merging;
