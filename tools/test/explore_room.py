@@ -5,7 +5,6 @@ import pathlib
 import re
 import shlex
 import shutil
-import signal
 import subprocess
 
 from replaycheck.guest_files import ENTRY, elf
@@ -16,7 +15,6 @@ EXPLORE = str(TOOLS / "bin" / "replaycheck-explore")
 EXAMPLES = TOOLS.parent / "examples"
 MOST_SECONDS = 120
 PACKET = ["packet.elf", "--input=packet.input", "--values=flips", "--step=4096"]
-SIGNALS = (signal.SIGINT, signal.SIGTERM, signal.SIGHUP)
 # A program that is another one in one way. It notes each part that it makes.
 WRAPPER = """#!/bin/sh
 case "$*" in *--part=*) ;; *) exec {program} "$@" ;; esac

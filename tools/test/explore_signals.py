@@ -11,7 +11,8 @@ import subprocess
 import sys
 import time
 
-from explore_room import EXPLORE, MOST_SECONDS, PACKET, SIGNALS
+from explore_room import EXPLORE, MOST_SECONDS, PACKET
+from rows import SIGNALS, default_signals
 
 # What stands in for ssh: it runs the command here.
 # As sshd does, it begins in a home of its own and sets HOME and SHELL.
@@ -35,12 +36,6 @@ def running_in(folder):
             if not ended and f"TMPDIR={folder}".encode() in (path / "environ").read_bytes():
                 found.append((path / "cmdline").read_bytes().replace(b"\0", b" "))
     return found
-
-
-def default_signals():
-    """Takes back that a shell without job control, or nohup, has signals ignored."""
-    for number in SIGNALS:
-        signal.signal(number, signal.SIG_DFL)
 
 
 def ended_by(tests, words, number, wait):

@@ -1,5 +1,8 @@
 """What tests of tools have in common: rows that pass or fail, and texts that are told in turn."""
 import re
+import signal
+
+SIGNALS = (signal.SIGINT, signal.SIGTERM, signal.SIGHUP)
 
 
 class Rows:
@@ -22,6 +25,12 @@ class Rows:
         """Prints the last line. Gives the exit status."""
         print(f"{self.passed} passed, {self.failed} failed")
         return int(self.failed > 0)
+
+
+def default_signals():
+    """Takes back that a shell without job control, or nohup, has signals ignored."""
+    for number in SIGNALS:
+        signal.signal(number, signal.SIG_DFL)
 
 
 def in_turn(told, texts):
