@@ -37,8 +37,8 @@ RECORDS = struct.pack(">HH3sHHI", 0x4c62, 3, b"abc", 0x93d7, 4, 0x6e1d0c47)
 @dataclasses.dataclass
 class Target:
     """A program with a bug: its file, the finding that counts (a pattern of its line), an input that shows it, the poor seed, and the seeds
-    of the generator with which a search finds it today. Of a library the package, what is compiled of it, where its headers are, the headers that its own build makes, and the texts of its files by
-    which the bug is planted."""
+    of the generator with which a search finds it today. Of a library the package, what is compiled of it, where its headers are, the
+    headers that its own build makes, and the texts of its files by which the bug is planted."""
 
     name: str
     finding: str
