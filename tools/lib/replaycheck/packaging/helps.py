@@ -6,6 +6,7 @@ from typing import NamedTuple
 from replaycheck.packaging.source import output
 
 COMMAND = re.compile(r"^  (\w+) +(\S.*)$", re.M)
+OF_ANOTHER = re.compile(r"`(\w+) --[a-z-]+`")  # an option, with the command that has it
 
 
 class Help(NamedTuple):
@@ -18,8 +19,9 @@ class Help(NamedTuple):
 
     @property
     def options(self):
-        """The options that its page names, in order."""
-        return sorted(set(re.findall(r"(?<![\w-])--[a-z][a-z-]*", self.text)))
+        """The options that its page names, in order, without those of another command, such as `sweep --values`."""
+        own = OF_ANOTHER.sub(lambda found: found[0] if found[1] == self.name else "", self.text)
+        return sorted(set(re.findall(r"(?<![\w-])--[a-z][a-z-]*", own)))
 
 
 def helps(home, program=""):
