@@ -15,7 +15,7 @@ use Rattle.guest_machine.specs.declared.setup.Touched.{Touched}
 use Rattle.run_values.specs.declared.alteration.Alteration.{Alteration}
 use Rattle.run_values.specs.declared.span.Span.{Span}
 use Rattle.checkpoints.specs.Entering.{Enters}
-use Rattle.checkpoints.specs.Extending.{Extends, GoesStraight, HasLength, Turns}
+use Rattle.checkpoints.specs.Extending.{Extends, GoesStraight, Turns}
 use Rattle.checkpoints.specs.Sides.{side_by, side_of, sided}
 use Rattle.checkpoints.specs.declared.sides.Sides.{Sides}
 use Rattle.checkpoints.proofs.AlsoSteps.{also-halted, also-more}
@@ -24,29 +24,13 @@ use Rattle.checkpoints.proofs.SideSteps.{tells-halted, tells-more}
 
 -- ---- the side of a step that goes straight ahead
 
-fetch-start : (core : Core) (deed : Deed) (code : Span) → fetch_span core deed ≡ Some code → code.start ≡ core.pc
-fetch-start core (Takes it) code e = ap (λ (s : Span). s.start) (sym (same_Some _ code e))
-fetch-start core Cut code e = ap (λ (s : Span). s.start) (sym (same_Some _ code e))
-fetch-start core (CallsByName function) code e = absurd (none-some code e)
-fetch-start core Halts code e = absurd (none-some code e)
-
-ahead-by : (fetch : Option Span) (pc here apart : ℕ) → HasLength apart fetch
-    → ((code : Span) → fetch ≡ Some code → code.start ≡ here) → pc ≡ here + apart → here + apart < 2 ^ 32
-    → side_by fetch pc ≡ Some (sided here true)
-ahead-by None pc here apart long begins on room = absurd long
-ahead-by (Some code) pc here apart long begins on room =
-    let at = begins code refl in
-    ap₂ (λ a b. Some (sided a b)) at
-    ((Decides-eqb pc ((code.start + code.len) % 2 ^ 32)).1 (omega (arith, at, long, on, room)))
-
-pub goes-ahead : (s : State) (setup : Setup) (touched : Touched) (here apart : ℕ) → touched ≡ touched_of s setup
-    → HasLength apart touched.fetch → here ≡ s.core.pc → (exec s setup).core.pc ≡ here + apart
-    → here + apart < 2 ^ 32 → side_of s setup ≡ Some (sided here true)
-unfolding touched_at
-goes-ahead s setup touched here apart same long at on room =
-    ahead-by (touched_of s setup).fetch (exec s setup).core.pc here apart
-    (subst (λ (t : Touched). HasLength apart t.fetch) same long)
-    (λ code e. fetch-start s.core (deed_at s.core s.bytes setup.hooks) code e ∙ sym at) on room
+pub goes-ahead : (s : State) (setup : Setup) (here apart : ℕ)
+    → (touched_of s setup).fetch ≡ Some (record { start = here; len = apart })
+    → (exec s setup).core.pc ≡ here + apart → here + apart < 2 ^ 32 → side_of s setup ≡ Some (sided here true)
+goes-ahead s setup here apart fetched on room =
+    let pc = (exec s setup).core.pc in
+    ap (λ (code : Option Span). side_by code pc) fetched
+    ∙ ap (λ way. Some (sided here way)) ((Decides-eqb pc ((here + apart) % 2 ^ 32)).1 (omega (arith, on, room)))
 
 module _ (start : State) (setup : Setup) (marks : List Alteration) (first apart : ℕ) where
   pub extends-none : (from : ℕ) (table : List Sides) → Extends start setup marks from from first apart table table

@@ -23,7 +23,7 @@ pub record Extends (start : State) (setup : Setup) (marks : List Alteration) (fr
       → AlsoSays others start setup marks from (sided (first + apart * i) on) (slice_index_or old i d)
       → AlsoSays others start setup marks to (sided (first + apart * i) on) (slice_index_or new i d)
 
--- so many steps of a run, from one on, execute instructions one after another, each as long as places are apart
+-- a number of steps of a run, from one on, execute instructions one after another, each as long as places are apart
 abbrev pub GoesStraight : State → Setup → List Alteration → ℕ → ℕ → ℕ → ℕ → Type 0
 GoesStraight start setup marks from pc apart count =
     (i : ℕ) → i < count → side_of (post start setup marks (from + i)) setup ≡ Some (sided (pc + apart * i) true)
@@ -33,8 +33,3 @@ pub record Turns (start : State) (setup : Setup) (marks : List Alteration) (step
     (code : Option Span) : Type 0 where
   pub shows : Shows machine (pre start setup marks (step + 1))
   pub fetched : code ≡ (touched_of (post start setup marks step) setup).fetch
-
--- a code has so many bytes
-abbrev pub HasLength : ℕ → Option Span → Type 0
-HasLength len None = ⊥
-HasLength len (Some code) = code.len ≡ len

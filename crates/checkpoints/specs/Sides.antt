@@ -55,7 +55,7 @@ pub record RowTells (start : State) (setup : Setup) (marks : List Alteration) (n
   pub once : Decides (has_side row side.on) (Covers start setup marks n side)
   pub again : Decides (has_again row side.on) (CoversTwice start setup marks n side)
 
--- the number of places in so many bytes: one in each instruction's shortest length, the last perhaps cut
+-- the number of places in a number of bytes: one in each instruction's shortest length, the last perhaps cut
 abbrev pub places : ℕ → ℕ → ℕ
 places apart len = (len + (apart - 1)) / apart
 

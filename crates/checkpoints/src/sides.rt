@@ -12,7 +12,7 @@ ghost use Rattle.checkpoints.specs.Effects.{IsOfSetup, LeadsTo, Run};
 ghost use Rattle.checkpoints.specs.Forks.{IsForkFor, ShowsEdited};
 ghost use Rattle.checkpoints.specs.Marks.{NoneBetween};
 ghost use Rattle.checkpoints.specs.Merged.{AlsoEnters};
-ghost use Rattle.checkpoints.specs.Extending.{Extends, GoesStraight, HasLength, Turns};
+ghost use Rattle.checkpoints.specs.Extending.{Extends, GoesStraight, Turns};
 ghost use Rattle.checkpoints.specs.Sides.{IsSides, has_again, has_side, places, side_by, side_of, sided, span};
 ghost use Rattle.checkpoints.specs.Trails.{machines_of, IsRightFor};
 
@@ -38,6 +38,9 @@ pub struct Sides {
     /// It has gone elsewhere more than once.
     pub away_again: bool,
 }
+
+/// The bytes of a word.
+const WORD: u32 = 4;
 
 /// What it has done with one that it hasn't reached.
 const UNREACHED: Sides = Sides {
@@ -126,7 +129,7 @@ fn empty_table(alloc: Global, rows: usize) -> Result<Vec<Sides>, AllocError>
     vec![in alloc; UNREACHED; rows]
 }
 
-/// The number of places in so many bytes.
+/// The number of places in a number of bytes.
 fn rows(apart: u32, len: u32) -> usize
     requires { IsApart apart }
     ensures { result ≡ places apart len }
@@ -214,9 +217,9 @@ fn enter_quietly(
     Ok((machine, end))
 }
 
-/// Executes so many steps, with no marks between, or up to the first that doesn't go straight ahead: that fetches no code as long as places
-/// are apart, or doesn't continue after it. Returns the number of steps that go straight ahead, and which code the one after them fetched.
-/// `pc` is where the machine is.
+/// Executes steps, with no marks between, as long as they go straight ahead: each fetches a code as long as places are apart, and continues
+/// after it. Returns how many do, at most `most`, and which code the step after them fetched, unless there are `most`. `pc` is where the
+/// machine is.
 #[inline(always)]
 fn run_straight(
     machine: Machine,
@@ -236,30 +239,66 @@ fn run_straight(
         → Shows machine (post start setup.now marks from) → r.1 < most → Turns start setup.now marks (from + r.1) r.0 r.2) }
 {
     let mut machine = machine;
+    let mut count = 0;
+    if apart == WORD {
+        let (stepped, ahead, code) = run_words(machine, setup, pc, most)?;
+        if ahead == most || code.is_some() {
+            return Ok((stepped, ahead, code));
+        }
+        machine = stepped;
+        count = ahead;
+    }
+    let (stepped, touched) = machine.step_on(setup)?;
+    Ok((stepped, count, touched.fetch))
+}
+
+/// Executes steps as [`run_straight`] does where places are four bytes apart, but none whose instruction wasn't decoded recently. If such a
+/// step comes after those that go straight ahead, it is still to be made, and no code is returned.
+#[inline(always)]
+fn run_words(
+    machine: Machine,
+    setup: &Setup,
+    pc: u32,
+    most: u32,
+) -> Result<(Machine, u32, Option<Span>), AllocError>
+    requires { (s : State) → Shows machine s → pc ≡ s.core.pc }
+    ensures within { IfOk result (λ r. r.1 ≤ most) }
+    ensures room { IfOk result (λ r. pc + 4 * r.1 < 2 ^ 32) }
+    ensures straight { IfOk result (λ r. (start : State) (marks : List AlterationOf) (from : ℕ) → NoneBetween from (from + most) marks
+        → Shows machine (post start setup.now marks from) → GoesStraight start setup.now marks from pc 4 r.1) }
+    ensures ended { IfOk result (λ r. (start : State) (marks : List AlterationOf) (from : ℕ) → NoneBetween from (from + most) marks
+        → Shows machine (post start setup.now marks from) → 0 < most → r.1 ≡ most → Shows r.0 (pre start setup.now marks (from + most))) }
+    ensures stays { IfOk result (λ r. (start : State) (marks : List AlterationOf) (from : ℕ) → NoneBetween from (from + most) marks
+        → Shows machine (post start setup.now marks from) → r.1 < most → IfNone r.2 (Shows r.0 (post start setup.now marks (from + r.1)))) }
+    ensures turned { IfOk result (λ r. (start : State) (marks : List AlterationOf) (from : ℕ) → NoneBetween from (from + most) marks
+        → Shows machine (post start setup.now marks from) → r.1 < most → IfSome r.2 (λ code. Turns start setup.now marks (from + r.1) r.0 (Some code))) }
+{
+    let mut machine = machine;
     let mut next = pc;
     for i in 0..most {
-        let (stepped, touched) = machine.step_on(setup)?;
+        let (stepped, is_made) = machine.step_decoded(setup)?;
         machine = stepped;
-        match next.checked_add(apart) {
-            Some(after) if is_of(touched.fetch, apart) && machine.pc() == after => next = after,
-            _ => return Ok((machine, i, touched.fetch)),
+        if !is_made {
+            return Ok((machine, i, None));
+        }
+        match next.checked_add(WORD) {
+            Some(after) if machine.pc() == after => next = after,
+            _ => {
+                return Ok((
+                    machine,
+                    i,
+                    Some(Span {
+                        start: next,
+                        len: WORD,
+                    }),
+                ));
+            }
         }
     }
     Ok((machine, most, None))
 }
 
-/// Whether a step fetched a code of a length.
-#[inline(always)]
-fn is_of(code: Option<Span>, len: u32) -> bool
-    ensures { IsTrue result → HasLength len code }
-{
-    match code {
-        Some(code) => code.len == len,
-        None => false,
-    }
-}
-
-/// Enters the sides of so many steps that go straight ahead from an address.
+/// Enters the sides of a number of steps that go straight ahead from an address.
 #[inline(always)]
 fn enter_straight(table: &mut Vec<Sides>, first: u32, apart: u32, pc: u32, count: u32)
     requires apart { IsApart apart }
@@ -269,26 +308,36 @@ fn enter_straight(table: &mut Vec<Sides>, first: u32, apart: u32, pc: u32, count
         → Extends start setup marks from (from + count) first apart table.old.items table.new.items }
 {
     match place_at(first, apart, pc) {
-        Some(place) => enter_rows(table, first, apart, place, count),
-        None => enter_each(table, first, apart, pc, count),
+        Some(place) if has_rows(table, place, count) => enter_rows(
+            table, first, apart, place, count,
+        ),
+        _ => enter_each(table, first, apart, pc, count),
     }
 }
 
-/// The same, where a place is at the address.
+/// Whether a table has a number of rows from a place on.
 #[inline(always)]
-fn enter_rows(table: &mut Vec<Sides>, first: u32, apart: u32, place: usize, count: u32)
-    requires apart { IsApart apart }
-    requires room { place + count < 2 ^ 64 }
-    ensures rows { length table.new.items ≡ length table.old.items }
-    ensures extends { (start : State) (setup : SetupOf) (marks : List AlterationOf) (from : ℕ) → GoesStraight start setup marks from (first + apart * place) apart count
-        → Extends start setup marks from (from + count) first apart table.old.items table.new.items }
+fn has_rows(table: &[Sides], place: usize, count: u32) -> bool
+    ensures { IsTrue result → place + count ≤ length table.now }
 {
-    for i in 0..count {
-        enter_row(table, first, apart, place + i as usize, true);
+    place <= table.len() && count as usize <= table.len() - place
+}
+
+/// Enters the sides of a number of steps that go straight ahead from a place, where the table has a row for each.
+#[inline(always)]
+fn enter_rows(table: &mut [Sides], first: u32, apart: u32, place: usize, count: u32)
+    requires apart { IsApart apart }
+    requires rows { place + count ≤ length table.old }
+    ensures rows { length table.new ≡ length table.old }
+    ensures extends { (start : State) (setup : SetupOf) (marks : List AlterationOf) (from : ℕ) → GoesStraight start setup marks from (first + apart * place) apart count
+        → Extends start setup marks from (from + count) first apart table.old table.new }
+{
+    for at in place..place + count as usize {
+        enter_at(table, first, apart, at, true);
     }
 }
 
-/// The same, one step after another.
+/// Enters the sides of a number of steps that go straight ahead from an address, one after another.
 #[inline(never)]
 fn enter_each(table: &mut Vec<Sides>, first: u32, apart: u32, pc: u32, count: u32)
     requires apart { IsApart apart }
@@ -328,13 +377,23 @@ fn enter(table: &mut Vec<Sides>, first: u32, apart: u32, code: Option<Span>, pc:
 
 /// Enters the side of the instruction of a row, if there is that row.
 #[inline(always)]
-fn enter_row(table: &mut Vec<Sides>, first: u32, apart: u32, place: usize, on: bool)
+fn enter_row(table: &mut [Sides], first: u32, apart: u32, place: usize, on: bool)
     requires { IsApart apart }
-    ensures { Enters first apart (Some (sided (first + apart * place) on)) table.old.items table.new.items }
+    ensures { Enters first apart (Some (sided (first + apart * place) on)) table.old table.new }
 {
     if place < table.len() {
-        add_side(&mut table[place], on);
+        enter_at(table, first, apart, place, on);
     }
+}
+
+/// Enters the side of the instruction of a row.
+#[inline(always)]
+fn enter_at(table: &mut [Sides], first: u32, apart: u32, place: usize, on: bool)
+    requires apart { IsApart apart }
+    requires row { place < length table.old }
+    ensures { Enters first apart (Some (sided (first + apart * place) on)) table.old table.new }
+{
+    add_side(&mut table[place], on);
 }
 
 /// Adds to what a run has done with an instruction that it also continues after it, or elsewhere.

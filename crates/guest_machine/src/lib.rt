@@ -16,6 +16,7 @@
 //! | [`Machine::start`] | returns the machine before the first step of an image |
 //! | [`Machine::step`] | returns the machine after one step, and the ranges whose bytes it read or wrote |
 //! | [`Machine::step_on`] | the same without a meter; doesn't say whether the step raised an error |
+//! | [`Machine::step_decoded`] | makes the step if it executes an instruction of four bytes that was decoded recently; returns whether it did |
 //! | [`Machine::run`] | returns the machine many steps later |
 //! | [`Machine::run_quietly`] | likewise, at most up to the next step that may be an ECALL; and how many steps that were |
 //! | [`Machine::rests`], [`Machine::rest_for`] | return whether steps do nothing but count; the machine after a number of those |

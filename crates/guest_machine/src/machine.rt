@@ -10,6 +10,7 @@ mod checks;
 mod comparing;
 mod control;
 mod controls;
+mod decoded;
 mod execute;
 mod fetching;
 mod heap_calls;

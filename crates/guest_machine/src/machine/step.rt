@@ -249,7 +249,7 @@ impl Guest {
     /// The function of the heap that is called by name; an instruction may begin at pc.
     #[inline(always)]
     #[tactic(auto, unfolding(crate::specs::Exec::called_here))]
-    fn named_here(&self, hooks: &Hooks) -> Option<Hook>
+    pub(super) fn named_here(&self, hooks: &Hooks) -> Option<Hook>
         requires { is_ready (core_of self.now) ≡ true }
         ensures { result ≡ called_here (core_of self.now) hooks.now }
     {
@@ -272,7 +272,7 @@ impl Guest {
     /// Executes an instruction of this length, between the test of its code's undefined bits and the stack pointer rule.
     #[inline(always)]
     #[tactic(auto, using(crate::proofs::Showing::note_events_append))]
-    fn round(
+    pub(super) fn round(
         &mut self,
         setup: &Setup,
         undef: u32,
