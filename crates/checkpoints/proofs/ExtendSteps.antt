@@ -1,17 +1,15 @@
 -- Tables of sides after further steps of a run.
-use Rattle.std.proofs.Common.{◌≡◌, ℕ, ◌+◌, ◌*◌, ◌%◌, ◌^◌, ◌<◌, ◌≤◌, ◌∙◌, true, false, List, Option, Some, None, ap, ap₂}
-use Rattle.std.proofs.Common.{length, get_or, refl, subst, sym, arith}
+use Rattle.std.proofs.Common.{◌≡◌, ℕ, ◌+◌, ◌*◌, ◌%◌, ◌^◌, ◌<◌, ◌≤◌, ◌∙◌, true, false, List, Option, Some, ap, ap₂}
+use Rattle.std.proofs.Common.{length, get_or, subst, sym, arith}
 use Rattle.std.proofs.lemmas.Bool.Decides.{Decides-eqb}
-use Rattle.std.proofs.lemmas.Option.{none-some, same_Some}
-use Rattle.guest_machine.specs.State.{Core, State}
-use Rattle.guest_machine.specs.Exec.{Deed, Takes, Cut, CallsByName, Halts, deed_at, exec, fetch_span, is_running}
-use Rattle.guest_machine.specs.Exec.{touched_at, touched_of}
+use Rattle.guest_machine.specs.State.{State}
+use Rattle.guest_machine.specs.Exec.{exec, is_running}
+use Rattle.guest_machine.specs.Exec.{touched_of}
 use Rattle.guest_machine.specs.Laws.{StaysHalted}
 use Rattle.guest_machine.specs.Run.{pre, post}
 use Rattle.guest_machine.specs.Shows.{Shows}
 use Rattle.guest_machine.specs.declared.machine.Machine.{Machine}
 use Rattle.guest_machine.specs.declared.setup.Setup.{Setup}
-use Rattle.guest_machine.specs.declared.setup.Touched.{Touched}
 use Rattle.run_values.specs.declared.alteration.Alteration.{Alteration}
 use Rattle.run_values.specs.declared.span.Span.{Span}
 use Rattle.checkpoints.specs.Entering.{Enters}

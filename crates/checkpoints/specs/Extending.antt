@@ -1,5 +1,5 @@
 -- What a table of sides says after further steps of a run.
-use Rattle.std.specs.Prelude.{◌≡◌, ℕ, ◌+◌, ◌*◌, ◌<◌, Bool, true, List, length, Option, None, Some, slice_index_or}
+use Rattle.std.specs.Prelude.{◌≡◌, ℕ, ◌+◌, ◌*◌, ◌<◌, Bool, true, List, length, Option, Some, slice_index_or}
 use Rattle.guest_machine.specs.State.{State}
 use Rattle.guest_machine.specs.Exec.{touched_of}
 use Rattle.guest_machine.specs.Run.{pre, post}

@@ -1,9 +1,9 @@
-use Rattle.std.proofs.Common.{◌≡◌, ◌+◌, ◌-◌, ◌*◌, ◌≤◌, ◌∙◌, Some, true, arith, subst}
+use Rattle.std.proofs.Common.{◌≡◌, ◌+◌, ◌-◌, ◌*◌, ◌∙◌, Some, true, ap, arith, subst}
 use Rattle.std.proofs.Math.Nat.{mul-add}
 use Rattle.checkpoints.specs.Entering.{Enters}
 use Rattle.checkpoints.specs.Extending.{Extends}
 use Rattle.checkpoints.specs.Sides.{sided}
-use Rattle.checkpoints.proofs.ExtendSteps.{extends-ahead, extends-none, extends-then}
+use Rattle.checkpoints.proofs.ExtendSteps.{extends-ahead, extends-then}
 use Rattle.checkpoints.proofs.sides.enter_rows.Goals as goal
 
 pub loop-at-preserved : goal.loop-at-preserved
@@ -15,13 +15,14 @@ loop-at-preserved c =
     let i = at - c.args.place in
     let past : at ≡ c.args.place + i = omega arith in
     let here : first + apart * at ≡ first + apart * c.args.place + apart * i =
-    omega (arith, mul-add apart c.args.place i, past) in
+    ap (λ n. first + apart * n) past ∙ omega (arith, mul-add apart c.args.place i) in
     record {
       rows = c.enter_at.ensures.rows ∙ inv.rows;
       extends = λ start setup marks from straight.
           extends-then start setup marks first apart from (from + i) (from + (at + 1 - c.args.place)) _ _ _ inv.rows
           (inv.extends start setup marks from straight)
-          (subst (λ n. Extends start setup marks (from + i) n first apart c.loop-at.table c.enter_at.new.table) (omega arith)
+          (subst (λ n. Extends start setup marks (from + i) n first apart c.loop-at.table c.enter_at.new.table)
+          (omega arith)
           (extends-ahead start setup marks first apart from _ c.args.count i _ _ straight (omega arith)
           (subst (λ a. Enters first apart (Some (sided a true)) c.loop-at.table c.enter_at.new.table) here
           c.enter_at.ensures)));

@@ -1,7 +1,6 @@
-use Rattle.std.proofs.Common.{◌≡◌, ℕ, ◌+◌, ◌*◌, ◌<◌, ◌∙◌, List, Some, true, ap, arith, inl, inr, refl, rules, subst}
+use Rattle.std.proofs.Common.{◌≡◌, ℕ, ◌+◌, ◌*◌, ◌<◌, ◌∙◌, List, Some, true, ap, arith, inl, inr, rules, subst}
 use Rattle.std.proofs.Common.{sym}
 use Rattle.std.proofs.lemmas.Bool.{cases_lt}
-use Rattle.std.proofs.Math.Nat.{mul-add}
 use Rattle.guest_machine.specs.State.{State}
 use Rattle.guest_machine.specs.Run.{post, pre}
 use Rattle.guest_machine.specs.Shows.{Shows}
