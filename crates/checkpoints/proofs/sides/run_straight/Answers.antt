@@ -6,7 +6,8 @@ use Rattle.guest_machine.specs.declared.machine.Machine.{Machine}
 use Rattle.run_values.specs.declared.span.Span.{Span}
 use Rattle.checkpoints.proofs.QuietSteps.{steps-on}
 use Rattle.checkpoints.proofs.sides.run_straight.Goals as goal
-use Rattle.checkpoints.proofs.sides.run_straight.Goals.{then-apart-eq-WORD+in_ok-stepped+else-ahead-most+else-is_some, else-apart-eq-WORD}
+use Rattle.checkpoints.proofs.sides.run_straight.Goals.{then-apart-eq-WORD+in_ok-stepped+else-ahead-most+else-is_some}
+use Rattle.checkpoints.proofs.sides.run_straight.Goals.{else-apart-eq-WORD}
 
 if-none : (code : Option Span) (X : Type 0) → is_some code ≡ false → IfNone code X → X
 if-none None X e x = x
