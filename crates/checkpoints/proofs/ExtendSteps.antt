@@ -1,6 +1,8 @@
 -- Tables of sides after further steps of a run.
-use Rattle.std.proofs.Common.{◌≡◌, ℕ, ◌+◌, ◌*◌, ◌%◌, ◌^◌, ◌<◌, ◌≤◌, ◌∙◌, true, false, List, Option, Some, ap, ap₂}
+use Rattle.std.proofs.Common.{◌≡◌, ℕ, ◌+◌, ◌*◌, ◌%◌, ◌^◌, ◌<◌, ◌≤◌, ◌∙◌}
+use Rattle.std.proofs.Common.{◌==◌, Bool, true, false, List, Option, Some, ap, ap₂}
 use Rattle.std.proofs.Common.{length, get_or, subst, sym, arith}
+use Rattle.std.proofs.Common.{refl}
 use Rattle.std.proofs.lemmas.Bool.Decides.{Decides-eqb}
 use Rattle.guest_machine.specs.State.{State}
 use Rattle.guest_machine.specs.Exec.{exec, is_running}
@@ -29,6 +31,21 @@ goes-ahead s setup here apart fetched on room =
     let pc = (exec s setup).core.pc in
     ap (λ (code : Option Span). side_by code pc) fetched
     ∙ ap (λ way. Some (sided here way)) ((Decides-eqb pc ((here + apart) % 2 ^ 32)).1 (omega (arith, on, room)))
+
+unless : (b : Bool) → (b ≡ true → ⊥) → b ≡ false
+unless true h = absurd (h refl)
+unless false h = refl
+
+-- and that of one that goes elsewhere
+pub goes-away : (s : State) (setup : Setup) (here apart : ℕ)
+    → (touched_of s setup).fetch ≡ Some (record { start = here; len = apart })
+    → ((exec s setup).core.pc ≡ here + apart → ⊥) → here + apart < 2 ^ 32
+    → side_of s setup ≡ Some (sided here false)
+goes-away s setup here apart fetched off room =
+    let pc = (exec s setup).core.pc in
+    ap (λ (code : Option Span). side_by code pc) fetched
+    ∙ ap (λ way. Some (sided here way)) (unless (pc == (here + apart) % 2 ^ 32)
+    (λ e. off ((Decides-eqb pc ((here + apart) % 2 ^ 32)).0 e ∙ omega (arith, room))))
 
 module _ (start : State) (setup : Setup) (marks : List Alteration) (first apart : ℕ) where
   pub extends-none : (from : ℕ) (table : List Sides) → Extends start setup marks from from first apart table table
@@ -76,18 +93,6 @@ module _ (start : State) (setup : Setup) (marks : List Alteration) (first apart 
       let side : side_by code pc ≡ side_of (post start setup marks k) setup =
       ap₂ side_by turns.fetched (there _ turns.shows ∙ ap (λ (s : State). s.core.pc) (pre-more start setup marks k)) in
       extends-more k old new (subst (λ it. Enters first apart it old new) side entered)
-
-  -- by steps that go straight ahead, and one that doesn't
-  pub extends-past : (from at count pc : ℕ) (machine : Machine) (code : Option Span) (old mid ahead new : List Sides)
-      → length mid ≡ length old → length ahead ≡ length mid → Extends start setup marks from at first apart old mid
-      → Extends start setup marks at (at + count) first apart mid ahead
-      → Turns start setup marks (at + count) machine code → ((s : State) → Shows machine s → pc ≡ s.core.pc)
-      → Enters first apart (side_by code pc) ahead new
-      → Extends start setup marks from (at + count + 1) first apart old new
-  extends-past from at count pc machine code old mid ahead new rows more one two turns there entered =
-      extends-then from (at + count) (at + count + 1) old ahead new (more ∙ rows)
-      (extends-then from at (at + count) old mid ahead rows one two)
-      (extends-turn (at + count) pc machine code ahead new turns there entered)
 
   -- by steps of a machine that is halted
   pub extends-halted : StaysHalted → (k to : ℕ) (table : List Sides) → k ≤ to

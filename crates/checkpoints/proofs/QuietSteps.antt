@@ -1,5 +1,5 @@
 -- Another step of a run, between steps with marks.
-use Rattle.std.proofs.Common.{◌≡◌, ℕ, ◌+◌, ◌*◌, ◌/◌, ◌%◌, ◌<◌, ◌≤◌, ◌⊎◌, ◌∙◌, List, [], refl, ap, cond, min, arith}
+use Rattle.std.proofs.Common.{◌≡◌, ℕ, ◌+◌, ◌*◌, ◌/◌, ◌%◌, ◌<◌, ◌≤◌, ◌⊎◌, ◌∙◌, List, [], refl, ap, cond, min, arith, sym}
 use Rattle.guest_machine.specs.State.{State}
 use Rattle.guest_machine.specs.Exec.{exec, touches, touched_of, has_touched}
 use Rattle.guest_machine.specs.Run.{marks_at, pre, post}
@@ -27,6 +27,13 @@ pub unmarked : (start : State) (setup : Setup) (marks : List Alteration) (k : �
 unfolding post
 unmarked start setup marks k m none h =
     shows-along m m _ _ refl (after-no_marks k marks (pre start setup marks k) none) h
+
+-- and where there are none, also before them
+pub unmarked-before : (start : State) (setup : Setup) (marks : List Alteration) (k : ℕ) (m : Machine)
+    → marks_at k marks ≡ [] → Shows m (post start setup marks k) → Shows m (pre start setup marks k)
+unfolding post
+unmarked-before start setup marks k m none h =
+    shows-along m m _ _ refl (sym (after-no_marks k marks (pre start setup marks k) none)) h
 
 -- and what it touches is entered
 pub enters-on : (start : State) (setup : Setup) (marks : List Alteration) (addr k x y : ℕ) (touched : Touched)

@@ -1,5 +1,5 @@
 -- What a table of sides says after further steps of a run.
-use Rattle.std.specs.Prelude.{◌≡◌, ℕ, ◌+◌, ◌*◌, ◌<◌, Bool, true, List, length, Option, Some, slice_index_or}
+use Rattle.std.specs.Prelude.{◌≡◌, ℕ, ◌+◌, ◌*◌, ◌<◌, Bool, true, false, List, length, Option, Some, slice_index_or}
 use Rattle.guest_machine.specs.State.{State}
 use Rattle.guest_machine.specs.Exec.{touched_of}
 use Rattle.guest_machine.specs.Run.{pre, post}
@@ -33,3 +33,9 @@ pub record Turns (start : State) (setup : Setup) (marks : List Alteration) (step
     (code : Option Span) : Type 0 where
   pub shows : Shows machine (pre start setup marks (step + 1))
   pub fetched : code ≡ (touched_of (post start setup marks step) setup).fetch
+
+-- a step of a run executes the instruction at an address, goes elsewhere from there, and leads to a machine
+pub record Leaves (start : State) (setup : Setup) (marks : List Alteration) (step : ℕ) (machine : Machine) (addr : ℕ)
+    : Type 0 where
+  pub shows : Shows machine (pre start setup marks (step + 1))
+  pub side : side_of (post start setup marks step) setup ≡ Some (sided addr false)

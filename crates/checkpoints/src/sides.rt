@@ -12,13 +12,14 @@ ghost use Rattle.checkpoints.specs.Effects.{IsOfSetup, LeadsTo, Run};
 ghost use Rattle.checkpoints.specs.Forks.{IsForkFor, ShowsEdited};
 ghost use Rattle.checkpoints.specs.Marks.{NoneBetween};
 ghost use Rattle.checkpoints.specs.Merged.{AlsoEnters};
-ghost use Rattle.checkpoints.specs.Extending.{Extends, GoesStraight, Turns};
+ghost use Rattle.checkpoints.specs.Extending.{Extends};
 ghost use Rattle.checkpoints.specs.Sides.{IsSides, has_again, has_side, places, side_by, side_of, sided, span};
 ghost use Rattle.checkpoints.specs.Trails.{machines_of, IsRightFor};
 
 use crate::effect::Effect;
 use crate::forks::{Fork, written_copy};
 use crate::running::{apply_marks, is_running, next_step, pass_marks, quiet_until, run_on};
+use crate::straight::pass_straight;
 use crate::trail::Trail;
 use guest_machine::laws::{
     end_stays, keeps_end, keeps_heap, keeps_input, keeps_isa, keeps_pokes, reads_on, stays_halted,
@@ -38,9 +39,6 @@ pub struct Sides {
     /// It has gone elsewhere more than once.
     pub away_again: bool,
 }
-
-/// The bytes of a word.
-const WORD: u32 = 4;
 
 /// What it has done with one that it hasn't reached.
 const UNREACHED: Sides = Sides {
@@ -200,158 +198,21 @@ fn enter_quietly(
     let mut machine = machine;
     let mut at = from;
     while at < end {
-        let pc = machine.pc();
-        let (stepped, count, code) = run_straight(machine, setup, pc, apart, end - at)?;
+        let (stepped, reached) = pass_straight(machine, setup, first, apart, at, end, table)?;
         machine = stepped;
-        enter_straight(table, first, apart, pc, count);
-        at += count;
+        at = reached;
         if at == end {
             return Ok((machine, end));
         }
-        enter(table, first, apart, code, machine.pc());
+        let (stepped, touched) = machine.step_on(setup)?;
+        machine = stepped;
+        enter(table, first, apart, touched.fetch, machine.pc());
         at += 1;
-        if code.is_none() && !is_running(&machine) {
+        if touched.fetch.is_none() && !is_running(&machine) {
             return Ok((machine, at));
         }
     }
     Ok((machine, end))
-}
-
-/// Executes steps, with no marks between, as long as they go straight ahead: each fetches a code as long as places are apart, and continues
-/// after it. Returns how many do, at most `most`, and which code the step after them fetched, unless there are `most`. `pc` is where the
-/// machine is.
-#[inline(always)]
-fn run_straight(
-    machine: Machine,
-    setup: &Setup,
-    pc: u32,
-    apart: u32,
-    most: u32,
-) -> Result<(Machine, u32, Option<Span>), AllocError>
-    requires { (s : State) → Shows machine s → pc ≡ s.core.pc }
-    ensures within { IfOk result (λ r. r.1 ≤ most) }
-    ensures room { IfOk result (λ r. pc + apart * r.1 < 2 ^ 32) }
-    ensures straight { IfOk result (λ r. (start : State) (marks : List AlterationOf) (from : ℕ) → NoneBetween from (from + most) marks
-        → Shows machine (post start setup.now marks from) → GoesStraight start setup.now marks from pc apart r.1) }
-    ensures ended { IfOk result (λ r. (start : State) (marks : List AlterationOf) (from : ℕ) → NoneBetween from (from + most) marks
-        → Shows machine (post start setup.now marks from) → 0 < most → r.1 ≡ most → Shows r.0 (pre start setup.now marks (from + most))) }
-    ensures turned { IfOk result (λ r. (start : State) (marks : List AlterationOf) (from : ℕ) → NoneBetween from (from + most) marks
-        → Shows machine (post start setup.now marks from) → r.1 < most → Turns start setup.now marks (from + r.1) r.0 r.2) }
-{
-    let mut machine = machine;
-    let mut count = 0;
-    if apart == WORD {
-        let (stepped, ahead, code) = run_words(machine, setup, pc, most)?;
-        if ahead == most || code.is_some() {
-            return Ok((stepped, ahead, code));
-        }
-        machine = stepped;
-        count = ahead;
-    }
-    let (stepped, touched) = machine.step_on(setup)?;
-    Ok((stepped, count, touched.fetch))
-}
-
-/// Executes steps as [`run_straight`] does where places are four bytes apart, but none whose instruction wasn't decoded recently. If such a
-/// step comes after those that go straight ahead, it is still to be made, and no code is returned.
-#[inline(always)]
-fn run_words(
-    machine: Machine,
-    setup: &Setup,
-    pc: u32,
-    most: u32,
-) -> Result<(Machine, u32, Option<Span>), AllocError>
-    requires { (s : State) → Shows machine s → pc ≡ s.core.pc }
-    ensures within { IfOk result (λ r. r.1 ≤ most) }
-    ensures room { IfOk result (λ r. pc + 4 * r.1 < 2 ^ 32) }
-    ensures straight { IfOk result (λ r. (start : State) (marks : List AlterationOf) (from : ℕ) → NoneBetween from (from + most) marks
-        → Shows machine (post start setup.now marks from) → GoesStraight start setup.now marks from pc 4 r.1) }
-    ensures ended { IfOk result (λ r. (start : State) (marks : List AlterationOf) (from : ℕ) → NoneBetween from (from + most) marks
-        → Shows machine (post start setup.now marks from) → 0 < most → r.1 ≡ most → Shows r.0 (pre start setup.now marks (from + most))) }
-    ensures stays { IfOk result (λ r. (start : State) (marks : List AlterationOf) (from : ℕ) → NoneBetween from (from + most) marks
-        → Shows machine (post start setup.now marks from) → r.1 < most → IfNone r.2 (Shows r.0 (post start setup.now marks (from + r.1)))) }
-    ensures turned { IfOk result (λ r. (start : State) (marks : List AlterationOf) (from : ℕ) → NoneBetween from (from + most) marks
-        → Shows machine (post start setup.now marks from) → r.1 < most → IfSome r.2 (λ code. Turns start setup.now marks (from + r.1) r.0 (Some code))) }
-{
-    let mut machine = machine;
-    let mut next = pc;
-    for i in 0..most {
-        let (stepped, is_made) = machine.step_decoded(setup)?;
-        machine = stepped;
-        if !is_made {
-            return Ok((machine, i, None));
-        }
-        match next.checked_add(WORD) {
-            Some(after) if machine.pc() == after => next = after,
-            _ => {
-                return Ok((
-                    machine,
-                    i,
-                    Some(Span {
-                        start: next,
-                        len: WORD,
-                    }),
-                ));
-            }
-        }
-    }
-    Ok((machine, most, None))
-}
-
-/// Enters the sides of a number of steps that go straight ahead from an address.
-#[inline(always)]
-fn enter_straight(table: &mut Vec<Sides>, first: u32, apart: u32, pc: u32, count: u32)
-    requires apart { IsApart apart }
-    requires room { pc + apart * count < 2 ^ 32 }
-    ensures rows { length table.new.items ≡ length table.old.items }
-    ensures extends { (start : State) (setup : SetupOf) (marks : List AlterationOf) (from : ℕ) → GoesStraight start setup marks from pc apart count
-        → Extends start setup marks from (from + count) first apart table.old.items table.new.items }
-{
-    match place_at(first, apart, pc) {
-        Some(place) if has_rows(table, place, count) => enter_rows(
-            table, first, apart, place, count,
-        ),
-        _ => enter_each(table, first, apart, pc, count),
-    }
-}
-
-/// Whether a table has a number of rows from a place on.
-#[inline(always)]
-fn has_rows(table: &[Sides], place: usize, count: u32) -> bool
-    ensures { IsTrue result → place + count ≤ length table.now }
-{
-    place <= table.len() && count as usize <= table.len() - place
-}
-
-/// Enters the sides of a number of steps that go straight ahead from a place, where the table has a row for each.
-#[inline(always)]
-fn enter_rows(table: &mut [Sides], first: u32, apart: u32, place: usize, count: u32)
-    requires apart { IsApart apart }
-    requires rows { place + count ≤ length table.old }
-    ensures rows { length table.new ≡ length table.old }
-    ensures extends { (start : State) (setup : SetupOf) (marks : List AlterationOf) (from : ℕ) → GoesStraight start setup marks from (first + apart * place) apart count
-        → Extends start setup marks from (from + count) first apart table.old table.new }
-{
-    for at in place..place + count as usize {
-        enter_at(table, first, apart, at, true);
-    }
-}
-
-/// Enters the sides of a number of steps that go straight ahead from an address, one after another.
-#[inline(never)]
-fn enter_each(table: &mut Vec<Sides>, first: u32, apart: u32, pc: u32, count: u32)
-    requires apart { IsApart apart }
-    requires room { pc + apart * count < 2 ^ 32 }
-    ensures rows { length table.new.items ≡ length table.old.items }
-    ensures extends { (start : State) (setup : SetupOf) (marks : List AlterationOf) (from : ℕ) → GoesStraight start setup marks from pc apart count
-        → Extends start setup marks from (from + count) first apart table.old.items table.new.items }
-{
-    let mut start = pc;
-    for _step in 0..count {
-        let after = start.wrapping_add(apart);
-        enter(table, first, apart, Some(Span { start, len: apart }), after);
-        start = after;
-    }
 }
 
 /// Enters the side of a step that fetches a code, if it does, and leaves pc at an address.
@@ -360,19 +221,21 @@ fn enter(table: &mut Vec<Sides>, first: u32, apart: u32, code: Option<Span>, pc:
     requires { IsApart apart }
     ensures { Enters first apart (side_by code pc) table.old.items table.new.items }
 {
-    let Some(code) = code else {
-        return;
-    };
-    let Some(place) = place_at(first, apart, code.start) else {
-        return;
-    };
-    enter_row(
-        table,
-        first,
-        apart,
-        place,
-        pc == code.start.wrapping_add(code.len),
-    );
+    if let Some(code) = code {
+        let on = pc == code.start.wrapping_add(code.len);
+        enter_side(table, first, apart, code.start, on);
+    }
+}
+
+/// Enters a side of the instruction at an address, if a place is there and has a row.
+#[inline(always)]
+pub(crate) fn enter_side(table: &mut [Sides], first: u32, apart: u32, addr: u32, on: bool)
+    requires { IsApart apart }
+    ensures { Enters first apart (Some (sided addr on)) table.old table.new }
+{
+    if let Some(place) = place_at(first, apart, addr) {
+        enter_row(table, first, apart, place, on);
+    }
 }
 
 /// Enters the side of the instruction of a row, if there is that row.
@@ -388,7 +251,7 @@ fn enter_row(table: &mut [Sides], first: u32, apart: u32, place: usize, on: bool
 
 /// Enters the side of the instruction of a row.
 #[inline(always)]
-fn enter_at(table: &mut [Sides], first: u32, apart: u32, place: usize, on: bool)
+pub(crate) fn enter_at(table: &mut [Sides], first: u32, apart: u32, place: usize, on: bool)
     requires apart { IsApart apart }
     requires row { place < length table.old }
     ensures { Enters first apart (Some (sided (first + apart * place) on)) table.old table.new }
@@ -402,17 +265,17 @@ fn add_side(sides: &mut Sides, on: bool)
     ensures { sides.new ≡ with_side sides.old on }
 {
     if on {
-        sides.on_again = sides.on_again || sides.on;
+        sides.on_again |= sides.on;
         sides.on = true;
     } else {
-        sides.away_again = sides.away_again || sides.away;
+        sides.away_again |= sides.away;
         sides.away = true;
     }
 }
 
 /// The index of the place at an address, if it is that of a place.
 #[inline(always)]
-fn place_at(first: u32, apart: u32, addr: u32) -> Option<usize>
+pub(crate) fn place_at(first: u32, apart: u32, addr: u32) -> Option<usize>
     requires { IsApart apart }
     ensures some { IfSome result (λ i. first + apart * i ≡ addr) }
     ensures none { IfNone result ((i : ℕ) → first + apart * i ≡ addr → ⊥) }

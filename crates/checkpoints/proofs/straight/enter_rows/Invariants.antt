@@ -3,12 +3,12 @@ use Rattle.guest_machine.specs.State.{State}
 use Rattle.guest_machine.specs.declared.setup.Setup.{Setup}
 use Rattle.run_values.specs.declared.alteration.Alteration.{Alteration}
 use Rattle.checkpoints.specs.Extending.{Extends, GoesStraight}
-use Rattle.checkpoints.proofs.sides.enter_rows.Given as goal
+use Rattle.checkpoints.proofs.straight.enter_rows.Given as goal
 
 abbrev pub invariant-loop-at : goal.invariant-loop-at
 invariant-loop-at l = record {
   rows : length l.table ≡ length l.fn.table;
   extends : (start : State) (setup : Setup) (marks : List Alteration) (from : ℕ)
-      → GoesStraight start setup marks from (l.first + l.apart * l.place) l.apart l.count
-      → Extends start setup marks from (from + (l.at - l.place)) l.first l.apart l.fn.table l.table;
+      → GoesStraight start setup marks from (l.first + 4 * l.place) 4 l.count
+      → Extends start setup marks from (from + (l.at - l.place)) l.first 4 l.fn.table l.table;
 }
