@@ -1,4 +1,5 @@
-"""What test-search searches in: programs in C, and command lines that are rejected."""
+"""What test-search searches in: programs in C, signals at chosen places, and command lines that are rejected."""
+import signal
 
 # A program by itself: `call` is a call of the environment, and `read_all` reads the input. Each one below has a `main`, by whose value it
 # exits.
@@ -104,6 +105,18 @@ PROGRAMS = {"packet": PACKET, "secret": SECRET, "registers": REGISTERS, "hangs":
 # What a search of the station finds from eight zero bytes: how each text begins, and a function of its trace.
 STATION = (("Invalid write of size 1", "set_name"), ("Invalid read of size 1", "show"), ("Conditional jump", "show"),
            ("Invalid read of size 2", "add_level"), ("Invalid read of size 2", "show"), ("definitely lost", "add_limits"))
+
+# Signals at places where Python drops what they raise, or where nothing takes that: a label, the words for signalled.py, the arguments
+# after the file, the status, and the greatest number of tries.
+PLACES = (
+    ("a worker drops it", ["dropped", "SIGTERM", "replaycheck.searching.worker", "Worker.turn"], ["--jobs=2", "--runs=20000"], 0, 9),
+    ("before a worker has begun", ["in-child", "SIGTERM", "os", "fork"], ["--jobs=8", "--runs=20000"], 0, 0),
+    ("before a worker's work", ["at-once", "SIGTERM", "replaycheck.searching.processes", "obey"], ["--jobs=2", "--runs=20000"], 0, 0),
+    ("once a worker's work is done", ["at-once", "SIGTERM", "replaycheck.searching.processes", "end_children"],
+     ["--jobs=1", "--runs=300"], 1, 300),
+    ("the first process drops it", ["dropped", "SIGINT", "replaycheck.searching.state", "State.show"], ["--jobs=2", "--runs=20000"],
+     -signal.SIGINT, 19999),
+)
 
 # A label, the arguments after the file, and what standard error says.
 REJECTED = (

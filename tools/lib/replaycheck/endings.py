@@ -31,7 +31,9 @@ class naming:
 
 
 class Interrupted(BaseException):
-    """A signal has come, or would come where Python let it."""
+    """A signal has come, or would come where Python let it. `come` is the one that was raised last."""
+
+    come = None
 
     def __init__(self, number):
         super().__init__(number)
@@ -57,7 +59,15 @@ def interrupted(number):
     """What a signal raises. No other one comes after it."""
     for other in TOLD:
         signal.signal(other, signal.SIG_IGN)
+    Interrupted.come = number
     return Interrupted(number)
+
+
+def heed_signal():
+    """Raises again what a signal has raised, if Python has dropped it: so it does with what is raised in a `__del__`, or
+    while a generator is closed. A loop that needn't end calls this at each turn."""
+    if Interrupted.come is not None:
+        raise Interrupted(Interrupted.come)
 
 
 def undisturbed(action):

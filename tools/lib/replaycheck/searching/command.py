@@ -11,7 +11,7 @@ from typing import List, Optional
 from replaycheck.covering import lcov
 from replaycheck.covering.code import Code
 from replaycheck.covering.covered import Covered
-from replaycheck.endings import Fault, Interrupted, flush, write
+from replaycheck.endings import Fault, Interrupted, flush, heed_signal, write
 from replaycheck.exploring.executed import check_lines
 from replaycheck.exploring.executed import told as executed_told
 from replaycheck.exploring.keeping import Room
@@ -163,10 +163,12 @@ class Search:
                 self.reached.look()
                 self.state.show()
                 self.state.write()
+                heed_signal()
         except Interrupted:
             workers.stop()
             while workers.running:
-                self.listen(workers, PATIENCE)
+                with contextlib.suppress(Fault):  # the signal may have ended what a worker waits for
+                    self.listen(workers, PATIENCE)
             raise
         finally:
             self.state.ended_at = time.monotonic()

@@ -7,9 +7,10 @@ import selectors
 from typing import Callable, Iterator, List, Tuple
 
 from replaycheck import children as child_processes
-from replaycheck.endings import Fault, Interrupted, Starting, children, end_children, signal, undisturbed
+from replaycheck.endings import TOLD, Fault, children, end_children, signal, undisturbed
 from replaycheck.exploring.lines import shown_name
 
+from .leaving import Leaving
 from .worker import Over
 
 AT_ONCE = 1 << 16  # bytes of one read
@@ -21,43 +22,28 @@ class Forked(child_processes.Child):
     def __init__(self, work: Callable, unneeded: List[int]):
         self.status, self.unread = None, b""
         told, tells = os.pipe()
-        self.pid = os.fork()
-        if not self.pid:
-            status = 1
-            try:
-                for number in (told, *unneeded):
-                    os.close(number)
-                children.clear()
-                Leaving().begin()
-                status = obey(work, tells)
-            finally:
-                os._exit(status)
+        blocked = signal.pthread_sigmask(signal.SIG_BLOCK, TOLD)  # until the worker obeys them
+        try:
+            self.pid = os.fork()
+            if not self.pid:
+                self.begin(work, (told, *unneeded), tells)
+        finally:
+            signal.pthread_sigmask(signal.SIG_SETMASK, blocked)
         os.close(tells)
         self.stdout = open(told, "rb", buffering=0)
 
-
-class Leaving:
-    """How a worker obeys signals: it ends where the first process of the search ends it, once. What a terminal sends to all processes is
-    for the first one."""
-
-    is_on = False
-
-    def begin(self):
-        for number in (signal.SIGINT, signal.SIGHUP):
-            signal.signal(number, signal.SIG_IGN)
-        signal.signal(signal.SIGTERM, self.leave)
-        if Starting.come is not None:  # since before it was a process of its own
-            raise Interrupted(Starting.come)
-        Starting.is_on = False
-
-    def leave(self, number, _):
-        if self.is_on:
-            return
-        self.is_on = True
-        if Starting.is_on:
-            Starting.come = number
-        else:
-            raise Interrupted(number)
+    @staticmethod
+    def begin(work: Callable, unneeded: Tuple[int, ...], tells: int):
+        """Does the work, in the new process, and ends that."""
+        status = 1
+        try:
+            for number in unneeded:
+                os.close(number)
+            children.clear()
+            Leaving.begin()
+            status = obey(work, tells)
+        finally:
+            os._exit(status)
 
 
 def obey(work: Callable, tells: int) -> int:
@@ -79,7 +65,7 @@ def obey(work: Callable, tells: int) -> int:
             tell("fault", f"{named}{fault.strerror or fault}", "")
         except MemoryError:
             tell("fault", "out of memory", "")
-    except (Interrupted, Over):
+    except Over:
         pass
     end_children()
     return 0
