@@ -107,15 +107,15 @@ STATION = (("Invalid write of size 1", "set_name"), ("Invalid read of size 1", "
            ("Invalid read of size 2", "add_level"), ("Invalid read of size 2", "show"), ("definitely lost", "add_limits"))
 
 # Signals at places where Python drops what they raise, or where nothing takes that: a label, the words for signalled.py, the arguments
-# after the file, the status, and the greatest number of tries.
+# after the file, the status, and the greatest number of tries: fewer than a worker's share of --runs.
 PLACES = (
-    ("a worker drops it", ["dropped", "SIGTERM", "replaycheck.searching.worker", "Worker.turn"], ["--jobs=2", "--runs=20000"], 0, 9),
-    ("before a worker has begun", ["in-child", "SIGTERM", "os", "fork"], ["--jobs=8", "--runs=20000"], 0, 0),
+    ("a worker drops it", ["dropped", "SIGTERM", "replaycheck.searching.worker", "Worker.turn"], ["--jobs=2", "--runs=20000"], 0, 9999),
+    ("before a worker has begun", ["in-child", "SIGTERM", "os", "fork"], ["--jobs=8", "--runs=20000"], 0, 2499),
     ("before a worker's work", ["at-once", "SIGTERM", "replaycheck.searching.processes", "obey"], ["--jobs=2", "--runs=20000"], 0, 0),
     ("once a worker's work is done", ["at-once", "SIGTERM", "replaycheck.searching.processes", "end_children"],
      ["--jobs=1", "--runs=300"], 1, 300),
     ("the first process drops it", ["dropped", "SIGINT", "replaycheck.searching.state", "State.show"], ["--jobs=2", "--runs=20000"],
-     -signal.SIGINT, 19999),
+     -signal.SIGINT, 9999),
 )
 
 # A label, the arguments after the file, and what standard error says.

@@ -31,7 +31,8 @@ class naming:
 
 
 class Interrupted(BaseException):
-    """A signal has come, or would come where Python let it. `come` is the one that was raised last."""
+    """A signal has come, or would come where Python let it. `come` is the number of the last one that was
+    raised."""
 
     come = None
 
@@ -64,8 +65,8 @@ def interrupted(number):
 
 
 def heed_signal():
-    """Raises again what a signal has raised, if Python has dropped it: so it does with what is raised in a `__del__`, or
-    while a generator is closed. A loop that needn't end calls this at each turn."""
+    """Raises again what a signal has raised, if Python has dropped that, as it does in a `__del__` and while it closes a
+    generator. A long loop calls this at each turn."""
     if Interrupted.come is not None:
         raise Interrupted(Interrupted.come)
 
