@@ -1,5 +1,4 @@
-"""What test-search searches in: programs in C, signals at chosen places, and command lines that are rejected."""
-import signal
+"""What test-search searches in: programs in C, and command lines that are rejected."""
 
 # A program by itself: `call` is a call of the environment, and `read_all` reads the input. Each one below has a `main`, by whose value it
 # exits.
@@ -107,7 +106,7 @@ STATION = (("Invalid write of size 1", "set_name"), ("Invalid read of size 1", "
            ("Invalid read of size 2", "add_level"), ("Invalid read of size 2", "show"), ("definitely lost", "add_limits"))
 
 # Signals at places where Python drops what they raise, or where nothing takes that: a label, the words for signalled.py, the arguments
-# after the file, the status, and the greatest number of tries: fewer than a worker's share of --runs.
+# after the file, the status (-2 by SIGINT), and the greatest number of tries: fewer than a worker's share of --runs.
 PLACES = (
     ("a worker drops it", ["dropped", "SIGTERM", "replaycheck.searching.worker", "Worker.turn"], ["--jobs=2", "--runs=20000"], 0, 9999),
     ("before a worker has begun", ["in-child", "SIGTERM", "os", "fork"], ["--jobs=8", "--runs=20000"], 0, 2499),
@@ -115,7 +114,7 @@ PLACES = (
     ("once a worker's work is done", ["at-once", "SIGTERM", "replaycheck.searching.processes", "end_children"],
      ["--jobs=1", "--runs=300"], 1, 300),
     ("the first process drops it", ["dropped", "SIGINT", "replaycheck.searching.state", "State.show"], ["--jobs=2", "--runs=20000"],
-     -signal.SIGINT, 9999),
+     -2, 9999),
 )
 
 # A label, the arguments after the file, and what standard error says.
