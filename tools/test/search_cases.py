@@ -110,9 +110,10 @@ STATION = (("Invalid write of size 1", "set_name"), ("Invalid read of size 1", "
 PLACES = (
     ("a worker drops it", ["dropped", "SIGTERM", "replaycheck.searching.worker", "Worker.turn"], ["--jobs=2", "--runs=20000"], 0, 9999),
     ("before a worker has begun", ["in-child", "SIGTERM", "os", "fork"], ["--jobs=8", "--runs=20000"], 0, 2499),
-    ("before a worker's work", ["at-once", "SIGTERM", "replaycheck.searching.processes", "obey"], ["--jobs=2", "--runs=20000"], 0, 0),
-    ("once a worker's work is done", ["at-once", "SIGTERM", "replaycheck.searching.processes", "end_children"],
+    ("before a worker's work", ["before", "SIGTERM", "replaycheck.searching.processes", "obey"], ["--jobs=2", "--runs=20000"], 0, 0),
+    ("once a worker's work is done", ["before", "SIGTERM", "replaycheck.searching.processes", "end_children"],
      ["--jobs=1", "--runs=300"], 1, 300),
+    ("as a worker is left out", ["after", "SIGINT", "selectors", "EpollSelector.unregister"], ["--jobs=2", "--runs=100"], -2, 100),
     ("the first process drops it", ["dropped", "SIGINT", "replaycheck.searching.state", "State.show"], ["--jobs=2", "--runs=20000"],
      -2, 9999),
 )

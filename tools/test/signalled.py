@@ -2,8 +2,8 @@
 
 usage: python3 signalled.py HOW SIGNAL MODULE FUNCTION TOOL [ARG ..]
 
-The signal comes each time before the tool calls a function: `at-once`, or `dropped`, in a `__del__`, so that Python drops what it raises.
-Or it reaches the process that the function makes, before that executes anything: `in-child`."""
+The signal comes each time before the tool calls a function: `before`, or `dropped`, in a `__del__`, so that Python drops what it raises. It
+comes `after` the call, or reaches the process that the function makes, before that executes anything: `in-child`."""
 import importlib
 import os
 import pathlib
@@ -25,10 +25,18 @@ class Signals:
         os.kill(os.getpid(), self.number)
 
 
-def at_once(action, number):
+def before(action, number):
     def done(*given):
         os.kill(os.getpid(), number)
         return action(*given)
+    return done
+
+
+def after(action, number):
+    def done(*given):
+        made = action(*given)
+        os.kill(os.getpid(), number)
+        return made
     return done
 
 
@@ -55,7 +63,7 @@ def main(how, name_of_signal, module, function, tool, *words):
     *outer, name = function.split(".")
     for it in outer:
         owner = getattr(owner, it)
-    makes = {"at-once": at_once, "dropped": dropped, "in-child": in_child}[how]
+    makes = {"before": before, "after": after, "dropped": dropped, "in-child": in_child}[how]
     setattr(owner, name, makes(getattr(owner, name), signal.Signals[name_of_signal]))
     sys.argv = [tool, *words]
     runpy.run_path(tool, run_name="__main__")

@@ -4,7 +4,9 @@ from __future__ import annotations
 import json
 import os
 import selectors
-from typing import Callable, Iterator, List, Tuple
+from collections import deque
+from functools import partial
+from typing import Callable, Deque, Iterator, List, Tuple
 
 from replaycheck import children as child_processes
 from replaycheck.endings import TOLD, Fault, children, end_children, signal, undisturbed
@@ -20,7 +22,8 @@ class Forked(child_processes.Child):
     """A worker, which is a copy of this process. It ends when a signal ends this one. `stdout` is the pipe of its reports."""
 
     def __init__(self, work: Callable, unneeded: List[int]):
-        self.status, self.unread = None, b""
+        self.status, self.unread, self.has_ended = None, b"", False
+        self.lines: Deque[bytes] = deque()  # those that have come and aren't taken yet
         told, tells = os.pipe()
         blocked = signal.pthread_sigmask(signal.SIG_BLOCK, TOLD)  # until the worker obeys them
         try:
@@ -31,6 +34,13 @@ class Forked(child_processes.Child):
             signal.pthread_sigmask(signal.SIG_SETMASK, blocked)
         os.close(tells)
         self.stdout = open(told, "rb", buffering=0)
+
+    def read(self):
+        """Reads what it reports, or that it has ended."""
+        content = os.read(self.stdout.fileno(), AT_ONCE)
+        *lines, self.unread = (self.unread + content).split(b"\n")
+        self.lines += lines
+        self.has_ended = not content
 
     @staticmethod
     def begin(work: Callable, unneeded: Tuple[int, ...], tells: int):
@@ -72,36 +82,46 @@ def obey(work: Callable, tells: int) -> int:
 
 
 class Workers:
-    """Workers that run side by side. `works` has what each does, given a function that tells this process something."""
+    """Workers that run side by side."""
 
-    def __init__(self, works: List[Callable], unneeded: List[int]):
+    def __init__(self):
         self.selector = selectors.DefaultSelector()
         self.running: List[Forked] = []
+
+    def start(self, works: List[Callable], unneeded: List[int]):
+        """Starts workers. `works` has what each does, given a function that tells this process something."""
         for work in works:
-            others = [it.stdout.fileno() for it in self.running]
-            undisturbed(lambda: children.append(Forked(work, [*unneeded, *others])))
-            self.running.append(children[-1])
-            self.selector.register(children[-1].stdout, selectors.EVENT_READ, (len(others), children[-1]))
+            undisturbed(partial(self.add, work, unneeded))
+
+    def add(self, work: Callable, unneeded: List[int]):
+        number = len(self.running)
+        worker = Forked(work, [*unneeded, *(it.stdout.fileno() for it in self.running)])
+        children.append(worker)
+        self.running.append(worker)
+        self.selector.register(worker.stdout, selectors.EVENT_READ, (number, worker))
 
     def messages(self, patience: float) -> Iterator[Tuple[int, list]]:
-        """What workers report within some seconds: of each its number, and the message."""
+        """What workers report within some seconds: of each its number, and the message. What an exception keeps from being taken comes by
+        the next call."""
         for key, _ in self.selector.select(patience):
             number, worker = key.data
-            content = os.read(worker.stdout.fileno(), AT_ONCE)
-            if not content:
+            undisturbed(worker.read)
+            while worker.lines:
+                yield number, json.loads(worker.lines.popleft())
+            if worker.has_ended:
                 self.end(worker)
-                continue
-            *lines, worker.unread = (worker.unread + content).split(b"\n")
-            yield from ((number, json.loads(line)) for line in lines)
 
     def end(self, worker: Forked):
-        self.selector.unregister(worker.stdout)
-        worker.stdout.close()
-        self.running.remove(worker)
+        undisturbed(partial(self.leave_out, worker))
         status = worker.wait()
         children.remove(worker)
         if status:
             raise Fault(f"a worker ended with {f'signal {-status}' if status < 0 else f'status {status}'}")
+
+    def leave_out(self, worker: Forked):
+        self.selector.unregister(worker.stdout)
+        worker.stdout.close()
+        self.running.remove(worker)
 
     def stop(self):
         """Has the workers end. They report how far they are first."""
