@@ -101,8 +101,8 @@ class Workers:
         self.selector.register(worker.stdout, selectors.EVENT_READ, (number, worker))
 
     def messages(self, patience: float) -> Iterator[Tuple[int, list]]:
-        """What workers report within some seconds: of each its number, and the message. What an exception keeps from being taken comes by
-        the next call."""
+        """What workers report within some seconds: of each its number, and the message. Messages that an exception leaves untaken come by
+        a later call."""
         for key, _ in self.selector.select(patience):
             number, worker = key.data
             undisturbed(worker.read)
