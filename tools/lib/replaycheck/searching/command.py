@@ -147,7 +147,7 @@ class Search:
                     self.folder.path, self.folder.own, [it.text for it in self.findings], self.first_seed, self.first, os.getpid())
 
     def work(self):
-        """Runs the workers. A signal or a fault ends them. What was found by a signal is printed, too."""
+        """Runs the workers. A signal or a fault ends them. What was found until a signal comes is printed, too."""
         plan = self.plan()
         for name in sorted(os.listdir(self.folder.queue)):
             if not name.startswith("."):
