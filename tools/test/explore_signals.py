@@ -11,9 +11,10 @@ import subprocess
 import sys
 import time
 
-from explore_room import EXPLORE, MOST_SECONDS, PACKET
+from explore_room import EXPLORE, MOST_SECONDS, PACKET, TOOLS
 from rows import SIGNALS, default_signals
 
+SIGNALLED = str(TOOLS / "test" / "signalled.py")
 # What stands in for ssh: it runs the command here.
 # As sshd does, it begins in a home of its own and sets HOME and SHELL.
 FAKE_SSH = """#!/bin/bash
@@ -57,6 +58,14 @@ def ended_by(tests, words, number, wait):
     return "" if is_well else (child.returncode, took, out[:200], err[:400], left)
 
 
+def dropped_by(tests, module, function, words):
+    """What is wrong of a run that continues with parts after SIGINT, as Python drops what that raises."""
+    done = subprocess.run([sys.executable, "-S", SIGNALLED, "dropped", "SIGINT", f"replaycheck.exploring.{module}", function,
+                           EXPLORE, *PACKET, *words], cwd=tests.room, env=tests.environment(), stdin=subprocess.DEVNULL,
+                          capture_output=True, preexec_fn=default_signals, timeout=MOST_SECONDS)
+    return "" if done.returncode == -signal.SIGINT and not done.stdout and not tests.left() else (done, tests.left())
+
+
 def test_signals(tests):
     for number in SIGNALS:
         tests.wrapper("exec sleep 30")
@@ -68,6 +77,7 @@ def test_signals(tests):
         end = time.monotonic() + wait
         wrong = ended_by(tests, [*PACKET, "--parts=50"], signal.SIGTERM, lambda: time.monotonic() >= end)
         tests.check(f"TERM after {wait} seconds", wrong)
+    tests.check("INT that Python drops", dropped_by(tests, "running", "Runner.read", ["--parts=4", "--jobs=1"]))
     tests.wrapper("exec yes 'input 0 3 0'")
     wrong = ended_by(tests, [*PACKET, "--jobs=2"], signal.SIGKILL, lambda: len(tests.made()) == 2)
     tests.check("killed outright: no part goes on", wrong and wrong[-1][0])
@@ -160,6 +170,8 @@ def test_elsewhere(tests):
         tests.left_out("--sshlogin another machine", "rsync")
     came = tests.run([*PACKET, "--sshlogin=:", "--parts=3"], POSIXLY_CORRECT="1")
     tests.check("--sshlogin :", "" if came == whole else came)
+    wrong = dropped_by(tests, "remote", "edits_in", ["--sshlogin=:", "--parts=3"])
+    tests.check("--sshlogin, INT that Python drops", wrong)
     tests.refuses("--sshlogin: a part that fails", [*PACKET, "--sshlogin=:", "--parts=3"], "part 2/3 failed twice",
                   REPLAYCHECK=tests.wrapper('[ "$part" != 2/3 ] || exit 4'))
     tests.wrapper("exec sleep 30")

@@ -105,6 +105,19 @@ PROGRAMS = {"packet": PACKET, "secret": SECRET, "registers": REGISTERS, "hangs":
 STATION = (("Invalid write of size 1", "set_name"), ("Invalid read of size 1", "show"), ("Conditional jump", "show"),
            ("Invalid read of size 2", "add_level"), ("Invalid read of size 2", "show"), ("definitely lost", "add_limits"))
 
+# Signals at places where Python drops what they raise, or where nothing takes that: a label, the words for signalled.py, the arguments
+# after the file, the status (-2 by SIGINT), and the greatest number of tries: fewer than a worker's share of --runs.
+PLACES = (
+    ("a worker drops it", ["dropped", "SIGTERM", "replaycheck.searching.worker", "Worker.turn"], ["--jobs=2", "--runs=20000"], 0, 9999),
+    ("before a worker has begun", ["in-child", "SIGTERM", "os", "fork"], ["--jobs=8", "--runs=20000"], 0, 2499),
+    ("before a worker's work", ["before", "SIGTERM", "replaycheck.searching.processes", "obey"], ["--jobs=2", "--runs=20000"], 0, 0),
+    ("once a worker's work is done", ["before", "SIGTERM", "replaycheck.searching.processes", "end_children"],
+     ["--jobs=1", "--runs=300"], 1, 300),
+    ("as a worker is left out", ["after", "SIGINT", "selectors", "EpollSelector.unregister"], ["--jobs=2", "--runs=100"], -2, 100),
+    ("the first process drops it", ["dropped", "SIGINT", "replaycheck.searching.state", "State.show"], ["--jobs=2", "--runs=20000"],
+     -2, 9999),
+)
+
 # A label, the arguments after the file, and what standard error says.
 REJECTED = (
     ("no number of runs", ["--runs=0"], "--runs: '0' is not a number from 1 to"),

@@ -31,7 +31,10 @@ class naming:
 
 
 class Interrupted(BaseException):
-    """A signal has come, or would come where Python let it."""
+    """A signal has come, or would come where Python let it. `come` is the number of the last one that was
+    raised."""
+
+    come = None
 
     def __init__(self, number):
         super().__init__(number)
@@ -57,7 +60,15 @@ def interrupted(number):
     """What a signal raises. No other one comes after it."""
     for other in TOLD:
         signal.signal(other, signal.SIG_IGN)
+    Interrupted.come = number
     return Interrupted(number)
+
+
+def heed_signal():
+    """Raises again what a signal has raised, if Python has dropped that, as it does in a `__del__` and while it closes a
+    generator. A long loop calls this at each turn."""
+    if Interrupted.come is not None:
+        raise Interrupted(Interrupted.come)
 
 
 def undisturbed(action):

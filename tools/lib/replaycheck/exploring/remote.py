@@ -7,7 +7,7 @@ import signal
 import subprocess
 import time
 
-from replaycheck.endings import Fault, start
+from replaycheck.endings import Fault, heed_signal, start
 
 from .keeping import Room
 from .lines import shown, shown_name
@@ -80,6 +80,7 @@ class Remote(Runner):
         """Takes tables as they come, one after another; one that isn't whole is followed by another."""
         found, path, file = {}, os.path.join(room, "table"), None
         for line in tables:
+            heed_signal()
             if line.startswith(b"sweep "):
                 file = open(path, "wb")
             if file:

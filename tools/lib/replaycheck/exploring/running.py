@@ -7,7 +7,7 @@ import sys
 import time
 from dataclasses import dataclass, field
 
-from replaycheck.endings import Fault, start
+from replaycheck.endings import Fault, heed_signal, start
 from replaycheck.refusals import with_words
 
 from . import tables
@@ -15,6 +15,7 @@ from .lines import shown_name
 from .merging import sources_in
 
 AGAIN = 2  # so often a part is tried
+PATIENCE = 1  # seconds after which a wait for parts is interrupted for a look at signals
 REFUSED = (2, 3)  # the statuses with which the program says that it will never do it
 MOST_SAID = 1 << 16
 EDITS = tuple(b"\n" + it for it in tables.EDITS)  # how rows begin
@@ -88,6 +89,7 @@ class Runner:
         waiting, found = list(reversed(parts)), []
         try:
             while waiting or self.running:
+                heed_signal()
                 while waiting and len(self.running) < self.jobs:
                     self.begin(waiting.pop())
                 for job in self.read(progress):
@@ -116,7 +118,7 @@ class Runner:
     def read(self, progress):
         """Takes what has come. Gives the jobs that have ended."""
         ended = []
-        for key, _ in self.selector.select():
+        for key, _ in self.selector.select(PATIENCE):
             job, pipe = key.data, key.fileobj
             content = os.read(pipe.fileno(), 1 << 16)
             if not content:

@@ -11,7 +11,7 @@ from typing import List, Optional
 from replaycheck.covering import lcov
 from replaycheck.covering.code import Code
 from replaycheck.covering.covered import Covered
-from replaycheck.endings import Fault, Interrupted, flush, write
+from replaycheck.endings import Fault, Interrupted, flush, heed_signal, write
 from replaycheck.exploring.executed import check_lines
 from replaycheck.exploring.executed import told as executed_told
 from replaycheck.exploring.keeping import Room
@@ -147,7 +147,7 @@ class Search:
                     self.folder.path, self.folder.own, [it.text for it in self.findings], self.first_seed, self.first, os.getpid())
 
     def work(self):
-        """Runs the workers. A signal ends them. What was found by then is printed, too."""
+        """Runs the workers. A signal or a fault ends them. What was found until a signal comes is printed, too."""
         plan = self.plan()
         for name in sorted(os.listdir(self.folder.queue)):
             if not name.startswith("."):
@@ -156,17 +156,20 @@ class Search:
         self.state.findings = len(self.findings)
         flush()
         works = [partial(self.work_of, plan, place) for place in range(self.jobs)]
-        workers = Workers(works, [self.folder.lock])
+        workers = Workers()
         try:
+            workers.start(works, [self.folder.lock])
             while workers.running:
                 self.listen(workers, 0 if self.reached.waiting else PATIENCE)
                 self.reached.look()
                 self.state.show()
                 self.state.write()
-        except Interrupted:
+                heed_signal()
+        except BaseException:
             workers.stop()
             while workers.running:
-                self.listen(workers, PATIENCE)
+                with contextlib.suppress(Fault):  # what ends the search is the first reason for that
+                    self.listen(workers, PATIENCE)
             raise
         finally:
             self.state.ended_at = time.monotonic()

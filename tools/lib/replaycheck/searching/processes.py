@@ -4,12 +4,15 @@ from __future__ import annotations
 import json
 import os
 import selectors
-from typing import Callable, Iterator, List, Tuple
+from collections import deque
+from functools import partial
+from typing import Callable, Deque, Iterator, List, Tuple
 
 from replaycheck import children as child_processes
-from replaycheck.endings import Fault, Interrupted, Starting, children, end_children, signal, undisturbed
+from replaycheck.endings import TOLD, Fault, children, end_children, signal, undisturbed
 from replaycheck.exploring.lines import shown_name
 
+from .leaving import Leaving
 from .worker import Over
 
 AT_ONCE = 1 << 16  # bytes of one read
@@ -19,45 +22,38 @@ class Forked(child_processes.Child):
     """A worker, which is a copy of this process. It ends when a signal ends this one. `stdout` is the pipe of its reports."""
 
     def __init__(self, work: Callable, unneeded: List[int]):
-        self.status, self.unread = None, b""
+        self.status, self.unread, self.has_ended = None, b"", False
+        self.lines: Deque[bytes] = deque()  # those that have come and aren't taken yet
         told, tells = os.pipe()
-        self.pid = os.fork()
-        if not self.pid:
-            status = 1
-            try:
-                for number in (told, *unneeded):
-                    os.close(number)
-                children.clear()
-                Leaving().begin()
-                status = obey(work, tells)
-            finally:
-                os._exit(status)
+        blocked = signal.pthread_sigmask(signal.SIG_BLOCK, TOLD)  # until the worker obeys them
+        try:
+            self.pid = os.fork()
+            if not self.pid:
+                self.begin(work, (told, *unneeded), tells)
+        finally:
+            signal.pthread_sigmask(signal.SIG_SETMASK, blocked)
         os.close(tells)
         self.stdout = open(told, "rb", buffering=0)
 
+    def read(self):
+        """Reads what it reports, or that it has ended."""
+        content = os.read(self.stdout.fileno(), AT_ONCE)
+        *lines, self.unread = (self.unread + content).split(b"\n")
+        self.lines += lines
+        self.has_ended = not content
 
-class Leaving:
-    """How a worker obeys signals: it ends where the first process of the search ends it, once. What a terminal sends to all processes is
-    for the first one."""
-
-    is_on = False
-
-    def begin(self):
-        for number in (signal.SIGINT, signal.SIGHUP):
-            signal.signal(number, signal.SIG_IGN)
-        signal.signal(signal.SIGTERM, self.leave)
-        if Starting.come is not None:  # since before it was a process of its own
-            raise Interrupted(Starting.come)
-        Starting.is_on = False
-
-    def leave(self, number, _):
-        if self.is_on:
-            return
-        self.is_on = True
-        if Starting.is_on:
-            Starting.come = number
-        else:
-            raise Interrupted(number)
+    @staticmethod
+    def begin(work: Callable, unneeded: Tuple[int, ...], tells: int):
+        """Does the work, in the new process, and ends that."""
+        status = 1
+        try:
+            for number in unneeded:
+                os.close(number)
+            children.clear()
+            Leaving.begin()
+            status = obey(work, tells)
+        finally:
+            os._exit(status)
 
 
 def obey(work: Callable, tells: int) -> int:
@@ -79,43 +75,53 @@ def obey(work: Callable, tells: int) -> int:
             tell("fault", f"{named}{fault.strerror or fault}", "")
         except MemoryError:
             tell("fault", "out of memory", "")
-    except (Interrupted, Over):
+    except Over:
         pass
     end_children()
     return 0
 
 
 class Workers:
-    """Workers that run side by side. `works` has what each does, given a function that tells this process something."""
+    """Workers that run side by side."""
 
-    def __init__(self, works: List[Callable], unneeded: List[int]):
+    def __init__(self):
         self.selector = selectors.DefaultSelector()
         self.running: List[Forked] = []
+
+    def start(self, works: List[Callable], unneeded: List[int]):
+        """Starts workers. `works` has what each does, given a function that tells this process something."""
         for work in works:
-            others = [it.stdout.fileno() for it in self.running]
-            undisturbed(lambda: children.append(Forked(work, [*unneeded, *others])))
-            self.running.append(children[-1])
-            self.selector.register(children[-1].stdout, selectors.EVENT_READ, (len(others), children[-1]))
+            undisturbed(partial(self.add, work, unneeded))
+
+    def add(self, work: Callable, unneeded: List[int]):
+        number = len(self.running)
+        worker = Forked(work, [*unneeded, *(it.stdout.fileno() for it in self.running)])
+        children.append(worker)
+        self.running.append(worker)
+        self.selector.register(worker.stdout, selectors.EVENT_READ, (number, worker))
 
     def messages(self, patience: float) -> Iterator[Tuple[int, list]]:
-        """What workers report within some seconds: of each its number, and the message."""
+        """What workers report within some seconds: of each its number, and the message. Messages that an exception leaves untaken come by
+        a later call."""
         for key, _ in self.selector.select(patience):
             number, worker = key.data
-            content = os.read(worker.stdout.fileno(), AT_ONCE)
-            if not content:
+            undisturbed(worker.read)
+            while worker.lines:
+                yield number, json.loads(worker.lines.popleft())
+            if worker.has_ended:
                 self.end(worker)
-                continue
-            *lines, worker.unread = (worker.unread + content).split(b"\n")
-            yield from ((number, json.loads(line)) for line in lines)
 
     def end(self, worker: Forked):
-        self.selector.unregister(worker.stdout)
-        worker.stdout.close()
-        self.running.remove(worker)
+        undisturbed(partial(self.leave_out, worker))
         status = worker.wait()
         children.remove(worker)
         if status:
             raise Fault(f"a worker ended with {f'signal {-status}' if status < 0 else f'status {status}'}")
+
+    def leave_out(self, worker: Forked):
+        self.selector.unregister(worker.stdout)
+        worker.stdout.close()
+        self.running.remove(worker)
 
     def stop(self):
         """Has the workers end. They report how far they are first."""

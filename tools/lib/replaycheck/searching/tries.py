@@ -165,6 +165,7 @@ class Tries:
         """Writes what the pipe takes, and reads what has come."""
         given, told = self.session.child.stdin.fileno(), self.session.child.stdout.fileno()
         readable, writable, _ = select.select([told], [given] if self.unsent else [], [], PATIENCE)
+        self.tick()  # before a signal to all processes looks like a fault of the program
         if writable:
             try:
                 del self.unsent[:os.write(given, self.unsent)]
@@ -178,7 +179,6 @@ class Tries:
                 raise self.session.ended()
             *self.lines, self.unread = (self.unread + content).split(b"\n")
             self.lines.reverse()
-        self.tick()
 
     def process(self, most):
         """Takes lines that have come, as long as more than `most` replies are to come."""

@@ -9,12 +9,12 @@ from functools import partial
 from typing import Callable, Dict, Iterator, List, Optional, Tuple
 
 from replaycheck.covering.code import Code
-from replaycheck.endings import Interrupted
 from replaycheck.exploring.outcomes import RUNS
 from replaycheck.sessions import Session
 
 from .asking import AHEAD, Asking, Repairs
 from .entries import Entry, Folders, made_of, name_of, taken_from, write
+from .leaving import Leaving
 from .mutations import Mutations
 from .news import News
 from .shortening import Shortening
@@ -31,7 +31,7 @@ SECOND = 1.0
 
 
 class Over(Exception):
-    """The time or the tries of the search are used up."""
+    """The time or the tries of the search are used up, or a signal ends it."""
 
 
 @dataclass
@@ -260,9 +260,9 @@ class Worker:
     # ---- the order of work
 
     def tick(self):
-        """Looks at the clock. It ends the search, and chooses nothing in it."""
+        """Looks at the clock, and for a signal. They end the search, and choose nothing in it."""
         now = time.monotonic()
-        if now >= self.plan.until or os.getppid() != self.plan.parent:
+        if Leaving.is_on or now >= self.plan.until or os.getppid() != self.plan.parent:
             raise Over
         if now - self.told_at >= SECOND:
             self.told_at = now
@@ -282,13 +282,11 @@ class Worker:
             self.begin()
             looked_at = time.monotonic()
             while True:
+                self.tick()  # a turn may have nothing to try
                 self.turn()
                 if time.monotonic() - looked_at >= SECOND:
                     self.look_around()
                     looked_at = time.monotonic()
-        except Interrupted:
-            self.tell_state()
-            raise
         except Over:
             if self.is_over:
                 self.finish()
