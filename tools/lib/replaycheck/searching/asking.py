@@ -12,7 +12,7 @@ MOST_ASKED = 1024  # bytes of an entry that are changed, from its begin on
 MORE = 24  # zero bytes after the end, which a program may read or not
 MOST_ROUNDS = 4  # repairs of one input
 MOST_SOLVED = 4096  # inputs of one entry
-MOST_VAIN = 256  # of them that are kept where nothing came of them
+MOST_VAIN, MOST_VAIN_BYTES = 256, 1 << 16  # of them that are kept where nothing came of them
 CHANGE = 1  # the bit of a byte that is changed
 AHEAD = 64  # questions that go ahead of their replies
 Kept = FrozenSet[int]
@@ -186,5 +186,5 @@ class Asking:
 
     def keep(self, content: bytes):
         """Keeps an input that came out as nothing new."""
-        if len(self.vain) < MOST_VAIN:
+        if len(self.vain) < min(MOST_VAIN, MOST_VAIN_BYTES // max(1, len(content))):
             self.vain.append(content)

@@ -1,7 +1,7 @@
 """What compares depend on, as runs with one byte changed show, and the bytes that make them come out otherwise."""
 from __future__ import annotations
 
-from typing import Dict, Iterator, List, Optional, Tuple
+from typing import Dict, Iterator, List, Optional, Set, Tuple
 
 from replaycheck.adopting.instructions import signed
 
@@ -15,6 +15,7 @@ NEAR = (0, 1, -1)  # equal to the other operand, greater by one, smaller by one
 MOST_GUARDS = 12  # compares of an input that are kept equal
 MOST_AT_ONE = 12  # compares at one address that are solved: the first ones and the last ones
 FARTHEST = 2048  # bytes that an input gets longer or shorter by at once
+BEYOND = 16  # bytes after the last one that a compare depends on
 IDLE = 0xFF  # what bytes become that no compare depends on
 
 
@@ -141,14 +142,19 @@ class Compares:
 
     # ---- which bytes they depend on
 
-    def end(self) -> int:
-        """The offset after the last byte that a compare depends on."""
-        return max((offset + 1 for it in self.found.values() for offset in it.moves), default=0)
+    @property
+    def moving(self) -> Set[int]:
+        """The offsets of bytes that compares depend on."""
+        return {offset for it in self.found.values() for offset in it.moves}
 
-    def without_idle(self, changed: int) -> bytes:
-        """The input with other bytes for those that no compare depends on, of the first ones, which were changed."""
-        moving = {offset for it in self.found.values() for offset in it.moves}
-        return bytes(it if at in moving or at >= changed else IDLE for at, it in enumerate(self.content))
+    def end(self) -> int:
+        """An offset soon after the last byte that a compare depends on."""
+        return max(self.moving, default=-1) + 1 + BEYOND
+
+    def without_idle(self, most: int) -> bytes:
+        """The input with other bytes for those that no compare depends on, of the first ones, which were changed to see that."""
+        moving, most = self.moving, min(most, self.end())
+        return bytes(it if at in moving or at >= most else IDLE for at, it in enumerate(self.content))
 
 
 def differences(pair: Pair) -> List[int]:

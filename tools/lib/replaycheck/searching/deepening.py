@@ -15,7 +15,7 @@ QUIET = 2000  # tries without news after which it begins
 DEEPEST = 4  # compares that are solved on top of each other
 TURN = 1024  # tries of it in a turn
 MOST_SOLVED = 256  # inputs of one input
-MOST_WAITING, MOST_KNOWN = 256, 100000  # inputs that wait to be asked, and that are known
+MOST_WAITING, MOST_KNOWN = 256, 100000  # inputs and sources that wait, and inputs that are known
 
 
 class Source:
@@ -32,7 +32,7 @@ class Deepening:
 
     def __init__(self, worker):
         self.worker, self.share = worker, Share(lambda: worker.all_runs)
-        self.sources: List[List[Source]] = [[] for _ in range(DEEPEST)]
+        self.sources: List[Deque[Source]] = [deque(maxlen=MOST_WAITING) for _ in range(DEEPEST)]
         self.waiting: Deque[Source] = deque()
         self.known: Set[bytes] = set()
 
@@ -63,9 +63,10 @@ class Deepening:
             self.add(it.entry, asking, it.depth)
             return True
         sources = next(filter(None, self.sources), None)
-        if sources:
-            self.open(sources.pop())
-        return bool(sources) or bool(self.waiting) or any(self.sources)
+        if not sources:
+            return False
+        self.open(sources.pop())
+        return True
 
     def open(self, source: Source):
         """Asks where the runs of a source's inputs leave its own."""

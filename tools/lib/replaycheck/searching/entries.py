@@ -20,7 +20,7 @@ class Entry:
     those of one that `is_own` when it is first mutated, and those of any other one, which another worker asks for, when it is mutated
     again. `has_sides` is whether it had sides that no input before it had. `taken` counts how often it was mutated; `swept` and `placed`
     are the first byte whose values, and the first place whose tokens, weren't tried; `guards` are compares that mutated inputs have to keep
-    equal, and `end` is the offset after the last byte that a compare depends on."""
+    equal, and `end` is an offset soon after the last byte that a compare depends on."""
 
     def __init__(self, content: bytes, number: Optional[int], is_new: bool, is_own=True):
         self.content, self.number, self.is_new, self.is_own, self.is_asked = content, number, is_new, is_own, False

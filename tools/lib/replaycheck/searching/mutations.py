@@ -11,7 +11,6 @@ STACKS = 5  # a stack has 1, 2, 4, 8 or 16 changes
 SPLICES = 8  # one of this number of inputs is spliced first
 VALUES = (0, 1, 2, 4, 8, 16, 32, 64, 100, 127, 128, 254, 255)  # at which programs often do something else
 FARTHEST = 35  # what is added to a number, or taken from it, at most
-BEYOND = 16  # bytes that are left after what compares look at
 MOST_MOVED, MOST_COPIED, MOST_NEW = 32, 16, 4  # bytes that a change removes or repeats, copies, or inserts
 
 
@@ -38,13 +37,12 @@ class Mutations:
         return int(self.random() * bound)
 
     def mutated(self, content: bytes, other: bytes, end: Optional[int]) -> bytes:
-        """A mutated input; `other` is one that it may be spliced with. Half of them end soon after `end`: compares look at no byte after
-        it."""
+        """A mutated input; `other` is one that it may be spliced with. Half of them end at `end`: compares look at no byte after it."""
         if len(content) > LONGEST:
             return self.mutated_within(content)
         made = bytearray(content)
-        if end is not None and len(made) > end + BEYOND and self.random() * 2 < 1:
-            del made[end + BEYOND:]
+        if end is not None and len(made) > end and self.random() * 2 < 1:
+            del made[end:]
         if self.random() * SPLICES < 1:
             del made[self.below(len(made) + 1):]
             made += other[self.below(len(other) + 1):]
