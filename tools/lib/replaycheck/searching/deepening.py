@@ -18,6 +18,21 @@ MOST_SOLVED = 256  # inputs of one input
 MOST_WAITING, MOST_KNOWN = 256, 100000  # inputs and sources that wait, and inputs that are known
 
 
+class Known:
+    """Inputs that are known, by their sums. Where there are many, no other one is new."""
+
+    def __init__(self):
+        self.sums: Set[bytes] = set()
+
+    def add(self, content: bytes) -> bool:
+        """Adds an input. Returns whether it is new."""
+        it = hashlib.blake2b(content, digest_size=16).digest()
+        if it in self.sums or len(self.sums) >= MOST_KNOWN:
+            return False
+        self.sums.add(it)
+        return True
+
+
 class Source:
     """An input with others made of it that came out as nothing new: the entry of the queue from which it follows, and by how many such
     inputs."""
@@ -34,7 +49,7 @@ class Deepening:
         self.worker, self.share = worker, Share(lambda: worker.all_runs)
         self.sources: List[Deque[Source]] = [deque(maxlen=MOST_WAITING) for _ in range(DEEPEST)]
         self.waiting: Deque[Source] = deque()
-        self.known: Set[bytes] = set()
+        self.tried, self.asked = Known(), Known()
 
     @property
     def is_due(self) -> bool:
@@ -76,21 +91,13 @@ class Deepening:
 
         def take(content: bytes, pairs: List[Pair]):
             parting = self.worker.comparisons.parting(pairs)
-            if parting and parting.pc not in places and len(self.waiting) < MOST_WAITING and self.is_unknown(content):
+            if parting and parting.pc not in places and len(self.waiting) < MOST_WAITING and self.asked.add(content):
                 places.add(parting.pc)
                 self.waiting.append(Source(source.entry, content, [], source.depth + 1))
         for it in source.vain:
             self.worker.differ(tries, it, take)
             self.worker.settle(tries, AHEAD)
         self.worker.settle(tries)
-
-    def is_unknown(self, content: bytes) -> bool:
-        """Whether an input comes here for the first time."""
-        it = hashlib.blake2b(content, digest_size=16).digest()
-        if it in self.known or len(self.known) >= MOST_KNOWN:
-            return False
-        self.known.add(it)
-        return True
 
 
 class Deeper(Asking):
@@ -106,4 +113,4 @@ class Deeper(Asking):
         """Leaves the length as it is."""
 
     def inputs(self) -> Iterator[Tuple[bytes, Optional[Compare]]]:
-        return (it for it in super().inputs() if self.deepening.is_unknown(it[0]))
+        return (it for it in super().inputs() if self.deepening.tried.add(it[0]))
