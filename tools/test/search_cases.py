@@ -127,14 +127,24 @@ static int main(void)
     if ((sum & 0xffff) != at16(6))
 """, """    if (!has_sum(count))
 """)
+# A length that has to be great enough.
+LENGTH = START + """
+static int main(void)
+{
+    int count = read_all(), length = given[4] << 8 | given[5];
+    if (count < 8 || given[0] != 0x3d || length != count - 8)
+        return 2;
+    return length < 20 ? 3 : *(volatile int *)16;
+}
+"""
 # A number with a sign that no compare asks for: one below zero.
 SIGN = START + """
-static __attribute__((noipa)) int is_cell(int number) { return number < 8; }
+static __attribute__((noipa)) int is_low(int number) { return number < 0x412345; }
 static int main(void)
 {
     read_all();
     int number = (given[0] | given[1] << 8 | given[2] << 16) - 1;
-    return is_cell(number) ? *(volatile int *)((long)given & ~(number >> 31)) : 1;
+    return is_low(number) ? *(volatile int *)((long)given & ~(number >> 31)) : 1;
 }
 """
 # Bytes that no compare depends on.
@@ -155,7 +165,7 @@ static int main(void)
     for (int at = 0; at < 100; at++)
         if (word == (0x2c15 + at * 0x1d3 ^ at << 9 & 0xfe00))
             found = at;
-    return found == 99 ? *(volatile int *)16 : 0;
+    return found == 99 ? *(volatile int *)16 : word == 0x7a31;
 }
 """
 STATUS = START + "static int main(void) { return read_all() ? given[0] : 256; }\n"
@@ -184,15 +194,16 @@ static int main(void)
 }
 """
 PROGRAMS = {"packet": PACKET, "secret": SECRET, "registers": REGISTERS, "hangs": HANGS, "never": NEVER_READS, "far": FAR, "words": WORDS,
-            "value": VALUE, "sum": SUM, "sign": SIGN, "idle": IDLE, "table": TABLE, "status": STATUS, "two": TWO}
+            "value": VALUE, "sum": SUM, "length": LENGTH, "sign": SIGN, "idle": IDLE, "table": TABLE, "status": STATUS, "two": TWO}
 # Searches that find a read where nothing is: a label, the program, the seed, the tries, and the seeds of the generator.
 FOUND = (
     ("two records", "secret", bytes(8), 6000, (0, 1)),
     ("a number in three compares", "registers", b"", 1000, (0,)),
     ("words of which each leads to nothing new", "words", bytes(8), 12000, (0,)),
     ("a value that no branch depends on", "value", bytes(8), 1500, (0,)),
-    ("a sum whose compare is a value", "sum", bytes(8), 3000, (0, 1)),
-    ("a number below zero", "sign", b"\x7f" * 8, 500, (0,)),
+    ("a sum whose compare is a value", "sum", bytes(8), 5000, (0, 1)),
+    ("a length, and bytes after it", "length", b"\x3d" + bytes(7), 80, (0,)),
+    ("a number below zero", "sign", b"\x7f" * 8, 100, (0,)),
     ("bytes that no compare depends on", "idle", bytes(8), 300, (0,)),
     ("the last of many compares", "table", bytes(8), 1500, (0,)),
 )
