@@ -150,8 +150,9 @@ class Asking:
 
     def inputs(self) -> Iterator[Tuple[bytes, Optional[Compare]]]:
         """The inputs to try, each with the compare that it is solved for."""
-        if self.tries.length is None:
-            yield self.compares.without_idle(MOST_ASKED), None
+        other = self.compares.without_idle(MOST_ASKED)
+        if self.tries.length is None and other != self.content:
+            yield other, None
         for made, compare in self.compares.solved(self.worker.most):
             if self.tries.length is None or len(made) == self.tries.length:
                 yield made, compare
