@@ -36,16 +36,15 @@ RECORDS = struct.pack(">HH3sHHI", 0x4c62, 3, b"abc", 0x93d7, 4, 0x6e1d0c47)
 
 @dataclasses.dataclass
 class Target:
-    """A program with a bug: its file, the finding that counts (a pattern of its line), an input that shows it, the poor seed, and the seeds
-    of the generator with which a search finds it today. Of a library the package, what is compiled of it, where its headers are, the
-    headers that its own build makes, and the texts of its files by which the bug is planted."""
+    """A program with a bug: its file, the finding that counts (a pattern of its line), an input that shows it, and the poor seed. Of a
+    library the package, what is compiled of it, where its headers are, the headers that its own build makes, and the texts of its files by
+    which the bug is planted."""
 
     name: str
     finding: str
     shown: bytes
     file: str = ""
     seed: bytes = bytes(8)
-    generators: tuple = (0, 1, 2)
     package: str = ""
     sources: str = ""
     include: tuple = (".",)
@@ -55,9 +54,9 @@ class Target:
 
 
 TARGETS = [
-    # No library: a word, a length and a sum, two records, and a key of 32 bits. No search finds it within the tries.
+    # No library: a word, a length and a sum, two records, and a key of 32 bits.
     Target("magic", r"Invalid write of size 1 at \S+ read_records\b",
-           struct.pack(">IHH", 0x5ca1ab1e, len(RECORDS), sum(RECORDS)) + RECORDS, generators=()),
+           struct.pack(">IHH", 0x5ca1ab1e, len(RECORDS), sum(RECORDS)) + RECORDS),
     # CVE-2022-0367, in version 3.1.6 as published.
     Target("modbus", r"Invalid write of size 2 at \S+ modbus_reply\b", bytes.fromhex("0000000000000017006400010000006edc") + bytes(220),
            file="examples/case-study/modbus/server.c", package="libmodbus", sources="src/modbus.c src/modbus-data.c", include=("src",),
@@ -78,7 +77,7 @@ TARGETS = [
            include=("src/include",), planted={"src/core/ipv6/icmp6.c": LWIP},
            options=("-Itools/test/targets/lwip", "-Iexamples/case-study/lwip")),
     # The search wasn't tuned on the next two. This one has no library: a cell's number that is negative.
-    Target("vm", r"Invalid write of size 4 at \S+ step\b", bytes.fromhex("0105 0100 0101 03 07"), generators=(0, 1)),
+    Target("vm", r"Invalid write of size 4 at \S+ step\b", bytes.fromhex("0105 0100 0101 03 07")),
     # CVE-2022-37434: an extra field that is longer than the room for it, and comes in pieces.
     Target("zlib", r"Invalid write of size [14] at \S+ memcpy\b.*, by inflate\b",
            bytes.fromhex("1f8b0804000000000003 2800") + bytes(40), package="zlib", planted={"inflate.c": ZLIB},

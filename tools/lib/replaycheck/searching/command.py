@@ -24,6 +24,7 @@ from replaycheck.options import LAST_STEP, Reader, number
 from replaycheck.places import Paths, Places
 from replaycheck.sessions import Session
 
+from .entries import files_in
 from .folder import Finding, Folder, report_of, session_lines
 from .processes import Workers
 from .reached import Reached
@@ -149,8 +150,8 @@ class Search:
     def work(self):
         """Runs the workers. A signal or a fault ends them. What was found until a signal comes is printed, too."""
         plan = self.plan()
-        for name in sorted(os.listdir(self.folder.queue)):
-            if not name.startswith("."):
+        for name, _ in files_in(self.folder.queue):
+            if os.path.exists(os.path.join(self.folder.queue, name)):  # a link may lead nowhere
                 self.reached.add(name)
                 self.state.add(name)
         self.state.findings = len(self.findings)
@@ -195,12 +196,14 @@ class Search:
     def take_seeds(self, _, texts):
         self.of_seeds = texts
 
-    def take_finding(self, _, content, text, address):
+    def take_finding(self, place, content, text, address, runs):
+        """Takes a finding, and after how many runs its worker found it."""
         if any(it.text == text for it in self.findings):
             return
         taken = {it.number for it in self.findings}
         number = next(it for it in range(1, len(taken) + 2) if it not in taken)
-        self.findings.append(Finding(number, text, address, bytes.fromhex(content)))
+        tries = runs + sum(it.runs for other, it in enumerate(self.state.told) if other != place)
+        self.findings.append(Finding(number, text, address, bytes.fromhex(content), tries))
         self.keep(self.findings[-1])
         self.state.findings, self.state.finding_at = len(self.findings), time.monotonic()
 

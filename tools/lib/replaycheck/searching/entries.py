@@ -12,18 +12,27 @@ QUEUE = "queue"
 NUMBERED = re.compile(r"id:([0-9]{6,9})(?:,.*)?")
 PLAIN = re.compile(r"[^A-Za-z0-9._+=-]")
 LONGEST_NAME = 80  # of a seed, within the name of a file
+RARELY = 4  # an entry without sides of its own gets one of this number of turns
 
 
 class Entry:
     """An input of the queue. `number` is that of its file. The compares of one that `is_new` are asked for before any other one is mutated;
     those of one that `is_own` when it is first mutated, and those of any other one, which another worker asks for, when it is mutated
-    again. `taken` counts how often it was mutated; `swept` and `placed` are the first byte whose values, and the first place whose tokens,
-    weren't tried; `guards` are compares that mutated inputs have to keep equal."""
+    again. `has_sides` is whether it had sides that no input before it had. `taken` counts how often it was mutated; `swept` and `placed`
+    are the first byte whose values, and the first place whose tokens, weren't tried; `guards` are compares that mutated inputs have to keep
+    equal, and `end` is an offset soon after the last byte that a compare depends on."""
 
     def __init__(self, content: bytes, number: Optional[int], is_new: bool, is_own=True):
         self.content, self.number, self.is_new, self.is_own, self.is_asked = content, number, is_new, is_own, False
+        self.has_sides = True
         self.taken = self.swept = self.placed = 0
         self.guards: List = []
+        self.end: Optional[int] = None
+
+    @property
+    def rank(self) -> int:
+        """The place in the order in which entries are mutated: the least comes first."""
+        return self.taken * (1 if self.has_sides else RARELY)
 
 
 def made_of(entry: Entry, how: str) -> str:

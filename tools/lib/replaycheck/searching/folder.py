@@ -4,7 +4,7 @@ from __future__ import annotations
 import fcntl
 import os
 import re
-from typing import Iterator, List, Tuple
+from typing import Iterator, List, Optional, Tuple
 
 from replaycheck.endings import Fault
 from replaycheck.exploring.lines import shown_name
@@ -15,15 +15,17 @@ from .tries import LONGEST, span
 
 FINDINGS, LOCK = "findings", ".replaycheck-search.lock"
 FINDING = re.compile(r"([0-9]{2,6})\.text")
+TRIES = re.compile(r"tries ([0-9]+)")  # a line of it
 SEED = ",orig:"
 MOST_SEARCHES = 1000  # in one folder
 
 
 class Finding:
-    """A finding of a search: its number, its text, the address at which it is reported, and its input."""
+    """A finding of a search: its number, its text, the address at which it is reported, its input, and the number of the try that found it,
+    if that is known."""
 
-    def __init__(self, number: int, text: str, address: str, content: bytes):
-        self.number, self.text, self.address, self.content = number, text, address, content
+    def __init__(self, number: int, text: str, address: str, content: bytes, tries: Optional[int]):
+        self.number, self.text, self.address, self.content, self.tries = number, text, address, content, tries
 
     @property
     def name(self) -> str:
@@ -95,8 +97,10 @@ class Folder:
             text = read(self.finding(name), 1 << 16) if found else None
             content = read(self.finding(f"{found[1]}.input"), 1 << 20) if text else None
             if content is not None:
-                line, _, address = text.decode("utf-8", "surrogateescape").rstrip("\n").partition("\n")
-                yield Finding(int(found[1]), line, address, content)
+                line, *more = text.decode("utf-8", "surrogateescape").rstrip("\n").split("\n")
+                counts = [TRIES.fullmatch(it) for it in more]
+                address = more[0] if more and not counts[0] else ""
+                yield Finding(int(found[1]), line, address, content, next((int(it[1]) for it in counts if it), None))
 
     def write(self, finding: Finding, lines: List[str], report: List[str]):
         """Writes a finding. Its text comes last: what has none isn't whole."""

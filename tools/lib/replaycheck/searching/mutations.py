@@ -2,7 +2,7 @@
 from __future__ import annotations
 
 import random
-from typing import Callable, List, Set
+from typing import Callable, List, Optional, Set
 
 from .tries import LONGEST
 
@@ -36,11 +36,13 @@ class Mutations:
     def below(self, bound: int) -> int:
         return int(self.random() * bound)
 
-    def mutated(self, content: bytes, other: bytes) -> bytes:
-        """A mutated input; `other` is one that it may be spliced with."""
+    def mutated(self, content: bytes, other: bytes, end: Optional[int]) -> bytes:
+        """A mutated input; `other` is one that it may be spliced with. Half of them end at `end`: compares look at no byte after it."""
         if len(content) > LONGEST:
             return self.mutated_within(content)
         made = bytearray(content)
+        if end is not None and len(made) > end and self.random() * 2 < 1:
+            del made[end:]
         if self.random() * SPLICES < 1:
             del made[self.below(len(made) + 1):]
             made += other[self.below(len(other) + 1):]

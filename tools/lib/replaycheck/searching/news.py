@@ -1,9 +1,40 @@
 """Which errors, leaks and stops a search has found, or which lines of a goal, that no seed has."""
 from __future__ import annotations
 
-from typing import Dict, List, Optional, Set
+from typing import Dict, List, Optional, Set, Tuple
 
 from replaycheck.exploring.outcomes import Outcome, Part
+
+
+MOST_STATUSES = 64  # exit statuses, each of which is a new outcome
+EXITED = b"exited "  # how a state begins that has a status
+
+
+class Outcomes:
+    """The outcomes of a search's runs. `texts` has the text of each by its number."""
+
+    def __init__(self, goal: Optional[bytes]):
+        self.goal = goal
+        self.texts: List[bytes] = []
+        self.numbers: Dict[bytes, int] = {}
+        self.statuses: Set[bytes] = set()
+        self.others: Set[bytes] = set()  # what outcomes are beside their states
+
+    def take(self, text: bytes) -> Tuple[int, bool]:
+        """Returns the number of an outcome, and whether it is new. One with another exit status isn't, where there are many: some programs
+        exit with what they have computed."""
+        if text in self.numbers:
+            return self.numbers[text], False
+        number = self.numbers[text] = len(self.texts)
+        self.texts.append(text)
+        state, _, others = text.partition(b"\n")
+        is_one_of_many = (state.startswith(EXITED) and state not in self.statuses and len(self.statuses) >= MOST_STATUSES
+                          and (self.goal is None or not state.startswith(self.goal)))
+        if state.startswith(EXITED) and not is_one_of_many:
+            self.statuses.add(state)
+        is_new = not is_one_of_many or others not in self.others
+        self.others.add(others)
+        return number, is_new
 
 
 class Nothing:

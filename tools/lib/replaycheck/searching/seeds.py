@@ -22,7 +22,7 @@ def paths_of(name: str) -> Iterator[str]:
         return
     for it in names:
         path = os.path.join(name, it)
-        if stat.S_ISREG(os.stat(path).st_mode):
+        if os.path.exists(path) and stat.S_ISREG(os.stat(path).st_mode):  # a link may lead nowhere
             yield path
 
 

@@ -10,12 +10,14 @@ from replaycheck.endings import Fault
 from replaycheck.refusals import Refused
 from replaycheck.sessions import Session
 
+from .news import Outcomes
+
 COMMAND = "tries"  # of the program
 MOST_LINES = 90000  # of a session, which takes 100,000 and doesn't count tries
 LONGEST = 2040  # bytes of an input, or of a part of one, that a line has room for
 AT_ONCE = 1 << 16  # bytes of one read
 PATIENCE = 1.0  # seconds after which a wait is interrupted for a look at the clock
-PAIRS_KEPT = 4  # compares at one address of those that a reply lists
+PAIRS_KEPT = 4  # compares at one address of those that a reply lists: the first ones and the last ones
 MOST_AHEAD = 1000  # lines of the runs that a new session makes first
 FULL = b"refused 1"  # memory ran out
 # What a line is, and which replies are passed on: a try, of which those with news, or each; a question for compares; a counted line.
@@ -59,10 +61,10 @@ class Waiting:
 class Tries:
     """Sessions on one program, one after another, for inputs of up to LONGEST bytes, or for those of one greater `length`, of which only
     up to LONGEST bytes may differ from the base. `opened` starts a session for an input; `known` returns the inputs that a new session has
-    to try before all others. `outcomes` has the number of each outcome. `tick` is called at least once a second."""
+    to try before all others. `outcomes` are those of all sessions. `tick` is called at least once a second."""
 
     def __init__(self, opened: Callable[[Optional[bytes]], Session], step: int, length: Optional[int], known: Callable[[], Iterable[bytes]],
-                 outcomes: Dict[bytes, int], tick: Callable[[], None]):
+                 outcomes: Outcomes, tick: Callable[[], None]):
         self.opened, self.step, self.length, self.known, self.outcomes, self.tick = opened, step, length, known, outcomes, tick
         self.session: Optional[Session] = None
         self.base: Optional[bytes] = None
@@ -147,8 +149,8 @@ class Tries:
         self.send(b"try" + self.fields(content), Waiting(content, take, kind))
 
     def differ(self, content: bytes, take: Callable[[bytes, List[Pair]], None], kept=frozenset()):
-        """Asks in which compares an input's run differs from the base's. `take` gets the input with the compares: the first PAIRS_KEPT at
-        each address, and those at the steps `kept`."""
+        """Asks in which compares an input's run differs from the base's. `take` gets the input with the compares: at each address the
+        first and the last PAIRS_KEPT, and those at the steps `kept`."""
         self.send(b"differs" + self.fields(content), Waiting(content, take, COMPARES, kept))
 
     # ---- replies
@@ -219,26 +221,27 @@ class Tries:
     def tried(self, line: bytes) -> Reply:
         """What the last line of a reply to a try says, and those before it."""
         number, sides, again = map(int, line.split()[1::2])
-        known = len(self.outcomes)
+        is_new = False
         if self.part:
-            self.numbers.append(self.outcomes.setdefault(b"\n".join(self.part[1:]), known))
+            outcome, is_new = self.outcomes.take(b"\n".join(self.part[1:]))
+            self.numbers.append(outcome)
         if not sides and not again:
             self.dull.add(line)
-        return Reply(self.numbers[number], len(self.outcomes) > known, sides, again)
+        return Reply(self.numbers[number], is_new, sides, again)
 
 
 def pairs_in(lines: List[bytes], kept) -> List[Pair]:
     """The compares that a reply lists, without some of those at an address that has many."""
-    counts: Dict[bytes, int] = {}
-    found = []
-    for line in lines:
+    places: Dict[bytes, List[int]] = {}
+    found = {len(lines) - 1} if lines else set()  # by the last one the two runs may part
+    for place, line in enumerate(lines):
         step, pc, _ = line.split(b" ", 2)
-        counts[pc] = count = counts.get(pc, 0) + 1
-        if count <= PAIRS_KEPT or kept and int(step) in kept:
-            found.append(Pair(line))
-    if lines and (not found or not lines[-1].startswith(b"%d " % found[-1].step)):
-        found.append(Pair(lines[-1]))  # by which the two runs may part
-    return found
+        places.setdefault(pc, []).append(place)
+        if kept and int(step) in kept:
+            found.add(place)
+    for those in places.values():
+        found.update(those[:PAIRS_KEPT], those[-PAIRS_KEPT:])
+    return [Pair(lines[it]) for it in sorted(found)]
 
 
 def common(one: bytes, other: bytes) -> int:

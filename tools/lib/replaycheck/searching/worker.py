@@ -6,21 +6,24 @@ import os
 import time
 from dataclasses import dataclass
 from functools import partial
-from typing import Callable, Dict, Iterator, List, Optional, Tuple
+from typing import Callable, Dict, Iterator, List, Optional, Set, Tuple
 
 from replaycheck.covering.code import Code
 from replaycheck.exploring.outcomes import RUNS
 from replaycheck.sessions import Session
 
 from .asking import AHEAD, Asking, Repairs
+from .deepening import Deepening
 from .entries import Entry, Folders, made_of, name_of, taken_from, write
 from .leaving import Leaving
 from .mutations import Mutations
-from .news import News
+from .news import News, Outcomes
+from .outcomes import Comparisons
+from .shares import Share
 from .shortening import Shortening
-from .tries import EACH, LONGEST, NEWS, Reply, Tries, common
+from .tries import EACH, LONGEST, NEWS, Pair, Reply, Tries, common
 
-TURN = 1024  # tries of an entry before the next one's
+TURN = 512  # tries of an entry before the next one's
 REPAIRED = 3  # one of this number of mutated inputs is repaired
 QUIET = 20000  # tries without news after which each value of a byte is tried, each token at each place, and cuts
 SWEPT, PLACED = 4, 512  # bytes of which each value, and tries of tokens and cuts, that are tried then in a turn
@@ -69,13 +72,15 @@ class Worker:
         self.news = News(plan.goal, plan.found)
         self.entries: List[Entry] = []
         self.known: Dict[bytes, Optional[Entry]] = {}
-        self.outcomes: Dict[bytes, int] = {}
-        self.texts: List[bytes] = []
+        self.outcomes = Outcomes(plan.goal)
+        self.comparisons = Comparisons(plan.code)
         self.sessions: Dict[Optional[int], Tries] = {}
         self.next, self.left, self.is_over = plan.first + place, share(plan.runs, place, count), False
         self.runs = self.quiet_since = 0
-        self.fresh: List[Tuple[bytes, Reply, str]] = []
+        self.deepening, self.sweeps = Deepening(self), Share(lambda: self.all_runs)
+        self.fresh: List[Tuple[bytes, Reply, str, int]] = []  # each with the number of its try
         self.to_shorten: List[Tuple[bytes, str]] = []
+        self.sided: Set[bytes] = set()  # the seeds with sides that none before them had
         self.told_at = 0.0
 
     # ---- tries
@@ -108,15 +113,22 @@ class Worker:
             self.left -= 1
         return True
 
-    def attempt(self, tries: Tries, content: bytes, how: str, then=None, kind=NEWS):
-        """Tries an input that follows from the entry at work."""
+    def attempt(self, tries: Tries, content: bytes, how: str, then=None, kind=NEWS, is_kept=False):
+        """Tries an input that follows from the entry at work. One that `is_kept` will enter the queue, whatever comes of it."""
         if self.spend():
             origin = made_of(self.at_work, how) if self.at_work else how
-            tries.attempt(content, partial(self.judge, origin, then), kind)
+            tries.attempt(content, partial(self.judge, origin, then, is_kept), kind)
 
     def differ(self, tries: Tries, content: bytes, take, kept=frozenset()):
+        """Asks for the compares of an input that follows from the entry at work. It will enter the queue if one of them puts another value
+        into a register."""
         if self.spend():
-            tries.differ(content, take, kept)
+            tries.differ(content, partial(self.compared, tries, take), kept)
+
+    def compared(self, tries: Tries, take, content: bytes, pairs: List[Pair]):
+        if self.comparisons.take(pairs):
+            self.attempt(tries, content, "value", kind=EACH, is_kept=True)
+        take(content, pairs)
 
     def settle(self, tries: Tries, most=0):
         tries.settle(most)
@@ -124,18 +136,13 @@ class Worker:
         if self.is_over:
             raise Over
 
-    def judge(self, origin: str, then, content: bytes, reply: Reply):
-        """Takes the reply to a try. An input with news will enter the queue, if it is tried for that."""
-        if reply.is_news and content not in self.known:
+    def judge(self, origin: str, then, is_kept: bool, content: bytes, reply: Reply):
+        """Takes the reply to a try. An input with news will enter the queue."""
+        if (reply.is_news or is_kept) and content not in self.known:
             self.known[content] = None
-            self.fresh.append((content, reply, origin))
+            self.fresh.append((content, reply, origin, self.all_runs))
         if then is not None:
             then(content, reply)
-
-    def text_of(self, number: int) -> bytes:
-        if number >= len(self.texts):
-            self.texts = list(self.outcomes)
-        return self.texts[number]
 
     @property
     def all_runs(self) -> int:
@@ -148,8 +155,9 @@ class Worker:
         if self.fresh and os.getppid() != self.plan.parent:
             raise Over  # nobody takes what it finds
         while self.fresh:
-            content, reply, origin = self.fresh.pop(0)
+            content, reply, origin, runs = self.fresh.pop(0)
             entry = self.known[content] = Entry(content, self.next, True)
+            entry.has_sides = reply.sides > 0
             name = name_of(self.next, origin, reply.sides > 0)
             write(self.folders.own, name, content)
             self.folders.seen.setdefault(self.folders.own, set()).add(name)
@@ -158,11 +166,12 @@ class Worker:
             self.quiet_since = self.all_runs
             self.tell("entry", name)
             self.tell_state()
-            self.find(content, reply)
+            self.find(content, reply, runs)
 
-    def find(self, content: bytes, reply: Reply):
-        for part in self.news.new(reply.outcome, self.text_of(reply.outcome)):
-            self.tell("finding", content.hex(), part.text, part.address)
+    def find(self, content: bytes, reply: Reply, runs: int):
+        """Reports what is found by an input, and after how many runs."""
+        for part in self.news.new(reply.outcome, self.outcomes.texts[reply.outcome]):
+            self.tell("finding", content.hex(), part.text, part.address, runs)
             self.to_shorten.append((content, part.text))
 
     def shorten(self, content: bytes, finding: str):
@@ -193,7 +202,7 @@ class Worker:
         return found[0] if found else None
 
     def has(self, number: int, finding: str) -> bool:
-        self.news.learn(number, self.text_of(number))
+        self.news.learn(number, self.outcomes.texts[number])
         return self.news.has(number, finding)
 
     # ---- files that are there, and that come
@@ -203,7 +212,7 @@ class Worker:
         for content in self.plan.seeds:
             tries = self.tries_for(content)
             tries.prepare(content)
-            self.attempt_known(tries, content, lambda _, reply: self.news.skip(reply.outcome, self.text_of(reply.outcome)))
+            self.attempt_known(tries, content, self.take_seed)
             tries.settle()
         if self.place == 0:
             self.tell("seeds", sorted({it.text for parts in self.news.parts.values() for it in parts}))
@@ -216,6 +225,11 @@ class Worker:
                 self.take_other(content, taken_from(self.folders.name(folder), number))
         for tries in list(self.sessions.values()):
             self.settle(tries)
+
+    def take_seed(self, content: bytes, reply: Reply):
+        self.news.skip(reply.outcome, self.outcomes.texts[reply.outcome])
+        if reply.sides:
+            self.sided.add(content)
 
     def attempt_known(self, tries: Tries, content: bytes, take):
         """Tries an input of the queue, which is no new one."""
@@ -233,10 +247,11 @@ class Worker:
         tries.prepare(content)
 
         def take(_, reply):
+            entry.has_sides = reply.sides > 0 or content in self.sided
             if finds:
-                self.find(content, reply)
+                self.find(content, reply, self.all_runs)
             else:
-                self.news.skip(reply.outcome, self.text_of(reply.outcome))
+                self.news.skip(reply.outcome, self.outcomes.texts[reply.outcome])
         self.attempt_known(tries, content, take)
         self.settle(tries, AHEAD)
 
@@ -272,7 +287,7 @@ class Worker:
         waiting = sum(not it.taken for it in self.entries)
         at = self.entries.index(self.at_work) if self.at_work in self.entries else 0
         cycles = min((it.taken for it in self.entries), default=0)
-        runs_on = all(it.split(b"\n", 1)[0] == RUNS.encode() for it in self.outcomes)
+        runs_on = all(it.split(b"\n", 1)[0] == RUNS.encode() for it in self.outcomes.texts)
         self.tell("state", self.all_runs, waiting, at, cycles, runs_on)
 
     at_work: Optional[Entry] = None
@@ -310,15 +325,19 @@ class Worker:
         if entry is not None:
             self.ask(entry)
             return
-        entry = min(reversed(self.entries), key=lambda it: it.taken)
+        if self.deepening.is_due:
+            self.deepening.turn()
+            return
+        entry = min(reversed(self.entries), key=lambda it: it.rank)
         entry.taken += 1
         self.at_work = entry
         if entry.is_own or entry.taken > 1:
             self.ask(entry)
         tries = self.tries_for(entry.content)
         tries.set_base(entry.content)
-        if self.all_runs - self.quiet_since >= QUIET:
-            self.sweep(tries, entry)
+        if self.all_runs - self.quiet_since >= QUIET and self.sweeps.has_room:
+            with self.sweeps.work():
+                self.sweep(tries, entry)
         self.mutate(tries, entry)
 
     def ask(self, entry: Entry):
@@ -326,12 +345,14 @@ class Worker:
         self.at_work = entry
         if not entry.is_asked:
             entry.is_asked = True
-            Asking(self, entry).work()
+            asking = Asking(self, entry)
+            asking.work()
+            self.deepening.add(entry, asking)
 
     def mutate(self, tries: Tries, entry: Entry):
         """Tries mutated inputs of an entry, in the order of the first changed byte: the program keeps the machine that reads it."""
         repairs, made, below = Repairs(self, entry, tries), self.mutations.mutated, self.mutations.below
-        contents = [made(entry.content, self.entries[below(len(self.entries))].content[:LONGEST]) for _ in range(TURN)]
+        contents = [made(entry.content, self.entries[below(len(self.entries))].content[:LONGEST], entry.end) for _ in range(TURN)]
         for number, content in enumerate(sorted(contents, key=partial(common, entry.content))):
             if content == entry.content or content in self.known:
                 continue
