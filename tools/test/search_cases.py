@@ -110,7 +110,7 @@ static int main(void)
     int is_other = at16(0) == 0x41b7;
     if (at16(8 + 64 * is_other) != 0x5c02)
         return 1;
-    return *(volatile int *)((long)given & (is_other - 1));
+    return *(volatile int *)((long)given & (is_other - 1)) & 0;
 }
 """
 # A sum that is compared in a function: its value is in a register. The records are those of the packet.
@@ -144,7 +144,7 @@ static int main(void)
 {
     read_all();
     int number = (given[0] | given[1] << 8 | given[2] << 16) - 1;
-    return is_low(number) ? *(volatile int *)((long)given & ~(number >> 31)) : 1;
+    return is_low(number) ? *(volatile int *)((long)given & ~(number >> 31)) & 0 : 1;
 }
 """
 # Bytes that no compare depends on.
@@ -154,7 +154,7 @@ static int main(void)
     if (read_all() < 8 || given[7] != 0x3c)
         return 1;
     int all = given[0] & given[1] & given[2] & given[3] & given[4] & given[5] & given[6];
-    return *(volatile int *)((long)given & (all - 255) >> 8);
+    return *(volatile int *)((long)given & (all - 255) >> 8) & 0;
 }
 """
 # A word that is looked up in a table, where only the last of 100 counts.
@@ -199,7 +199,7 @@ PROGRAMS = {"packet": PACKET, "secret": SECRET, "registers": REGISTERS, "hangs":
 FOUND = (
     ("two records", "secret", bytes(8), 6000, (0, 1)),
     ("a number in three compares", "registers", b"", 1000, (0,)),
-    ("words of which each leads to nothing new", "words", bytes(8), 12000, (0,)),
+    ("words of which each leads to nothing new", "words", bytes(8), 5000, (0,)),
     ("a value that no branch depends on", "value", bytes(8), 1500, (0,)),
     ("a sum whose compare is a value", "sum", bytes(8), 5000, (0, 1)),
     ("a length, and bytes after it", "length", b"\x3d" + bytes(7), 80, (0,)),

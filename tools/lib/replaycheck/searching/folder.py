@@ -31,6 +31,11 @@ class Finding:
     def name(self) -> str:
         return f"{self.number:02}"
 
+    @property
+    def more(self) -> List[str]:
+        """What its file has after its text."""
+        return [*filter(None, [self.address]), *([] if self.tries is None else [f"tries {self.tries}"])]
+
 
 class Folder:
     """The folder in which a search works: `path` itself, or where another search does that, the first of its folders 2, 3 .. in which
@@ -105,7 +110,7 @@ class Folder:
     def write(self, finding: Finding, lines: List[str], report: List[str]):
         """Writes a finding. Its text comes last: what has none isn't whole."""
         parts = {"input": finding.content, "session": text_of(lines), "report": text_of(report),
-                "text": text_of([finding.text, *([finding.address] if finding.address else [])])}
+                "text": text_of([finding.text, *finding.more])}
         for suffix, content in parts.items():
             write(os.path.join(self.own, FINDINGS), f"{finding.name}.{suffix}", content)
 
