@@ -53,7 +53,8 @@ returns-then-at-end-clause-extends c start setup marks from straight =
     let at = c.loop-at.at in
     let all : at + 1 - c.args.place ≡ c.args.count =
     omega (arith, inv.later, c.loop-at-test.false, c.if-at-end.true) in
-    subst (λ n. Extends start setup marks from (from + n) c.args.first 4 c.args.table.now c.enter_at-then-at-end.new.table) all
+    subst (λ n. Extends start setup marks from (from + n) c.args.first 4 c.args.table.now
+    c.enter_at-then-at-end.new.table) all
     (row-more start setup marks c.args.first from c.args.place c.args.count at c.args.table.now c.loop-at.table
     c.enter_at-then-at-end.new.table inv.rows inv.later (omega (arith, c.if-at-end.true)) straight
     (inv.extends start setup marks from straight) c.enter_at-then-at-end.ensures)
