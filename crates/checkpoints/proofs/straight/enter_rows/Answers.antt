@@ -37,7 +37,8 @@ loop-at-preserved c =
       within = omega (arith, c.loop-at-test.true);
       rows = c.enter_at-in-loop-at.ensures.rows ∙ c.enter_at.ensures.rows ∙ inv.rows;
       extends = λ start setup marks from straight.
-          subst (λ n. Extends start setup marks from (from + n) first 4 c.args.table.now c.enter_at-in-loop-at.new.table)
+          subst (λ n. Extends start setup marks from (from + n) first 4 c.args.table.now
+          c.enter_at-in-loop-at.new.table)
           (omega arith)
           (row-more start setup marks first from place c.args.count (at + 1) c.args.table.now c.enter_at.new.table
           c.enter_at-in-loop-at.new.table (c.enter_at.ensures.rows ∙ inv.rows) (omega (arith, inv.later))
