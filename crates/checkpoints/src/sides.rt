@@ -275,7 +275,7 @@ fn add_side(sides: &mut Sides, on: bool)
 
 /// The index of the place at an address, if it is that of a place.
 #[inline(always)]
-pub(crate) fn place_at(first: u32, apart: u32, addr: u32) -> Option<usize>
+fn place_at(first: u32, apart: u32, addr: u32) -> Option<usize>
     requires { IsApart apart }
     ensures some { IfSome result (λ i. first + apart * i ≡ addr) }
     ensures none { IfNone result ((i : ℕ) → first + apart * i ≡ addr → ⊥) }

@@ -10,7 +10,7 @@ ghost use Rattle.checkpoints.specs.Extending.{Extends, GoesStraight, Leaves};
 ghost use Rattle.checkpoints.specs.Marks.{NoneBetween};
 ghost use Rattle.checkpoints.specs.Sides.{side_of, sided};
 
-use crate::sides::{Sides, enter_at, enter_side, place_at};
+use crate::sides::{Sides, enter_at, enter_side};
 use guest_machine::{Machine, Setup};
 use std::alloc::AllocError;
 
@@ -109,33 +109,34 @@ fn run_words(
     ensures away { IfOk result (λ r. (start : State) (marks : List AlterationOf) (from : ℕ) → NoneBetween from (from + most) marks
         → Shows machine (post start setup.now marks from) → IsTrue r.2 → Leaves start setup.now marks (from + r.1) r.0 (pc + 4 * r.1)) }
 {
-    let limit = limit_of(pc, most);
+    let fits = words_from(pc, most);
     let mut machine = machine;
     let mut next = pc;
-    while next < limit {
+    // What is left is counted: to count what was made costs more at each step.
+    let mut left = fits;
+    while left > 0 {
         let (stepped, is_made) = machine.step_decoded(setup)?;
         machine = stepped;
         if !is_made {
-            return Ok((machine, (next - pc) / WORD, false));
+            return Ok((machine, fits - left, false));
         }
-        let after = next + WORD;
-        if machine.pc() != after {
-            return Ok((machine, (next - pc) / WORD, true));
+        next += WORD;
+        if machine.pc() != next {
+            return Ok((machine, fits - left, true));
         }
-        next = after;
+        left -= 1;
     }
-    Ok((machine, (next - pc) / WORD, false))
+    Ok((machine, fits, false))
 }
 
-/// The address after a number of words from one on, or after fewer words if there are no more addresses.
+/// A number of words, or how many there are from an address on before the last one.
 #[inline(always)]
-fn limit_of(pc: u32, most: u32) -> u32
-    ensures later { pc ≤ result }
-    ensures whole { (result - pc) % 4 ≡ 0 }
-    ensures within { result ≤ pc + 4 * most }
+fn words_from(addr: u32, most: u32) -> u32
+    ensures most { result ≤ most }
+    ensures room { addr + 4 * result < 2 ^ 32 }
 {
-    let room = (u32::MAX - pc) / WORD;
-    pc + WORD * if most < room { most } else { room }
+    let room = (u32::MAX - addr) / WORD;
+    if most < room { most } else { room }
 }
 
 /// Enters the sides of steps that execute words from an address on: a number of steps that go straight ahead, and one more that doesn't if
@@ -186,7 +187,10 @@ fn place_of(table: &[Sides], first: u32, addr: u32, count: u32) -> Option<usize>
     ensures at { IfSome result (λ place. first + 4 * place ≡ addr) }
     ensures rows { IfSome result (λ place. place + count < length table.now) }
 {
-    let place = place_at(first, WORD, addr)?;
+    if addr < first || (addr - first) % WORD != 0 {
+        return None;
+    }
+    let place = ((addr - first) / WORD) as usize;
     if place + (count as usize) < table.len() {
         Some(place)
     } else {
@@ -194,7 +198,7 @@ fn place_of(table: &[Sides], first: u32, addr: u32, count: u32) -> Option<usize>
     }
 }
 
-/// Enters the sides of a number of steps that go straight ahead from a place, where the table has a row for each.
+/// Enters the sides of a number of steps that go straight ahead from a place, where the table has a row for each. Two at a time cost less.
 #[inline(always)]
 fn enter_rows(table: &mut [Sides], first: u32, place: usize, count: u32)
     requires rows { place + count ≤ length table.old }
@@ -202,7 +206,14 @@ fn enter_rows(table: &mut [Sides], first: u32, place: usize, count: u32)
     ensures extends { (start : State) (setup : SetupOf) (marks : List AlterationOf) (from : ℕ) → GoesStraight start setup marks from (first + 4 * place) 4 count
         → Extends start setup marks from (from + count) first 4 table.old table.new }
 {
-    for at in place..place + count as usize {
+    let end = place + count as usize;
+    let mut at = place;
+    while end - at >= 2 {
+        enter_at(table, first, WORD, at, true);
+        enter_at(table, first, WORD, at + 1, true);
+        at += 2;
+    }
+    if at < end {
         enter_at(table, first, WORD, at, true);
     }
 }

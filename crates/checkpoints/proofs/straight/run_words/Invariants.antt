@@ -1,4 +1,4 @@
-use Rattle.std.proofs.Common.{◌≡◌, ℕ, ◌+◌, ◌-◌, ◌/◌, ◌%◌, ◌<◌, ◌≤◌, List}
+use Rattle.std.proofs.Common.{◌*◌, ◌≡◌, ℕ, ◌+◌, ◌-◌, ◌<◌, ◌≤◌, List}
 use Rattle.guest_machine.specs.State.{State}
 use Rattle.guest_machine.specs.Run.{pre, post}
 use Rattle.guest_machine.specs.Shows.{Shows}
@@ -7,14 +7,13 @@ use Rattle.checkpoints.specs.Extending.{GoesStraight}
 use Rattle.checkpoints.specs.Marks.{NoneBetween}
 use Rattle.checkpoints.proofs.straight.run_words.Given as goal
 
-abbrev pub invariant-loop-next : goal.invariant-loop-next
-invariant-loop-next l =
-    let count = (l.next - l.pc) / 4 in
+abbrev pub invariant-loop-left : goal.invariant-loop-left
+invariant-loop-left l =
+    let count = l.fits - l.left in
     record {
       there : (s : State) → Shows l.machine s → l.next ≡ s.core.pc;
-      later : l.pc ≤ l.next;
-      within : l.next ≤ l.limit;
-      whole : (l.next - l.pc) % 4 ≡ 0;
+      within : l.left ≤ l.fits;
+      at : l.next ≡ l.pc + 4 * count;
       marked : (start : State) (marks : List Alteration) (from : ℕ) → NoneBetween from (from + l.most) marks
           → Shows l.fn.machine (post start l.setup marks from) → count < l.most
           → Shows l.machine (post start l.setup marks (from + count));
@@ -26,5 +25,5 @@ invariant-loop-next l =
           → GoesStraight start l.setup marks from l.pc 4 count;
     }
 
-abbrev pub decreases-loop-next : goal.decreases-loop-next
-decreases-loop-next l = l.limit - l.next
+abbrev pub decreases-loop-left : goal.decreases-loop-left
+decreases-loop-left l = l.left
