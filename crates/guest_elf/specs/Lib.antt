@@ -7,3 +7,4 @@ pub mod Names
 pub mod Profiles
 pub mod Sections
 pub mod Segments
+pub mod Defined

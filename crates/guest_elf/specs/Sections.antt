@@ -87,6 +87,10 @@ name_from strings start = before_first is_zero (drop start strings)
 unfoldable pub is_function : Symbol → Bool
 is_function symbol = symbol.info % 16 == 2 && not (symbol.section == 0)
 
+-- whether it is an STT_NOTYPE of a section: a label of assembly, unless that gives it a type
+unfoldable pub is_label : Symbol → Bool
+is_label symbol = symbol.info % 16 == 0 && not (symbol.section == 0)
+
 -- whether it is a function with a name that is not empty
 unfoldable pub is_naming : List ℕ → Symbol → Bool
 is_naming strings symbol = is_function symbol && not (slice_index strings symbol.name == 0)

@@ -3,7 +3,7 @@
 //!
 //! [`read`] returns an [`Image`], whose segments and names are slices of the file, or the first of the reasons to reject the file, in the
 //! order of their numbers. [`read_for`] does the same for a [`Profile`], which it keeps in the image. Both return for every file. They test
-//! the conditions 20 to 28 before they allocate memory. Then lists grow: of what is loaded, of the segments and of the symbols that name. If one can't grow, they return `Memory`. Of the other calls, only `hooks` allocates memory.
+//! the conditions 20 to 28 before they allocate memory. Then lists grow: of what is loaded, of the segments and of the symbols that name. If one can't grow, they return `Memory`. Of the other calls, only `hooks` and `defined_symbols` allocate memory.
 //!
 //! | Call | What it returns |
 //! |---|---|
@@ -18,6 +18,7 @@
 //! | [`Image::is_word`], [`Image::is_half_word`] | whether an instruction of 32 bits or of 16 may be at an address, and all of its bytes are loaded |
 //! | [`Image::name_of`] | the name of the function at an address |
 //! | [`Image::hooks`] | the functions named `malloc`, `free`, `calloc` and `realloc`, by their addresses |
+//! | [`defined_symbols`] | the functions and labels that a file defines, with their addresses and names |
 //! | [`ElfFault::number`] | the number of a fault: 1, or from 20 to 31 |
 //!
 //! A file may have any number of PT_LOADs that share no address; one with p_memsz and p_filesz 0 is ignored. A file has sections if neither
@@ -53,6 +54,7 @@
 //! - `Sections`: the section headers, the symbol table, its symbols and their names.
 //! - `Names`: the symbol that is nearest to an address, and the name by it (`nearest`, `name_by`).
 //! - `Hooks`: which names are functions of the heap, and those of a symbol table (`hook_named`, `hooks_by`).
+//! - `Defined`: the functions and labels that a file defines (`defined_in`).
 //! - `Images` and `Segments`: what an image loads and names, and a list of segments (`loaded`).
 //! - `Faults`: the numbers of the faults.
 //! - `Profiles`: the usual profile, and where an instruction may begin (`is_aligned`).
@@ -61,6 +63,7 @@
 //! psABI 1.0 (e_machine 243); RISC-V Unprivileged ISA 20191213 (names of instruction sets, IALIGN).
 #![tactic(auto)]
 
+mod defined;
 mod fault;
 mod fields;
 mod hook;
@@ -79,6 +82,7 @@ mod segment;
 mod segments;
 mod symbols;
 
+pub use defined::{DefinedSymbol, defined_symbols};
 pub use fault::ElfFault;
 pub use hook::Hook;
 pub use image::Image;

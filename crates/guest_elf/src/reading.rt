@@ -27,7 +27,7 @@ use std::alloc::{AllocError, Global};
 
 /// Returns the first condition that holds, of those that are tested without memory.
 #[tactic(auto, unfolding(crate::specs::File::early_refusal))]
-fn early_refusal(file: &[u8]) -> Option<ElfFault>
+pub(crate) fn early_refusal(file: &[u8]) -> Option<ElfFault>
     ensures value { result ≡ early_refusal file.now }
     ensures header { IfNone result (HasHeader file.now) }
     ensures table { IfNone result (HasTable file.now) }

@@ -2,15 +2,18 @@
 ghost use Rattle.std.specs.Prelude.{◌≡◌, ℕ, ◌/◌, ◌<◌, ◌&&◌, ◌||◌, ◌==◌, ◌+◌, drop, nat_le, nat_lt, filter, IfOk};
 ghost use Rattle.std.specs.Bool.{OnFalse};
 ghost use Rattle.std.specs.List.{list_any};
+ghost use Rattle.guest_elf.specs.Defined.{is_defined};
 ghost use Rattle.guest_elf.specs.File.{HasHeader, has_bad_symbols};
-ghost use Rattle.guest_elf.specs.Sections.{has_bad_name, is_damaged, is_function, is_naming, is_zero, section_at, section_count, strings_in, symbol_at, symbol_table, symbols_in, HasNames, HasSections, HasSymbols};
+ghost use Rattle.guest_elf.specs.Sections.{has_bad_name, is_damaged, is_function, is_label, is_naming, is_zero, section_at, section_count, strings_in, symbol_at, symbol_table, symbols_in, HasNames, HasSections, HasSymbols};
 
 use crate::fields::{byte_at, half_at, word_at};
 use crate::sections::{SectionHeader, section_at, section_count, symbol_table};
 use std::alloc::{AllocError, Global};
 
 /// The size of a symbol, in bytes.
-const SYMBOL_SIZE: u32 = 16;
+pub(crate) const SYMBOL_SIZE: u32 = 16;
+/// STT_NOTYPE: no type.
+const NO_TYPE: u8 = 0;
 /// STT_FUNC: a function.
 const FUNCTION: u8 = 2;
 /// SHN_UNDEF: a symbol that is defined elsewhere.
@@ -34,10 +37,26 @@ pub(crate) struct Symbol {
 impl Symbol {
     /// Returns whether it is an STT_FUNC that a section defines.
     #[tactic(auto, unfolding(crate::specs::Sections::is_function))]
-    fn is_function(self) -> bool
+    pub(crate) fn is_function(self) -> bool
         ensures { result ≡ is_function self }
     {
         self.info % 16 == FUNCTION && self.section != UNDEFINED
+    }
+
+    /// Returns whether it is an STT_NOTYPE that a section defines.
+    #[tactic(auto, unfolding(crate::specs::Sections::is_label))]
+    fn is_label(self) -> bool
+        ensures { result ≡ is_label self }
+    {
+        self.info % 16 == NO_TYPE && self.section != UNDEFINED
+    }
+
+    /// Returns whether it is a function or a label.
+    #[tactic(auto, unfolding(crate::specs::Defined::is_defined))]
+    pub(crate) fn is_defined(self) -> bool
+        ensures { result ≡ is_defined self }
+    {
+        self.is_function() || self.is_label()
     }
 
     /// Returns whether it is a function whose name begins at `end` or past it.
@@ -66,7 +85,7 @@ impl Symbol {
 
 /// Returns the symbol at an index of a table.
 #[tactic(auto, unfolding(crate::specs::Sections::symbol_from))]
-fn symbol_at(file: &[u8], table: SectionHeader, index: u32) -> Symbol
+pub(crate) fn symbol_at(file: &[u8], table: SectionHeader, index: u32) -> Symbol
     requires inside { HasSymbols file.now table }
     requires listed { index < table.size / 16 }
     ensures { result ≡ symbol_at file.now table index }
