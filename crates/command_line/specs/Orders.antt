@@ -167,10 +167,20 @@ exec_reports =
     (default_number (codes "callers") 1 24 (codes "12")))
     (default_option (codes "show") (codes "definite,possible"))) quiet_flag
 
-abbrev pub exec_command : App
-exec_command =
+abbrev pub exec_statuses : App
+exec_statuses =
     with_rule (with_rule (with_rule exec_reports (number_option (codes "error-exitcode") 1 255))
     (default_option (codes "count") (codes "definite,possible"))) (number_option (codes "idle-exitcode") 0 255)
+
+-- a flag under its long name
+abbrev pub flag : Text → Rule
+flag name = record (new_rule name) { long = Some name; action = Some SetTrue }
+
+-- and by those for the heap
+abbrev pub exec_command : App
+exec_command =
+    with_rule (with_rule (with_rule exec_statuses (flag (codes "require-heap"))) (flag (codes "no-require-heap")))
+    (option (codes "not-heap"))
 
 -- the command line: `run`, `session`, `look`, `tries`, `sweep`, `certify` and `exec`
 abbrev pub command_line : App
@@ -226,6 +236,9 @@ pub record IsExecOf (rows : List Row) (asked : ExecWords) : Type 0 where
   pub show : Some asked.show.now ≡ first_of (codes "show") rows
   pub count : Some asked.count.now ≡ first_of (codes "count") rows
   pub quiet : IsFlagOf (codes "quiet") rows asked.quiet
+  pub require_heap : IsFlagOf (codes "require-heap") rows asked.require_heap
+  pub no_require_heap : IsFlagOf (codes "no-require-heap") rows asked.no_require_heap
+  pub not_heap : text_of asked.not_heap ≡ first_of (codes "not-heap") rows
 
 -- the command of a name, of what was found for its arguments
 abbrev pub IsTaskOf : Text → List Row → Task → Type 0

@@ -2,7 +2,7 @@
 ghost use Rattle.std.specs.Prelude.{◌≡◌, IfOk, IfSome, false};
 ghost use Rattle.clap.specs.Words.{app_of, found_of, rows_of, rule_of};
 ghost use Rattle.clap.specs.declared.builder.command.Command.TheViews.{out-Command};
-ghost use Rattle.command_line.specs.Orders.{default_number, exec_command, exec_reports, exec_runs, number_option, quiet_flag, IsExecOf, IsNumberIn, IsNumberOf};
+ghost use Rattle.command_line.specs.Orders.{default_number, exec_command, exec_reports, exec_runs, exec_statuses, flag, number_option, quiet_flag, IsExecOf, IsNumberIn, IsNumberOf};
 
 use crate::arguments::{default_option, option, program_command, step_of};
 use crate::help::{AFTER_EXEC, EXEC};
@@ -82,18 +82,43 @@ fn exec_reports<'a>(alloc: Global) -> Result<Command<'a>, AllocError>
     command.arg(show)?.arg(quiet_flag(alloc))
 }
 
-/// The command `exec`.
-pub(crate) fn exec_command<'a>(alloc: Global) -> Result<Command<'a>, AllocError>
-    ensures shape { IfOk result (λ command. app_of command ≡ exec_command) }
+/// And those for the exit status.
+fn exec_statuses<'a>(alloc: Global) -> Result<Command<'a>, AllocError>
+    ensures shape { IfOk result (λ command. app_of command ≡ exec_statuses) }
     ensures globals { IfOk result (λ command. (out-Command command).has_globals ≡ false) }
 {
-    let errors = "The exit status of a program that exits and has errors: 1 to 255";
+    let errors = "The exit status of a program that exits or rests and has errors: 1 to 255";
     let errors = number_option(alloc, "error-exitcode", 1, 255, errors);
     let command = exec_reports(alloc)?.arg(errors)?;
     let count = "Leak kinds that count as errors, as those of --show";
     let command = command.arg(default_option(alloc, "count", "LIST", USUAL_KINDS, count))?;
     let idle = "The exit status of a program that rests in a jump to itself: 0 to 255";
     command.arg(number_option(alloc, "idle-exitcode", 0, 255, idle))
+}
+
+/// A flag under its long name.
+fn flag<'a>(alloc: Global, name: &'a str, help: &'a str) -> Arg<'a>
+    ensures rule { rule_of result ≡ flag name.entry.now }
+    ensures local { result.global ≡ false }
+{
+    Arg::new(alloc, name)
+        .long(name)
+        .action(ArgAction::SetTrue)
+        .help(help)
+}
+
+/// The command `exec`.
+pub(crate) fn exec_command<'a>(alloc: Global) -> Result<Command<'a>, AllocError>
+    ensures shape { IfOk result (λ command. app_of command ≡ exec_command) }
+    ensures globals { IfOk result (λ command. (out-Command command).has_globals ≡ false) }
+{
+    let required = "Fails if errors of the heap can't be found, as --error-exitcode does";
+    let required = flag(alloc, "require-heap", required);
+    let command = exec_statuses(alloc)?.arg(required)?;
+    let unrequired = "Doesn't fail for that, with --error-exitcode";
+    let command = command.arg(flag(alloc, "no-require-heap", unrequired))?;
+    let not_heap = "Functions that aren't a heap's, whatever their names are";
+    command.arg(option(alloc, "not-heap", "NAME,..", not_heap))
 }
 
 /// The number of an option, of what was found for the arguments.
@@ -129,5 +154,8 @@ pub(crate) fn exec_of<'a>(chosen: &ArgMatches<'a>) -> Option<ExecWords<'a>>
         show: chosen.get_str("show")?,
         count: chosen.get_str("count")?,
         quiet: chosen.get_flag("quiet"),
+        require_heap: chosen.get_flag("require-heap"),
+        no_require_heap: chosen.get_flag("no-require-heap"),
+        not_heap: chosen.get_str("not-heap"),
     })
 }

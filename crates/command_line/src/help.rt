@@ -307,16 +307,24 @@ The program's output goes to standard output as it is written, the report at the
 standard error. Without --input the program reads standard input, which is only read when the
 program asks for more than it has.
 
+Errors of the heap can't be found if the file has no symbols and the run calls no heap, or if blocks
+come from functions that aren't mapped to malloc. With --error-exitcode that is a failure, of which
+a line names the functions: those that real-time systems have, such as pvPortMalloc and k_malloc,
+and, where no function is named malloc, free, calloc or realloc, those with alloc in their names.
+`replaycheck adopt` maps them; --not-heap says which are none, and --no-require-heap lets all pass.
+
 Example, as the command that runs a test:
   replaycheck exec --quiet --error-exitcode 9 test.elf
 
 Exit status:
   N    the program's, when it exits
-  N    of --error-exitcode, when it exits and has errors or leaks that count
+  N    of --error-exitcode, when it exits or rests in a jump to itself, and has errors or leaks that
+       count, or errors of its heap can't be found
   132, 133, 135, 139
        it stopped: illegal instruction, EBREAK, misaligned address, jump to no memory
   124  it still runs at the last step; N of --idle-exitcode if it rests in a jump to itself
   123  it would be 0, but a write found no room: a program has 65536 bytes of output
   125  a fault of the command line, out of memory, or the output or report can't be written
-  126  the program, the suppressions, the input or a patch is refused
+  126  the program, the suppressions, the input or a patch is refused; with --require-heap and
+       without --error-exitcode, errors of the heap can't be found
   127  a file can't be read";

@@ -83,7 +83,7 @@ pub struct ExecWords<'a> {
     pub patches: Option<&'a str>,
     /// The file of the report, or none for standard error.
     pub report: Option<&'a str>,
-    /// The exit status of a program that exits and has errors or leaks that count.
+    /// The exit status of a program that exits or rests, and has errors or leaks that count.
     pub error_exitcode: Option<u32>,
     /// The exit status of one that rests in a jump to itself.
     pub idle_exitcode: Option<u32>,
@@ -99,4 +99,10 @@ pub struct ExecWords<'a> {
     pub count: &'a str,
     /// Whether a report without errors, listed leaks and stops is left out.
     pub quiet: bool,
+    /// Whether a run whose heap is unseen fails.
+    pub require_heap: bool,
+    /// Whether it doesn't, though an exit status is chosen for errors.
+    pub no_require_heap: bool,
+    /// Names of functions that aren't a heap's, with commas.
+    pub not_heap: Option<&'a str>,
 }

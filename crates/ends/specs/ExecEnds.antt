@@ -1,7 +1,7 @@
 -- How `exec` ends. Its exit status is that of the program that it runs; in other cases one that a shell, env(1) or
 -- timeout(1) has.
-use Rattle.std.specs.Prelude.{ℕ, ◌+◌, ◌%◌, ◌==◌, ◌&&◌, Bool, true, false, if◌then◌else◌, List, [], ◌++◌, Option, Some}
-use Rattle.std.specs.Prelude.{None}
+use Rattle.std.specs.Prelude.{ℕ, ◌+◌, ◌%◌, ◌==◌, ◌&&◌, ◌||◌, Bool, true, false, if◌then◌else◌, List, [], ◌++◌, Option}
+use Rattle.std.specs.Prelude.{Some, None}
 use Rattle.std.specs.Prelude.{codes, decimal, nat_lt}
 use denote.Ref.{Bor}
 use Rattle.guest_elf.specs.declared.fault.ElfFault.TheVariants.{Memory}
@@ -30,19 +30,26 @@ stop_status Break = 128 + 5
 stop_status Misaligned = 128 + 7
 stop_status Jump = 128 + 11
 
--- one that still runs that of timeout(1), unless it rests in a jump to itself and a status was chosen for that
-abbrev pub running_status : Option ℕ → Bool → ℕ
-running_status (Some chosen) true = chosen
-running_status _ _ = 124
+-- one that rests in a jump to itself that of timeout(1), unless a status was chosen for that
+abbrev pub resting_status : Option ℕ → ℕ
+resting_status (Some chosen) = chosen
+resting_status None = 124
 
--- one that exits its own, unless it has errors and a status was chosen for them
-abbrev pub exited_status : Option ℕ → Bool → ℕ → ℕ
-exited_status (Some chosen) true code = chosen
-exited_status _ _ code = code
+-- a run is held to have failed: it has errors, or those of its heap can't be found and it is asked for that they can
+abbrev pub has_failed : Outcome → Bool
+has_failed outcome = outcome.has_errors || outcome.heap_fails
 
+-- one that has failed has the status that was chosen for errors; without one, an unseen heap counts as refused, and
+-- errors don't change the status
+abbrev pub judged_status : Option ℕ → Outcome → ℕ → ℕ
+judged_status (Some chosen) outcome own = if has_failed outcome then chosen else own
+judged_status None outcome own = if outcome.heap_fails then 126 else own
+
+-- where a program still runs, the status is that of timeout(1) or of its rest; where it exits, its own; both are judged
 abbrev pub standing_status : Codes → Outcome → Status → ℕ
-standing_status codes outcome Running = running_status codes.idle outcome.idles
-standing_status codes outcome (Exited code) = exited_status codes.errors outcome.has_errors code
+standing_status codes outcome Running =
+    if outcome.idles then judged_status codes.errors outcome (resting_status codes.idle) else 124
+standing_status codes outcome (Exited code) = judged_status codes.errors outcome code
 standing_status codes outcome (Stopped stop) = stop_status stop
 
 -- a run that would end with 0 though output was lost ends with this
@@ -88,7 +95,8 @@ running_line step = line_with (codes "replaycheck exec: still running at step ")
 abbrev pub resting_line : ℕ → List ℕ
 resting_line step =
     line_with
-    (codes "replaycheck exec: in a jump to itself (--idle-exitcode=0 lets that pass) at step ")
+    (codes
+    "replaycheck exec: in a jump to itself (--idle-exitcode=0 passes that, as a failed assert that loops) at step ")
     (decimal step)
 
 abbrev pub lost_line : ℕ → List ℕ
@@ -110,6 +118,18 @@ abbrev pub run_lines : Codes → Outcome → List ℕ
 run_lines codes outcome =
     standing_lines codes.idle outcome outcome.status ++ (if nat_lt 0 outcome.lost then lost_line outcome.lost else [])
 
+-- what is said of a heap whose errors can't be found, or of other functions that may give blocks: their names; or that
+-- there are no names
+abbrev pub heap_line : List ℕ → List ℕ → List ℕ
+heap_line file [] =
+    codes "replaycheck exec: " ++ file
+    ++ line_with
+    (codes ": errors of the heap can't be found: the file has no symbols: strip it with --strip-debug only") []
+heap_line file names =
+    codes "replaycheck exec: " ++ file
+    ++ line_with
+    (codes ": errors of the heap can't be found in blocks of these (see `replaycheck adopt`, --not-heap): ") names
+
 -- the name of the place of a report: the path of a file, or standard error
 abbrev pub place_name : Option (Bor (List ℕ)) → List ℕ
 place_name (Some path) = path.now
@@ -124,3 +144,7 @@ exec_lines (ReportInPlace path) =
 exec_lines (NoReport place) = line_with (codes "replaycheck exec: cannot write the report: ") (place_name place)
 exec_lines (PatchRefused text) = line_with (codes "replaycheck exec: patch refused 4: ") text.now
 exec_lines (Ran codes outcome) = run_lines codes outcome
+
+abbrev pub heap_lines : ExecEnd → List ℕ → List ℕ → List ℕ
+heap_lines (Ran codes outcome) file names = if outcome.heap_told then heap_line file names else []
+heap_lines end file names = []

@@ -1,13 +1,13 @@
 //! How `exec` ends: its exit status, which is the program's where it has one, and what is said on standard error.
-ghost use Rattle.std.specs.Prelude.{◌≡◌, [], IsTrue, decimal, if◌then◌else◌, nat_lt};
+ghost use Rattle.std.specs.Prelude.{◌≡◌, ◌++◌, [], IsTrue, decimal, if◌then◌else◌, nat_lt};
 ghost use Rattle.std.specs.Io.KnownBytes.{Appends};
-ghost use Rattle.ends.specs.Ends.{AppendsFront, line_with};
-ghost use Rattle.ends.specs.ExecEnds.{early_status, exec_lines, exec_status, going_lines, lost_line, place_name, run_lines, run_status, standing_lines, standing_status, stop_status};
+ghost use Rattle.ends.specs.Ends.{AppendsFront, line_of, line_with, status_of};
+ghost use Rattle.ends.specs.ExecEnds.{early_status, exec_lines, exec_status, going_lines, heap_line, heap_lines, judged_status, lost_line, place_name, run_lines, run_status, standing_lines, standing_status, stop_status};
 ghost use Rattle.ends.specs.declared.ends.End.TheVariants.{Image};
 ghost use Rattle.ends.specs.declared.exec_ends.ExecEnd.TheVariants.{Early};
 
-use crate::ends::{End, write_line};
-use crate::lines::send_line;
+use crate::ends::{End, tell, write_line};
+use crate::lines::{send_line, send_two};
 use guest_elf::ElfFault;
 use itoa::Buffer;
 use run_values::{Status, Stop};
@@ -22,13 +22,15 @@ const RUNNING: u32 = 124;
 const FAILED: u8 = 125;
 /// The exit status where what is to be run is refused.
 const REFUSED: u8 = 126;
+/// The exit status of a run whose heap is unseen, where none was chosen for errors.
+const UNSEEN: u32 = 126;
 /// The exit status where it can't be read.
 const UNREADABLE: u8 = 127;
 
 /// The exit statuses that a user chose in place of others; of each the system keeps eight bits.
 #[derive(Clone, Copy)]
 pub struct Codes {
-    /// Of a program that exits and has errors or leaks that count.
+    /// Of a program that exits or rests, and has errors or leaks that count.
     pub errors: Option<u32>,
     /// Of one that rests in a jump to itself.
     pub idle: Option<u32>,
@@ -47,6 +49,10 @@ pub struct Outcome {
     pub has_errors: bool,
     /// The number of its `write`s that found no room.
     pub lost: u32,
+    /// Whether errors of its heap can't be found, and it is asked for that they can.
+    pub heap_fails: bool,
+    /// Whether that is said, or that other functions may give blocks.
+    pub heap_told: bool,
 }
 
 /// How `exec` ends.
@@ -66,6 +72,17 @@ pub enum ExecEnd<'a> {
     PatchRefused(&'a str),
     /// The run was made, and its report written.
     Ran(Codes, Outcome),
+}
+
+/// How `exec` ends, with what is said of the program's heap.
+#[derive(Drop)]
+pub struct ExecDone<'a> {
+    /// How it ends.
+    pub end: ExecEnd<'a>,
+    /// The program's file, as the command line names it.
+    pub file: &'a str,
+    /// The first names of functions whose blocks aren't known; empty if there are none.
+    pub names: Vec<u8>,
 }
 
 impl<'a> From<End<'a>> for ExecEnd<'a> {
@@ -96,19 +113,35 @@ fn stop_status(stop: Stop) -> u32
     }
 }
 
+/// Returns the status of a run that has one of its own, where errors or an unseen heap may give it another one.
+fn judged_status(errors: Option<u32>, outcome: Outcome, own: u32) -> u32
+    ensures { result ≡ judged_status errors outcome own }
+{
+    match errors {
+        Some(chosen) => {
+            if outcome.has_errors || outcome.heap_fails {
+                chosen
+            } else {
+                own
+            }
+        }
+        None => { if outcome.heap_fails { UNSEEN } else { own } }
+    }
+}
+
 /// Returns the exit status of a run but for lost output.
 fn standing_status(codes: Codes, outcome: Outcome) -> u32
     ensures { result ≡ standing_status codes outcome outcome.status }
 {
     match outcome.status {
-        Status::Running => match codes.idle {
-            Some(chosen) if outcome.idles => chosen,
-            _ => RUNNING,
-        },
-        Status::Exited(code) => match codes.errors {
-            Some(chosen) if outcome.has_errors => chosen,
-            _ => u32::from(code),
-        },
+        Status::Running => {
+            if outcome.idles {
+                judged_status(codes.errors, outcome, codes.idle.unwrap_or(RUNNING))
+            } else {
+                RUNNING
+            }
+        }
+        Status::Exited(code) => judged_status(codes.errors, outcome, u32::from(code)),
         Status::Stopped(stop) => stop_status(stop),
     }
 }
@@ -163,7 +196,7 @@ fn write_going<W: Write>(idle: Option<u32>, idles: bool, step: u32, writer: &mut
         Some(_) => true,
         None => {
             let word =
-                "replaycheck exec: in a jump to itself (--idle-exitcode=0 lets that pass) at step ";
+                "replaycheck exec: in a jump to itself (--idle-exitcode=0 passes that, as a failed assert that loops) at step ";
             write_number(writer, word, step)
         }
     }
@@ -246,12 +279,50 @@ fn write_lines<W: Write>(end: ExecEnd, writer: &mut W) -> bool
     }
 }
 
-/// Writes what is said of an end of `exec` on standard error, and returns the exit status, whatever becomes of the write.
-pub fn tell_exec<W: Write>(end: ExecEnd, writer: &mut W) -> u8
-    ensures status { result ≡ exec_status end.entry }
-    ensures lines { AppendsFront (W.contents writer.old) (W.contents writer.new) (exec_lines end.entry) }
+/// Writes what is said of a heap that isn't seen. Returns whether all of it was taken.
+fn write_heap<W: Write>(file: &str, names: &[u8], writer: &mut W) -> bool
+    ensures line { AppendsFront (W.contents writer.old) (W.contents writer.new) (heap_line file.now names.now) }
+    ensures whole { IsTrue result → Appends (W.contents writer.old) (W.contents writer.new) (heap_line file.now names.now) }
 {
-    let _is_whole = write_lines(end, writer);
+    let word = "replaycheck exec: ";
+    match names {
+        [] => {
+            let rest =
+                ": errors of the heap can't be found: the file has no symbols: strip it with --strip-debug only";
+            send_two(writer, word, file, rest, names)
+        }
+        [_, ..] => {
+            let rest =
+                ": errors of the heap can't be found in blocks of these (see `replaycheck adopt`, --not-heap): ";
+            send_two(writer, word, file, rest, names)
+        }
+    }
+}
+
+/// Writes what is said of the heap of a run, if something is.
+fn tell_heap<W: Write>(end: ExecEnd, file: &str, names: &[u8], writer: &mut W)
+    ensures { AppendsFront (W.contents writer.old) (W.contents writer.new) (heap_lines end.entry file.now names.now) }
+{
+    if let ExecEnd::Ran(_, outcome) = end {
+        if outcome.heap_told {
+            let _is_whole = write_heap(file, names, writer);
+        }
+    }
+}
+
+/// Writes the lines of an end, and then what is said of the heap.
+fn tell_lines<W: Write>(end: ExecEnd, file: &str, names: &[u8], writer: &mut W)
+    ensures { AppendsFront (W.contents writer.old) (W.contents writer.new) (exec_lines end.entry ++ heap_lines end.entry file.now names.now) }
+{
+    if write_lines(end, writer) {
+        tell_heap(end, file, names, writer);
+    }
+}
+
+/// Returns the exit status of an end of `exec`.
+fn exec_status(end: ExecEnd) -> u8
+    ensures { result ≡ exec_status end.entry }
+{
     match end {
         ExecEnd::Early(end) => early_status(end),
         ExecEnd::BadPatch(_)
@@ -261,4 +332,23 @@ pub fn tell_exec<W: Write>(end: ExecEnd, writer: &mut W) -> u8
         ExecEnd::PatchRefused(_) => REFUSED,
         ExecEnd::Ran(codes, outcome) => run_status(codes, outcome),
     }
+}
+
+/// Writes what is said of an end of `exec` on standard error, and returns the exit status, whatever becomes of the write.
+pub fn tell_exec<W: Write>(done: &ExecDone, writer: &mut W) -> u8
+    ensures status { result ≡ exec_status done.now.end }
+    ensures lines { AppendsFront (W.contents writer.old) (W.contents writer.new)
+        (exec_lines done.now.end ++ heap_lines done.now.end done.now.file.now done.now.names.items) }
+{
+    tell_lines(done.end, done.file, &done.names, writer);
+    exec_status(done.end)
+}
+
+/// Writes the line of an end without a run, of `exec` or of another command, and returns the exit status.
+pub fn tell_for<W: Write>(is_exec: bool, end: &End, writer: &mut W) -> u8
+    ensures status { result ≡ (if is_exec then early_status end.now else status_of end.now) }
+    ensures line { AppendsFront (W.contents writer.old) (W.contents writer.new) (line_of end.now) }
+{
+    let status = tell(end, writer);
+    if is_exec { early_status(*end) } else { status }
 }

@@ -12,4 +12,4 @@ mod exec_ends;
 mod lines;
 
 pub use ends::{End, LoneOption, SweepOption, tell};
-pub use exec_ends::{Codes, ExecEnd, Outcome, tell_exec};
+pub use exec_ends::{Codes, ExecDone, ExecEnd, Outcome, tell_exec, tell_for};

@@ -26,7 +26,7 @@ pub(crate) fn send_two<W: Write>(
     word: &str,
     first: &str,
     gap: &str,
-    second: &str,
+    second: &[u8],
 ) -> bool
     ensures front { AppendsFront (W.contents writer.old) (W.contents writer.new) (word.now ++ first.now ++ line_with gap.now second.now) }
     ensures whole { IsTrue result → Appends (W.contents writer.old) (W.contents writer.new) (word.now ++ first.now ++ line_with gap.now second.now) }
@@ -37,5 +37,5 @@ pub(crate) fn send_two<W: Write>(
     if !send(writer, first.as_bytes()).whole {
         return false;
     }
-    send_line(writer, gap, second.as_bytes())
+    send_line(writer, gap, second)
 }

@@ -18,7 +18,8 @@ use Rattle.run_values.specs.declared.alteration.Alteration.{Alteration}
 use Rattle.scenario.specs.Edits.{with_input}
 use Rattle.scenario.specs.Scenario.{Scenario, chosen_state, first_state, with_words}
 use Rattle.scenario.specs.declared.written.Written.{Written}
-use Rattle.exec_orders.specs.Executed.{Cuts, CutsOutput, HasInputOf, HasRun, HasRunAll, IsFault, WritesOutput}
+use Rattle.exec_orders.specs.Executed.{AsksForMore, Cuts, CutsOutput, HasInputOf, HasRun, HasRunAll, IsFault}
+use Rattle.exec_orders.specs.Executed.{WritesOutput}
 use Rattle.exec_orders.specs.Executed.{end_of_fault}
 use Rattle.program_files.specs.Files.{HasStream}
 
@@ -113,17 +114,18 @@ cut-at grows sc n within old new none wrote =
       subst (Appends old new) (sym (take_all (length out) out (omega arith))) wrote,
     )
 
--- one that stops before its last step waits
+-- one that stops before its last step waits, and asks for more there
 pub it-waits : (waits : Bool) (sc : Scenario) (n : ℕ) → StopsAt sc waits n → (n ≡ sc.step → ⊥)
-    → (waits ≡ true) × (n ≤ sc.step)
+    → (waits ≡ true) × (n ≤ sc.step) × AsksForMore sc
 it-waits waits sc n (inl last) apart = absurd (apart last)
-it-waits waits sc n (inr (w, before, sees)) apart = (w, omega (arith, before))
+it-waits waits sc n (inr (w, before, sees)) apart = (w, omega (arith, before), (n, before, sees))
 
 -- ---- a run that stops for its input
 
 -- up to there it is one with an input, whose output so far was written
 pub record Resumes (waits : Bool) (sc done : Scenario) (n : ℕ) (old mid : Option (List ℕ)) : Type 0 where
   pub may : waits ≡ true
+  pub asks : AsksForMore sc
   pub marks : done.marks ≡ []
   pub front : Wrote done 0 n old mid
 
@@ -132,10 +134,12 @@ pub resumes : MovesOn → (waits : Bool) (sc done : Scenario) (e : Execution) (i
     → done ≡ with_input sc input → Resumes waits sc done (step_of e) old mid
 resumes moves waits sc done e input old mid none empty run apart is =
     let n = step_of e in
-    let may = (it-waits waits sc n run.stops apart).0 in
+    let stops = it-waits waits sc n run.stops apart in
+    let may = stops.0 in
     let moved = moves e sc input run.at (empty may) (run.unseen may) in
     record {
       may = may;
+      asks = stops.2;
       marks = ap (λ (s : Scenario). s.marks) is ∙ none;
       front =
           wrote-of done n old mid
@@ -149,7 +153,7 @@ pub resumed : (waits : Bool) (sc done : Scenario) (n : ℕ) (e : Execution) (inp
     → done ≡ with_input sc input → IsAt e done → step_of e ≡ done.step → Wrote done n (step_of e) mid new
     → HasRunAll waits sc done left rest old new e
 resumed waits sc done n e input left rest old mid new it whole is at last wrote = record {
-  input = inr (it.may, input, whole, is);
+  input = inr (it.may, it.asks, input, whole, is);
   at = at;
   last = last;
   output =
@@ -165,6 +169,7 @@ pub cut-short : OutputGrows → (waits : Bool) (sc done : Scenario) (n : ℕ) (i
 cut-short grows waits sc done n input left old mid new end it whole is fault wrote =
     inr (inl (
       it.may,
+      it.asks,
       input,
       whole,
       fault,

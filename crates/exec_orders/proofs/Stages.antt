@@ -26,8 +26,12 @@ use Rattle.run_values.specs.declared.alteration.Alteration.{Alteration}
 use Rattle.scenario.specs.Edits.{IsTaken, row}
 use Rattle.scenario.specs.Scenario.{Scenario}
 use Rattle.suppressions.specs.Rules.{Rule}
-use Rattle.exec_orders.specs.Executed.{Executed, Executes, Finishes, IsChoice, IsUntouched, Pipes, Place, WithImage}
-use Rattle.exec_orders.specs.Executed.{WithScenario, codes_of, pipes, waits_for}
+use Rattle.exec_orders.specs.Executed.{Executed, IsChoice, IsUntouched, Opening, Pipes, WithImage}
+use Rattle.exec_orders.specs.Executed.{names_in, pipes, plan_for, waits_for}
+use Rattle.exec_orders.specs.declared.executing.Plan.{Plan}
+use Rattle.file_heaps.specs.FileHeaps.{known_of, unknown_names}
+use Rattle.file_heaps.specs.declared.heap.Known.{Known}
+use Rattle.guest_elf.specs.Defined.{SymbolContent, defined_in}
 use Rattle.exec_orders.specs.declared.executing.Choices.{Choices}
 use Rattle.command_line.specs.declared.order.Order.{Order}
 use Rattle.command_line.specs.declared.order.ExecWords.{ExecWords}
@@ -40,8 +44,9 @@ use Rattle.exec_orders.specs.Prepared.{NoPatch, patch_in}
 use Rattle.exec_orders.specs.Prepared.{patch_of, patch_with}
 use Rattle.text_parts.specs.Parts.{parts}
 
-pub untouched : (left held logged : Option (List ℕ)) → IsUntouched (pipes left held logged) (pipes left held logged)
-untouched left held logged = (Consumes-nil left, Appends-nil held, Appends-nil logged)
+pub untouched : (left held logged : Option (List ℕ)) (opened : Option (Option (List ℕ))) → opened ≡ None
+    → IsUntouched (pipes left held logged opened) (pipes left held logged opened)
+untouched left held logged opened none = (Consumes-nil left, Appends-nil held, Appends-nil logged, none)
 
 -- ---- results
 
@@ -127,31 +132,6 @@ findings-of s image other rules list callers n kinds shown found a b c d h =
 -- ---- the file of a report
 
 -- opening it writes nothing, so what is written after it is what is written
-pub finishes-opened : (quiet : Bool) (codes : Codes) (count : LeakKinds) (place : Place) (sc : Scenario)
-    (a b c : Option (List ℕ)) (end : ExecEnd) → Appends a b [] → Finishes quiet codes count place sc b c end
-    → Finishes quiet codes count place sc a c end
-finishes-opened quiet codes count place sc a b c (Ran chosen outcome) open-it (same, is, (text, told, wrote)) =
-    (same, is, (text, told, Appends-trans a b c [] text open-it wrote))
-finishes-opened quiet codes count place sc a b c (NoReport failed) open-it (same, (text, sent, told, few, wrote)) =
-    (same, (text, sent, told, few, Appends-trans a b c [] (take sent text) open-it wrote))
-finishes-opened quiet codes count place sc a b c (Early NoMemory) open-it wrote =
-    Appends-trans a b c [] [] open-it wrote
-finishes-opened quiet codes count place sc a b c end open-it h = absurd h
-
-pub executes-opened : (waits quiet : Bool) (codes : Codes) (count : LeakKinds) (place : Place) (sc : Scenario)
-    (left held logged rest new opened last : Option (List ℕ)) (end : ExecEnd) → Appends logged opened []
-    → Executes waits quiet codes count place sc (pipes left held opened) (pipes rest new last) end
-    → Executes waits quiet codes count place sc (pipes left held logged) (pipes rest new last) end
-executes-opened waits quiet codes count place sc left held logged rest new opened last end open-it (inl (
-  done,
-  input,
-  output,
-  h,
-)) =
-    inl (done, input, output, finishes-opened quiet codes count place done logged opened last end open-it h)
-executes-opened waits quiet codes count place sc left held logged rest new opened last end open-it (inr (cuts, none)) =
-    inr (cuts, Appends-trans logged opened last [] [] open-it none)
-
 -- ---- the input
 
 pub no-input : (gives : Giving) (named : Option (List ℕ)) (input : List ℕ) → named ≡ None → HasInput gives named input
@@ -193,30 +173,58 @@ pub no-file : (gives : Giving) (words : ProfileWords) (path : List ℕ) (profile
 no-file gives words path profile end named none =
     inr (profile, named, no-program gives profile path end none)
 
+-- ---- the plan
+
+-- that of what was chosen is the one that the order asks for
+abbrev pub plan-with : Bool → Choices → Known → Option (Bor (List ℕ)) → Plan
+plan-with waits choices known place = record {
+  waits = waits;
+  codes = choices.codes;
+  count = choices.count;
+  quiet = choices.quiet;
+  requires_heap = choices.requires_heap;
+  known = known;
+  place = place;
+}
+
+pub plan-is : (order : Order) (asked : ExecWords) (kinds : LeakKinds) (choices : Choices) (waits : Bool) (known : Known)
+    (symbols : List SymbolContent) → IsChoice asked kinds choices → waits ≡ waits_for order
+    → known ≡ known_of symbols (names_in asked.not_heap)
+    → plan-with waits choices known asked.report ≡ plan_for order asked choices.count symbols
+plan-is order asked kinds choices waits known symbols choice same is = λ i. record {
+  waits = same i;
+  codes = choice.codes i;
+  count = choices.count;
+  quiet = choice.quiet i;
+  requires_heap = choice.requires_heap i;
+  known = is i;
+  place = asked.report;
+}
+
 -- with its options judged, and its program read
-pub with-image : (gives : Giving) (order : Order) (asked : ExecWords) (show : LeakKinds) (choices : Choices)
-    (profile : Profile) (front bytes : List ℕ) (image : Image) (old new : Pipes) (end : ExecEnd)
+pub with-program : (gives : Giving) (opens : Opening) (order : Order) (asked : ExecWords) (show : LeakKinds)
+    (choices : Choices) (profile : Profile) (front bytes : List ℕ) (image : Image) (old new : Pipes)
+    (end : ExecEnd) (names : List ℕ)
     → IsChoice asked show choices → IsProfileNamed order.profile profile
     → IsFront gives order.file.now most_judged front → bytes ≡ front → IsImageFor profile bytes image
-    → WithImage gives order asked show choices.count image old new end → Executed gives order asked old new end
-with-image gives order asked show choices profile front bytes image old new end choice named read same is h = inr (
-  show,
-  choices.count,
-  choice.show,
-  choice.count,
-  inr (image, (profile, front, named, read, subst (λ (xs : List ℕ). IsImageFor profile xs image) same is), h),
-)
-
--- and its scenario made
-pub with-scenario : (order : Order) (asked : ExecWords) (kinds : LeakKinds) (choices : Choices) (waits : Bool)
-    (sc : Scenario) (old new : Pipes) (end : ExecEnd) → IsChoice asked kinds choices → waits ≡ waits_for order
-    → WithScenario waits choices.quiet choices.codes choices.count asked.report sc old new end
-    → WithScenario (waits_for order) asked.quiet (codes_of asked) choices.count asked.report sc old new end
-with-scenario order asked kinds choices waits sc old new end choice is h =
-    subst (λ (b : Bool). WithScenario b asked.quiet (codes_of asked) choices.count asked.report sc old new end) is
-    (subst (λ (b : Bool). WithScenario waits b (codes_of asked) choices.count asked.report sc old new end) choice.quiet
-    (subst (λ (codes : Codes). WithScenario waits choices.quiet codes choices.count asked.report sc old new end)
-    choice.codes h))
+    → names ≡ unknown_names (defined_in front) (names_in asked.not_heap)
+    → WithImage gives opens order asked show (plan_for order asked choices.count (defined_in front)) image old new end
+    → Executed gives opens order asked old new end names
+with-program gives opens order asked show choices profile front bytes image old new end names choice named read same
+    is told h =
+    inr (
+      show,
+      choices.count,
+      choice.show,
+      choice.count,
+      inr (inr (
+        image,
+        defined_in front,
+        (profile, front, named, read, subst (λ (xs : List ℕ). IsImageFor profile xs image) same is, refl),
+        told,
+        h,
+      )),
+    )
 
 -- whether an input is named
 pub waits-same : (waits : Bool) (named : Option (Bor (List ℕ))) → is_some named ≡ not waits

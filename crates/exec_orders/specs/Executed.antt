@@ -1,6 +1,6 @@
 -- What becomes of `exec`: its options are judged, then its files, then the run is made, and then its report is written.
-use Rattle.std.specs.Prelude.{◌≡◌, ◌≤◌, ◌⊎◌, ◌||◌, ℕ, Bool, true, false, List, [], Option, Some, None, is_none, length}
-use Rattle.std.specs.Prelude.{take}
+use Rattle.std.specs.Prelude.{◌≡◌, ◌≤◌, ◌<◌, ◌⊎◌, ◌||◌, ◌&&◌, not, nat_lt, ℕ, Bool, true, false, List, [], Option, Some}
+use Rattle.std.specs.Prelude.{None, is_none, is_some, length, option_map, take}
 use Rattle.std.specs.Str.{bytes_eq}
 use denote.Ref.{Bor}
 use Rattle.std.specs.Io.KnownBytes.{Appends, Consumes}
@@ -18,9 +18,17 @@ use Rattle.ends.specs.declared.exec_ends.Outcome.{Outcome}
 use Rattle.executions.specs.Executions.{refused_at, state_at, step_of, IsAt, StopsAt}
 use Rattle.executions.specs.declared.execution.Execution.{Execution}
 use Rattle.exec_orders.specs.declared.executing.Choices.{Choices}
+use Rattle.exec_orders.specs.declared.executing.Plan.{Plan}
+use Rattle.file_heaps.specs.FileHeaps.{is_seen, is_unseen, known_of, sight_of, unknown_names}
+use Rattle.file_heaps.specs.declared.heap.Sight.{Sight}
+use Rattle.guest_elf.specs.Defined.{SymbolContent, defined_in}
+use Rattle.guest_elf.specs.File.{IsImageFor}
+use Rattle.guest_elf.specs.declared.profile.Profile.{Profile}
 use Rattle.guest_elf.specs.declared.image.Image.{Image}
-use Rattle.guest_machine.specs.Streams.{is_idle}
-use Rattle.program_files.specs.Files.{Giving, HasImage, HasStream, NoImage, NoStream}
+use Rattle.command_line.specs.declared.order.ProfileWords.{ProfileWords}
+use Rattle.guest_machine.specs.Streams.{is_idle, sees_end}
+use Rattle.program_files.specs.Files.{Giving, HasStream, IsFront, NoImage, NoStream, most_judged}
+use Rattle.program_files.specs.Profiles.{IsProfileNamed}
 use Rattle.replay_report.specs.Findings.{HasFindings}
 use Rattle.run_values.specs.declared.status.Status.{Status}
 use Rattle.run_values.specs.declared.status.Status.TheVariants.{Stopped}
@@ -30,24 +38,45 @@ use Rattle.suppressions.specs.Words.{leak_kinds}
 use Rattle.suppressions.specs.declared.leak_kinds.LeakKinds.{LeakKinds}
 use Rattle.exec_orders.specs.Prepared.{Makes, MakesNone}
 
--- what standard input still has, and what standard output and the report's file were given, where they tell it
+-- what standard input still has, and what standard output and the report's file were given, where they tell it; and the
+-- place of the report that is open, if one is: the path of a file, or standard error
 pub record Pipes : Type 0 where
   pub left : Option (List ℕ)
   pub held : Option (List ℕ)
   pub logged : Option (List ℕ)
+  pub opened : Option (Option (List ℕ))
 
-abbrev pub pipes : Option (List ℕ) → Option (List ℕ) → Option (List ℕ) → Pipes
-pipes left held logged = record { left = left; held = held; logged = logged }
+abbrev pub pipes :
+    Option (List ℕ) → Option (List ℕ) → Option (List ℕ) → Option (Option (List ℕ)) → Pipes
+pipes left held logged opened = record { left = left; held = held; logged = logged; opened = opened }
 
 -- ---- a run
 
--- how a run stands at its last step; of the kinds of leak these count as errors
-pub record IsOutcome (sc : Scenario) (count : LeakKinds) (outcome : Outcome) : Type 0 where
+-- has the run called the heap?
+abbrev pub is_called : Scenario → Bool
+is_called sc = nat_lt 0 (chosen_state sc).heap_calls
+
+abbrev pub sight_in : Plan → Scenario → Sight
+sight_in plan sc = sight_of plan.known (is_called sc)
+
+-- a heap whose errors can't be found is a failure, if that is asked for; it is said then, and otherwise unless only
+-- errors are asked for, as is a heap that is seen in part
+abbrev pub heap_fails : Plan → Scenario → Bool
+heap_fails plan sc = plan.requires_heap && is_unseen (sight_in plan sc)
+
+abbrev pub heap_told : Plan → Scenario → Bool
+heap_told plan sc = heap_fails plan sc || (not plan.quiet && not (is_seen (sight_in plan sc)))
+
+-- how a run stands at its last step
+pub record IsOutcome (sc : Scenario) (plan : Plan) (outcome : Outcome) : Type 0 where
   pub step : outcome.step ≡ sc.step
   pub status : outcome.status ≡ (chosen_state sc).core.status
   pub idles : outcome.idles ≡ is_idle (chosen_state sc) sc.setup
-  pub has_errors : HasFindings (chosen_state sc) sc.image sc.rules sc.options.callers (shown count) outcome.has_errors
+  pub has_errors :
+      HasFindings (chosen_state sc) sc.image sc.rules sc.options.callers (shown plan.count) outcome.has_errors
   pub lost : outcome.lost ≡ refused_at sc sc.step
+  pub heap_fails : outcome.heap_fails ≡ heap_fails plan sc
+  pub heap_told : outcome.heap_told ≡ heap_told plan sc
 
 -- has the program stopped?
 abbrev pub is_stopped : Status → Bool
@@ -60,9 +89,11 @@ Tells sc told =
     (found : Bool) × HasFindings (chosen_state sc) sc.image sc.rules sc.options.callers sc.options.show found
     × (told ≡ (is_stopped (chosen_state sc).core.status || found))
 
--- a text is the report; or nothing, if only one that tells something is asked for, and it doesn't
+-- a text is the report, if it tells something or any is asked for; or nothing, if only one that tells something is, and
+-- it doesn't
 abbrev pub IsTold : Bool → Scenario → List ℕ → Type 0
-IsTold quiet sc text = IsReportOf sc text ⊎ ((quiet ≡ true) × Tells sc false × (text ≡ []))
+IsTold quiet sc text =
+    (((quiet ≡ false) ⊎ Tells sc true) × IsReportOf sc text) ⊎ ((quiet ≡ true) × Tells sc false × (text ≡ []))
 
 -- it was written, or a front of it
 abbrev pub WritesReport : Bool → Scenario → Option (List ℕ) → Option (List ℕ) → Type 0
@@ -84,14 +115,17 @@ CutsOutput sc old new =
 abbrev pub Place : Type 0
 Place = Option (Bor (List ℕ))
 
+abbrev pub path_of : Place → Option (List ℕ)
+path_of place = option_map (λ path. path.now) place
+
 -- with the output written: the report was written to its place, and the end says how the run stands; or that failed; or
 -- memory ran out
-abbrev pub Finishes : Bool → Codes → LeakKinds → Place → Scenario → Option (List ℕ) → Option (List ℕ) → ExecEnd → Type 0
-Finishes quiet codes count place sc old new (Ran chosen outcome) =
-    (chosen ≡ codes) × IsOutcome sc count outcome × WritesReport quiet sc old new
-Finishes quiet codes count place sc old new (NoReport failed) = (failed ≡ place) × CutsReport quiet sc old new
-Finishes quiet codes count place sc old new (Early NoMemory) = Appends old new []
-Finishes quiet codes count place sc old new end = ⊥
+abbrev pub Finishes : Plan → Scenario → Option (List ℕ) → Option (List ℕ) → ExecEnd → Type 0
+Finishes plan sc old new (Ran chosen outcome) =
+    (chosen ≡ plan.codes) × IsOutcome sc plan outcome × WritesReport plan.quiet sc old new
+Finishes plan sc old new (NoReport failed) = (failed ≡ plan.place) × CutsReport plan.quiet sc old new
+Finishes plan sc old new (Early NoMemory) = Appends old new []
+Finishes plan sc old new end = ⊥
 
 -- how a fault of an execution ends it
 abbrev pub end_of_fault : ExecutionFault → End
@@ -104,29 +138,34 @@ IsFault end = (end ≡ Early CannotWrite) ⊎ (end ≡ Early NoMemory)
 
 -- ---- the input
 
+-- a step of the run asks for more of the input than there is
+abbrev pub AsksForMore : Scenario → Type 0
+AsksForMore sc = (n : ℕ) × (n < sc.step) × (sees_end (state_at sc n) sc.setup ≡ true)
+
 -- it is as it was given, and a run with an empty one that may wait for more never asks for more; or the run asks for
 -- more, and it is all of standard input
 abbrev pub HasInputOf : Bool → Option (List ℕ) → Option (List ℕ) → Scenario → Scenario → Type 0
 HasInputOf waits left rest sc done =
     ((done ≡ sc) × Consumes left rest [] × (waits ≡ true → (chosen_state sc).end_seen ≡ false))
-    ⊎ ((waits ≡ true) × (input : List ℕ) × HasStream left input × (done ≡ with_input sc input))
+    ⊎ ((waits ≡ true) × AsksForMore sc × (input : List ℕ) × HasStream left input × (done ≡ with_input sc input))
 
--- the run ends early: its output can't be written, or memory runs out, or standard input can't be read
+-- the run ends early: its output can't be written, or memory runs out, or standard input, of which it asks for more,
+-- can't be read
 abbrev pub Cuts : Bool → Scenario → Option (List ℕ) → Option (List ℕ) → Option (List ℕ) → ExecEnd → Type 0
 Cuts waits sc left old new end =
     (IsFault end × CutsOutput sc old new)
-    ⊎ ((waits ≡ true) × (input : List ℕ) × HasStream left input × IsFault end
+    ⊎ ((waits ≡ true) × AsksForMore sc × (input : List ℕ) × HasStream left input × IsFault end
     × CutsOutput (with_input sc input) old new)
-    ⊎ ((waits ≡ true) × (why : End) × (end ≡ Early why) × NoStream left why × CutsOutput sc old new)
+    ⊎ ((waits ≡ true) × AsksForMore sc × (why : End) × (end ≡ Early why) × NoStream left why × CutsOutput sc old new)
 
 -- ---- a run
 
 -- the run of a scenario is made: its output is written, and then its report; or it ends early, and no report is written
-abbrev pub Executes : Bool → Bool → Codes → LeakKinds → Place → Scenario → Pipes → Pipes → ExecEnd → Type 0
-Executes waits quiet codes count place sc old new end =
-    ((done : Scenario) × HasInputOf waits old.left new.left sc done × WritesOutput done old.held new.held
-    × Finishes quiet codes count place done old.logged new.logged end)
-    ⊎ (Cuts waits sc old.left old.held new.held end × Appends old.logged new.logged [])
+abbrev pub Executes : Plan → Scenario → Pipes → Pipes → ExecEnd → Type 0
+Executes plan sc old new end =
+    ((done : Scenario) × HasInputOf plan.waits old.left new.left sc done × WritesOutput done old.held new.held
+    × Finishes plan done old.logged new.logged end)
+    ⊎ (Cuts plan.waits sc old.left old.held new.held end × Appends old.logged new.logged [])
 
 -- an execution has come to a step at which it stops: what was written is the output up to there
 pub record HasRun (waits : Bool) (sc : Scenario) (old new : Option (List ℕ)) (e : Execution) : Type 0 where
@@ -146,9 +185,11 @@ pub record HasRunAll (waits : Bool) (sc done : Scenario) (left rest old new : Op
 
 -- ---- all of it
 
+-- nothing was read or written, and no place for the report was opened
 abbrev pub IsUntouched : Pipes → Pipes → Type 0
 IsUntouched old new =
     Consumes old.left new.left [] × Appends old.held new.held [] × Appends old.logged new.logged []
+    × (new.opened ≡ None)
 
 -- a list of leak kinds is none
 abbrev pub NoKinds : Bor (List ℕ) → ExecEnd → Type 0
@@ -174,38 +215,84 @@ waits_for order = is_none (input_path order)
 abbrev pub codes_of : ExecWords → Codes
 codes_of asked = record { errors = asked.error_exitcode; idle = asked.idle_exitcode }
 
--- with a scenario: the file of the report is opened, and then the run made
-abbrev pub WithScenario : Bool → Bool → Codes → LeakKinds → Place → Scenario → Pipes → Pipes → ExecEnd → Type 0
-WithScenario waits quiet codes count place sc old new end =
-    ((end ≡ NoReport place) × IsUntouched old new) ⊎ Executes waits quiet codes count place sc old new end
+-- is a heap whose errors can't be found a failure? With an exit status for errors, unless that is taken back
+abbrev pub requires_heap : ExecWords → Bool
+requires_heap asked = asked.require_heap || (is_some asked.error_exitcode && not asked.no_require_heap)
 
--- what the options choose, or why they choose nothing
+-- the names between commas of functions that aren't a heap's
+abbrev pub names_in : Option (Bor (List ℕ)) → List ℕ
+names_in None = []
+names_in (Some names) = names.now
+
+abbrev pub plan_for : Order → ExecWords → LeakKinds → List SymbolContent → Plan
+plan_for order asked count symbols = record {
+  waits = waits_for order;
+  codes = codes_of asked;
+  count = count;
+  quiet = asked.quiet;
+  requires_heap = requires_heap asked;
+  known = known_of symbols (names_in asked.not_heap);
+  place = asked.report;
+}
+
+-- what a place is while it is open: its path, and what its file has been given
+abbrev pub Opening : Type 1
+Opening = Option (List ℕ) → Option (List ℕ) → Type 0
+
+-- with a scenario: the place of the report is opened, and then the run made
+abbrev pub WithScenario : Opening → Plan → Scenario → Pipes → Pipes → ExecEnd → Type 0
+WithScenario opens plan sc old new end =
+    ((end ≡ NoReport plan.place) × IsUntouched old new)
+    ⊎ ((logged : Option (List ℕ)) × opens (path_of plan.place) logged × Appends old.logged logged []
+    × Executes plan sc (pipes old.left old.held logged (Some (path_of plan.place))) new end)
+
+-- what the options choose, or why they choose nothing: they are judged in this order
 pub record IsChoice (asked : ExecWords) (kinds : LeakKinds) (choices : Choices) : Type 0 where
   pub show : leak_kinds asked.show.now ≡ Some kinds
   pub count : leak_kinds asked.count.now ≡ Some choices.count
   pub codes : choices.codes ≡ codes_of asked
   pub quiet : choices.quiet ≡ asked.quiet
+  pub requires_heap : choices.requires_heap ≡ requires_heap asked
 
 abbrev pub NoChoice : Order → ExecWords → ExecEnd → Type 0
-NoChoice order asked end = NoKinds asked.show end ⊎ NoKinds asked.count end ⊎ InPlace order asked.report end
+NoChoice order asked end =
+    NoKinds asked.show end
+    ⊎ ((show : LeakKinds) × (leak_kinds asked.show.now ≡ Some show)
+    × (NoKinds asked.count end
+    ⊎ ((count : LeakKinds) × (leak_kinds asked.count.now ≡ Some count) × InPlace order asked.report end)))
 
--- with a program: the other files are read, and the edits made
-abbrev pub WithImage : Giving → Order → ExecWords → LeakKinds → LeakKinds → Image → Pipes → Pipes → ExecEnd → Type 0
-WithImage gives order asked show count image old new end =
+-- the program of a file, and the functions and labels that the file defines
+abbrev pub HasProgram : Giving → ProfileWords → List ℕ → Image → List SymbolContent → Type 0
+HasProgram gives words path image symbols =
+    (profile : Profile) × (front : List ℕ) × IsProfileNamed words profile × IsFront gives path most_judged front
+    × IsImageFor profile front image × (symbols ≡ defined_in front)
+
+-- with a program: the other files are read, and the edits made; the names are those of functions whose blocks aren't
+-- known
+abbrev pub WithImage :
+    Giving → Opening → Order → ExecWords → LeakKinds → Plan → Image → Pipes → Pipes → ExecEnd → Type 0
+WithImage gives opens order asked show plan image old new end =
     (MakesNone gives order asked show image end × IsUntouched old new)
-    ⊎ ((sc : Scenario) × Makes gives order asked show image sc
-    × WithScenario (waits_for order) asked.quiet (codes_of asked) count asked.report sc old new end)
+    ⊎ ((sc : Scenario) × Makes gives order asked show image sc × WithScenario opens plan sc old new end)
+
+abbrev pub WithProgram :
+    Giving → Opening → Order → ExecWords → LeakKinds → LeakKinds → Pipes → Pipes → ExecEnd → List ℕ → Type 0
+WithProgram gives opens order asked show count old new end names =
+    (image : Image) × (symbols : List SymbolContent) × HasProgram gives order.profile order.file.now image symbols
+    × (names ≡ unknown_names symbols (names_in asked.not_heap))
+    × WithImage gives opens order asked show (plan_for order asked count symbols) image old new end
 
 -- with options that are none that end it: the program's file is read for the instruction set that the order names
-abbrev pub WithKinds : Giving → Order → ExecWords → LeakKinds → LeakKinds → Pipes → Pipes → ExecEnd → Type 0
-WithKinds gives order asked show count old new end =
+abbrev pub WithKinds :
+    Giving → Opening → Order → ExecWords → LeakKinds → LeakKinds → Pipes → Pipes → ExecEnd → List ℕ → Type 0
+WithKinds gives opens order asked show count old new end names =
     ((why : End) × (end ≡ Early why) × NoImage gives order.profile order.file.now why × IsUntouched old new)
-    ⊎ ((image : Image) × HasImage gives order.profile order.file.now image
-    × WithImage gives order asked show count image old new end)
+    ⊎ ((end ≡ Early NoMemory) × IsUntouched old new)
+    ⊎ WithProgram gives opens order asked show count old new end names
 
 -- an order for `exec` was carried out
-abbrev pub Executed : Giving → Order → ExecWords → Pipes → Pipes → ExecEnd → Type 0
-Executed gives order asked old new end =
+abbrev pub Executed : Giving → Opening → Order → ExecWords → Pipes → Pipes → ExecEnd → List ℕ → Type 0
+Executed gives opens order asked old new end names =
     (NoChoice order asked end × IsUntouched old new)
     ⊎ ((show : LeakKinds) × (count : LeakKinds) × (leak_kinds asked.show.now ≡ Some show)
-    × (leak_kinds asked.count.now ≡ Some count) × WithKinds gives order asked show count old new end)
+    × (leak_kinds asked.count.now ≡ Some count) × WithKinds gives opens order asked show count old new end names)

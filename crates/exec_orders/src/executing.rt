@@ -1,16 +1,17 @@
 //! A run, its output and its report.
-ghost use Rattle.std.specs.Prelude.{◌≡◌, ◌≤◌, [], true, IfErr, IfOk};
+ghost use Rattle.std.specs.Prelude.{◌≡◌, ◌≤◌, ℕ, List, [], Option, true, IfErr, IfOk};
 ghost use Rattle.guest_machine.specs.Shows.{Shows};
 ghost use Rattle.replay_report.specs.Findings.{HasFindings};
 ghost use Rattle.scenario.specs.Edits.{shown};
-ghost use Rattle.scenario.specs.Scenario.{chosen_state};
+ghost use Rattle.scenario.specs.Scenario.{Scenario as TheScenario, chosen_state};
 ghost use Rattle.executions.specs.Executions.{step_of, IsAt, Wrote, WroteFront};
 ghost use Rattle.ends.specs.declared.exec_ends.ExecEnd.TheVariants.{Early};
-ghost use Rattle.exec_orders.specs.Executed.{Cuts, CutsOutput, Executes, Finishes, HasRun, HasRunAll, IsFault, IsOutcome, IsTold, Tells, end_of_fault, is_stopped, pipes};
+ghost use Rattle.exec_orders.specs.Executed.{Cuts, CutsOutput, Executes, Finishes, HasRun, HasRunAll, IsFault, IsOutcome, IsTold, Tells, end_of_fault, is_stopped, pipes, sight_in};
 
 use ends::{Codes, End, ExecEnd, Outcome};
 use executions::laws::moves_on;
 use executions::{Execution, ExecutionFault};
+use file_heaps::{Known, Sight};
 use guest_machine::laws::output_grows;
 use guest_machine::{Machine, Status};
 use line_server::send;
@@ -21,12 +22,36 @@ use std::alloc::{AllocError, Global};
 use std::io::{Read, Write};
 use suppressions::LeakKinds;
 
-/// The exit statuses that were chosen, which leaks count as errors, and whether a report without findings is left out.
+/// What the options choose that no file decides.
 #[derive(Clone, Copy)]
 pub(crate) struct Choices {
+    /// The exit statuses.
     pub(crate) codes: Codes,
+    /// Which leaks count as errors.
     pub(crate) count: LeakKinds,
+    /// Whether a report without findings is left out.
     pub(crate) quiet: bool,
+    /// Whether a heap whose errors can't be found is a failure.
+    pub(crate) requires_heap: bool,
+}
+
+/// How a run is made and judged.
+#[derive(Clone, Copy)]
+pub(crate) struct Plan<'a> {
+    /// Whether it waits for more input where it asks for more than there is.
+    pub(crate) waits: bool,
+    /// The exit statuses.
+    pub(crate) codes: Codes,
+    /// Which leaks count as errors.
+    pub(crate) count: LeakKinds,
+    /// Whether a report without findings is left out.
+    pub(crate) quiet: bool,
+    /// Whether a heap whose errors can't be found is a failure.
+    pub(crate) requires_heap: bool,
+    /// What the program's symbols tell of its heap.
+    pub(crate) known: Known,
+    /// The place of the report.
+    pub(crate) place: Option<&'a str>,
 }
 
 /// Returns the kinds of leak in the order in which reports name them.
@@ -97,26 +122,37 @@ fn report_of(
     Ok(text)
 }
 
+/// Returns whether errors of the heap can be found in a run that has come to its last step.
+fn sight_in(plan: Plan, machine: &Machine) -> Sight
+    ensures { (sc : TheScenario) → Shows machine.now (chosen_state sc) → result ≡ sight_in plan.entry sc }
+{
+    plan.known.sight(machine.heap_calls() > 0)
+}
+
 /// Returns how a run stands at its last step.
 fn outcome_of(
     alloc: Global,
     scenario: &Scenario,
     execution: &Execution,
-    count: LeakKinds,
+    plan: Plan,
 ) -> Result<Outcome, AllocError>
     requires marks { scenario.now.marks ≡ [] }
     requires at { IsAt execution.now scenario.now }
     requires last { step_of execution.now ≡ scenario.now.step }
-    ensures { IfOk result (IsOutcome scenario.now count) }
+    ensures { IfOk result (IsOutcome scenario.now plan.entry) }
 {
     let machine = execution.machine();
-    let has_errors = finds(alloc, scenario, machine, &shown(count))?;
+    let has_errors = finds(alloc, scenario, machine, &shown(plan.count))?;
+    let sight = sight_in(plan, machine);
+    let heap_fails = plan.requires_heap && sight.is_unseen();
     Ok(Outcome {
         step: scenario.step(),
         status: machine.status(),
         idles: machine.is_idle(scenario.setup()),
         has_errors,
         lost: execution.refused(),
+        heap_fails,
+        heap_told: heap_fails || (!plan.quiet && !sight.is_seen()),
     })
 }
 
@@ -125,25 +161,24 @@ fn finish<'a, L: Write>(
     alloc: Global,
     scenario: &Scenario,
     execution: &Execution,
-    choices: Choices,
-    place: Option<&'a str>,
+    plan: Plan<'a>,
     log: &mut L,
 ) -> ExecEnd<'a>
     requires marks { scenario.now.marks ≡ [] }
     requires at { IsAt execution.now scenario.now }
     requires last { step_of execution.now ≡ scenario.now.step }
-    ensures { Finishes choices.quiet choices.codes choices.count place.entry scenario.now (L.contents log.old) (L.contents log.new) result }
+    ensures { Finishes plan.entry scenario.now (L.contents log.old) (L.contents log.new) result }
 {
-    let Ok(text) = report_of(alloc, scenario, execution.machine(), choices.quiet) else {
+    let Ok(text) = report_of(alloc, scenario, execution.machine(), plan.quiet) else {
         return ExecEnd::Early(End::NoMemory);
     };
-    let Ok(outcome) = outcome_of(alloc, scenario, execution, choices.count) else {
+    let Ok(outcome) = outcome_of(alloc, scenario, execution, plan) else {
         return ExecEnd::Early(End::NoMemory);
     };
     if send(log, &text).whole {
-        ExecEnd::Ran(choices.codes, outcome)
+        ExecEnd::Ran(plan.codes, outcome)
     } else {
-        ExecEnd::NoReport(place)
+        ExecEnd::NoReport(plan.place)
     }
 }
 
@@ -227,21 +262,19 @@ fn run_all<'a, R: Read, W: Write>(
 pub(crate) fn execute<'a, R: Read, W: Write, L: Write>(
     alloc: Global,
     scenario: &mut Scenario,
-    waits: bool,
-    choices: Choices,
-    place: Option<&'a str>,
+    plan: Plan<'a>,
     reader: &mut R,
     writer: &mut W,
     log: &mut L,
 ) -> ExecEnd<'a>
     requires marks { scenario.old.marks ≡ [] }
-    requires empty { waits ≡ true → scenario.old.setup.input ≡ [] }
-    ensures { Executes waits choices.quiet choices.codes choices.count place.entry scenario.old
-        (pipes (R.remaining reader.old) (W.contents writer.old) (L.contents log.old))
-        (pipes (R.remaining reader.new) (W.contents writer.new) (L.contents log.new)) result }
+    requires empty { plan.entry.waits ≡ true → scenario.old.setup.input ≡ [] }
+    ensures { (opened : Option (Option (List ℕ))) → Executes plan.entry scenario.old
+        (pipes (R.remaining reader.old) (W.contents writer.old) (L.contents log.old) opened)
+        (pipes (R.remaining reader.new) (W.contents writer.new) (L.contents log.new) opened) result }
 {
-    match run_all(alloc, scenario, waits, reader, writer) {
-        Ok(execution) => finish(alloc, scenario, &execution, choices, place, log),
+    match run_all(alloc, scenario, plan.waits, reader, writer) {
+        Ok(execution) => finish(alloc, scenario, &execution, plan, log),
         Err(end) => end,
     }
 }

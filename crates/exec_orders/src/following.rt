@@ -1,12 +1,13 @@
 //! An order for `exec` is followed: options and files are judged, and then the run is made.
-ghost use Rattle.std.specs.Prelude.{◌≡◌, [], true, IfErr, IfOk, option_map};
-ghost use Rattle.exec_orders.specs.Executed.{Executed, IsChoice, NoChoice, WithScenario, is_path, is_read, pipes};
+ghost use Rattle.std.specs.Prelude.{◌≡◌, ◌×◌, ℕ, List, [], Option, None, Some, Bool, true, IfErr, IfOk, is_some, option_map};
+ghost use Rattle.exec_orders.specs.Executed.{Executed, IsChoice, NoChoice, WithScenario, is_path, is_read, names_in, pipes, requires_heap};
 
-use crate::executing::{Choices, execute};
+use crate::executing::{Choices, Plan, execute};
 use crate::log::Log;
 use crate::preparing::{kinds_of, prepare};
 use command_line::{ExecWords, Order};
-use ends::{Codes, ExecEnd};
+use ends::{Codes, End, ExecDone, ExecEnd};
+use file_heaps::FileHeap;
 use guest_elf::read_for;
 use program_files::{Files, MOST_READ, profile_named, read_front};
 use scenario::Scenario;
@@ -31,6 +32,23 @@ fn is_path(path: &str, other: Option<&str>) -> bool
     }
 }
 
+/// Returns whether a heap whose errors can't be found is a failure.
+fn requires_heap(asked: &ExecWords) -> bool
+    ensures { result ≡ requires_heap asked.now }
+{
+    asked.require_heap || (asked.error_exitcode.is_some() && !asked.no_require_heap)
+}
+
+/// Returns the names of functions that aren't a heap's.
+fn names_in<'a>(names: Option<&'a str>) -> &'a [u8]
+    ensures { result.now ≡ names_in names.entry }
+{
+    match names {
+        Some(names) => names.as_bytes(),
+        None => &[],
+    }
+}
+
 /// Judges the options that no file decides: the lists of leak kinds, and the file of the report.
 fn choices_of<'a>(
     order: &Order<'a>,
@@ -51,12 +69,14 @@ fn choices_of<'a>(
         idle: asked.idle_exitcode,
     };
     let quiet = asked.quiet;
+    let requires_heap = requires_heap(asked);
     Ok((
         show,
         Choices {
             codes,
             count,
             quiet,
+            requires_heap,
         },
     ))
 }
@@ -65,23 +85,23 @@ fn choices_of<'a>(
 fn open_and_execute<'a, R: Read, W: Write, L: Log>(
     alloc: Global,
     scenario: &mut Scenario,
-    waits: bool,
-    choices: Choices,
-    place: Option<&'a str>,
+    plan: Plan<'a>,
     reader: &mut R,
     writer: &mut W,
     log: &mut L,
 ) -> ExecEnd<'a>
     requires marks { scenario.old.marks ≡ [] }
-    requires empty { waits ≡ true → scenario.old.setup.input ≡ [] }
-    ensures { WithScenario waits choices.quiet choices.codes choices.count place.entry scenario.old
-        (pipes (R.remaining reader.old) (W.contents writer.old) (L.contents log.old))
-        (pipes (R.remaining reader.new) (W.contents writer.new) (L.contents log.new)) result }
+    requires empty { plan.entry.waits ≡ true → scenario.old.setup.input ≡ [] }
+    requires unopened { L.place log.old ≡ None }
+    ensures { WithScenario (λ place logged. (opened : L) × (L.place opened ≡ Some place) × (L.contents opened ≡ logged))
+        plan.entry scenario.old
+        (pipes (R.remaining reader.old) (W.contents writer.old) (L.contents log.old) (L.place log.old))
+        (pipes (R.remaining reader.new) (W.contents writer.new) (L.contents log.new) (L.place log.new)) result }
 {
-    if !log.open(place) {
-        return ExecEnd::NoReport(place);
+    if !log.open(plan.place) {
+        return ExecEnd::NoReport(plan.place);
     }
-    execute(alloc, scenario, waits, choices, place, reader, writer, log)
+    execute(alloc, scenario, plan, reader, writer, log)
 }
 
 /// Follows an order for `exec`: its options are judged, then its files, each before the next is read, and the run is made.
@@ -93,30 +113,36 @@ fn follow<'a, F: Files, R: Read, W: Write, L: Log>(
     reader: &mut R,
     writer: &mut W,
     log: &mut L,
-) -> Result<ExecEnd<'a>, ExecEnd<'a>>
-    ensures ok { IfOk result (Executed (F.gives files.now) order.now asked.now
-        (pipes (R.remaining reader.old) (W.contents writer.old) (L.contents log.old))
-        (pipes (R.remaining reader.new) (W.contents writer.new) (L.contents log.new))) }
-    ensures err { IfErr result (Executed (F.gives files.now) order.now asked.now
-        (pipes (R.remaining reader.old) (W.contents writer.old) (L.contents log.old))
-        (pipes (R.remaining reader.new) (W.contents writer.new) (L.contents log.new))) }
+) -> Result<(ExecEnd<'a>, Vec<u8>), ExecEnd<'a>>
+    requires unopened { L.place log.old ≡ None }
+    ensures ok { IfOk result (λ r. Executed (F.gives files.now)
+        (λ place logged. (opened : L) × (L.place opened ≡ Some place) × (L.contents opened ≡ logged)) order.now asked.now
+        (pipes (R.remaining reader.old) (W.contents writer.old) (L.contents log.old) (L.place log.old))
+        (pipes (R.remaining reader.new) (W.contents writer.new) (L.contents log.new) (L.place log.new)) r.0 r.1.items) }
+    ensures err { IfErr result (λ end. (names : List ℕ) → Executed (F.gives files.now)
+        (λ place logged. (opened : L) × (L.place opened ≡ Some place) × (L.contents opened ≡ logged)) order.now asked.now
+        (pipes (R.remaining reader.old) (W.contents writer.old) (L.contents log.old) (L.place log.old))
+        (pipes (R.remaining reader.new) (W.contents writer.new) (L.contents log.new) (L.place log.new)) end names) }
 {
     let (show, choices) = choices_of(order, asked)?;
     let profile = profile_named(order.profile)?;
     let file = read_front(alloc, files, order.file, MOST_READ)?;
     let image = read_for(alloc, &file, profile)?;
+    let Ok(heap) = FileHeap::read(alloc, &file, names_in(asked.not_heap)) else {
+        return Err(ExecEnd::Early(End::NoMemory));
+    };
     let mut scenario = prepare(alloc, image, order, asked, show, files)?;
-    let waits = order.input.is_none();
-    Ok(open_and_execute(
-        alloc,
-        &mut scenario,
-        waits,
-        choices,
-        asked.report,
-        reader,
-        writer,
-        log,
-    ))
+    let plan = Plan {
+        waits: order.input.is_none(),
+        codes: choices.codes,
+        count: choices.count,
+        quiet: choices.quiet,
+        requires_heap: choices.requires_heap,
+        known: heap.known,
+        place: asked.report,
+    };
+    let end = open_and_execute(alloc, &mut scenario, plan, reader, writer, log);
+    Ok((end, heap.names))
 }
 
 /// Follows an order for `exec`, and returns how the program ends.
@@ -128,12 +154,25 @@ pub fn exec_order<'a, F: Files, R: Read, W: Write, L: Log>(
     reader: &mut R,
     writer: &mut W,
     log: &mut L,
-) -> ExecEnd<'a>
-    ensures { Executed (F.gives files.now) order.now asked.now
-        (pipes (R.remaining reader.old) (W.contents writer.old) (L.contents log.old))
-        (pipes (R.remaining reader.new) (W.contents writer.new) (L.contents log.new)) result }
+) -> ExecDone<'a>
+    requires unopened { L.place log.old ≡ None }
+    ensures done { Executed (F.gives files.now)
+        (λ place logged. (opened : L) × (L.place opened ≡ Some place) × (L.contents opened ≡ logged)) order.now asked.now
+        (pipes (R.remaining reader.old) (W.contents writer.old) (L.contents log.old) (L.place log.old))
+        (pipes (R.remaining reader.new) (W.contents writer.new) (L.contents log.new) (L.place log.new))
+        result.end result.names.items }
+    ensures file { result.file.now ≡ order.now.file.now }
 {
     match follow(alloc, order, asked, files, reader, writer, log) {
-        Ok(end) | Err(end) => end,
+        Ok((end, names)) => ExecDone {
+            end,
+            file: order.file,
+            names,
+        },
+        Err(end) => ExecDone {
+            end,
+            file: order.file,
+            names: Vec::new(alloc),
+        },
     }
 }

@@ -1,16 +1,16 @@
 //! `replaycheck`: Memcheck for static RV32IM programs.
 #![tactic(auto)]
 
-ghost use Rattle.std.specs.Prelude.{◌≡◌, ◌≢◌, Bool};
+ghost use Rattle.std.specs.Prelude.{◌≡◌, ◌≢◌, Bool, IfOk, map, string_bytes};
 ghost use Rattle.std.specs.IoError.{error_kind};
 ghost use Rattle.std.specs.declared.io.ErrorKind.TheVariants.{OutOfMemory};
 ghost use Rattle.clap.specs.Words.{kind_of};
-ghost use Rattle.replaycheck.specs.Shown.{end_of_showing};
+ghost use Rattle.replaycheck.specs.Shown.{end_of_showing, names_exec, place_of};
 
 use clap::error::ErrorKind;
 use command_line::{Order, Task, read_order};
 use driver::{End, run_order, tell};
-use ends::{ExecEnd, tell_exec};
+use ends::{tell_exec, tell_for};
 use exec_orders::{Log, exec_order};
 use std::fs::File;
 use std::io::Write;
@@ -62,37 +62,61 @@ fn show<'a, R: Print + Eprint>(rt: &R, error: &clap::Error) -> End<'a>
     }
 }
 
+/// The place of a report that is open.
+#[derive(Drop)]
+enum Opened {
+    /// None yet.
+    Nothing,
+    /// Standard error.
+    StandardError,
+    /// A file, with its path.
+    Named(File, String),
+}
+
 /// Where a report goes: standard error, or a file in its place.
 #[derive(Drop)]
 struct ReportFile<'a> {
     rt: &'a HostRuntime,
-    file: Option<File>,
+    opened: Opened,
 }
 
 impl<'a> Write for ReportFile<'a> {
     fn write(&mut self, bytes: &[u8]) -> io::Result<usize> {
-        match &mut self.file {
-            Some(file) => file.write(bytes),
-            None => self.rt.stderr().write(bytes),
+        match &mut self.opened {
+            Opened::Named(file, _) => file.write(bytes),
+            _ => self.rt.stderr().write(bytes),
         }
     }
 
     fn flush(&mut self) -> io::Result<()> {
-        match &mut self.file {
-            Some(file) => file.flush(),
-            None => self.rt.stderr().flush(),
+        match &mut self.opened {
+            Opened::Named(file, _) => file.flush(),
+            _ => self.rt.stderr().flush(),
         }
     }
 }
 
+impl<'a> ReportFile<'a> {
+    /// Opens a file, which is emptied, and returns it with its path.
+    fn create(rt: &HostRuntime, path: &str) -> io::Result<(File, String)>
+        ensures { IfOk result (λ r. string_bytes r.1 ≡ path.now) }
+    {
+        let name = String::from_str(rt.alloc(), path)?;
+        Ok((File::create(rt, path)?, name))
+    }
+}
+
 impl<'a> Log for ReportFile<'a> {
+    ghost place = { λ log. place_of log.opened };
+
     fn open(&mut self, path: Option<&str>) -> bool {
         let Some(path) = path else {
+            self.opened = Opened::StandardError;
             return true;
         };
-        match File::create(self.rt, path) {
-            Ok(file) => {
-                self.file = Some(file);
+        match ReportFile::create(self.rt, path) {
+            Ok((file, name)) => {
+                self.opened = Opened::Named(file, name);
                 true
             }
             Err(_) => false,
@@ -104,10 +128,13 @@ impl<'a> Log for ReportFile<'a> {
 fn follow(rt: &HostRuntime, order: &Order) -> u8 {
     match &order.task {
         Task::Exec(asked) => {
-            let mut log = ReportFile { rt, file: None };
+            let mut log = ReportFile {
+                rt,
+                opened: Opened::Nothing,
+            };
             let (reader, writer) = (&mut rt.stdin(), &mut rt.stdout());
-            let end = exec_order(rt.alloc(), order, asked, rt, reader, writer, &mut log);
-            tell_exec(end, &mut rt.stderr())
+            let done = exec_order(rt.alloc(), order, asked, rt, reader, writer, &mut log);
+            tell_exec(&done, &mut rt.stderr())
         }
         _ => {
             let end = run_order(rt.alloc(), order, rt, &mut rt.stdin(), &mut rt.stdout());
@@ -117,7 +144,9 @@ fn follow(rt: &HostRuntime, order: &Order) -> u8 {
 }
 
 /// Returns whether a command line names `exec`, whose exit statuses are others.
-fn names_exec(words: &[String]) -> bool {
+fn names_exec(words: &[String]) -> bool
+    ensures { result ≡ names_exec (map string_bytes words.now) }
+{
     match words.get(1) {
         Some(word) => word.as_str() == "exec",
         None => false,
@@ -134,11 +163,7 @@ fn finish(rt: &HostRuntime) -> u8 {
         Ok(order) => follow(rt, &order),
         Err(error) => {
             let end = show(rt, &error);
-            if names_exec(&words) {
-                tell_exec(ExecEnd::Early(end), &mut rt.stderr())
-            } else {
-                tell(&end, &mut rt.stderr())
-            }
+            tell_for(names_exec(&words), &end, &mut rt.stderr())
         }
     }
 }

@@ -15,9 +15,9 @@ FROM_HERE = ("sarif", "github")  # whose readers look for source files below the
 # The session's options, by the names that Valgrind has for them.
 PASSED_ON = {"--num-callers": ("callers", number(1, 24)), "--freelist-vol": ("queue", number(0, 1000000000)),
              "--redzone-size": ("redzone", number(0, 4096))}
-FLAGS = ("--full-paths", "--require-heap", "--no-demangle")
+FLAGS = ("--full-paths", "--require-heap", "--no-require-heap", "--no-demangle")
 OWN = {*PASSED_ON, *FLAGS, "--error-exitcode", "--errors-for-leak-kinds", "--show-leak-kinds", "--suppressions", "--format",
-       "--demangle", "--strip-prefix", "--output"}
+       "--demangle", "--strip-prefix", "--output", "--not-heap"}
 
 
 def leak_kinds(text):
@@ -42,6 +42,7 @@ def reader_of_options(page):
     for name, (option, kind) in PASSED_ON.items():
         reader.option(name, dest=option, type=kind)
     reader.repeated("--suppressions")
+    reader.repeated("--not-heap")
     reader.option("--format", choices=["text", *FORMATS], default="text")
     for name in FLAGS:
         reader.option(name, is_flag=True)
@@ -62,6 +63,9 @@ def options_of(page, words):
     options = reader.read(words)
     if options.full_paths and options.strip_prefix is not None:
         reader.error("--full-paths and --strip-prefix at once")
+    if options.require_heap and options.no_require_heap:
+        reader.error("--require-heap and --no-require-heap at once")
+    options.require_heap = options.require_heap or bool(options.error_exitcode) and not options.no_require_heap
     if options.format == "text" and (options.full_paths or options.strip_prefix is not None):
         reader.error("--full-paths and --strip-prefix go with a --format that isn't text, or `replaycheck lines`")
     if options.demangle == "yes" and (options.no_demangle or options.format == "text"):
@@ -190,7 +194,7 @@ def checked(options):
         verdict = Verdict(told)
     except (IndexError, KeyError, ValueError):
         raise Fault(f"{program()}: what it printed is no report: {told[0][:80]!r}") from None
-    heap = heap_of_run(options.file, options.input, verdict.step, verdict.has_blocks(), options.isa, options.regions)
+    heap = heap_of_run(options.file, options.input, verdict.step, options.isa, options.regions, options.not_heap)
     write("".join(line + "\n" for line in told) if options.format == "text" else formatted(told, options, heap))
     flush()
     for line in notices(options, verdict, heap):

@@ -1,46 +1,40 @@
 """Which heap a program's file has, and whether errors of the heap can be found in its run.
 
-The program takes over functions that are named malloc, free, calloc and realloc, and environment calls 2001 to 2004. Where a file has
-neither, either it has no heap, or its heap goes unseen: because the file has no symbols, or because the heap has other names."""
+The program takes over functions that are named malloc, free, calloc and realloc, and environment calls 2001 to 2004. Its `exec` says whether
+the heap of a run goes unseen, and why; here that is asked for."""
 import os
 import struct
 
-from replaycheck.adopting.heap_names import KNOWN, LEFT
-from replaycheck.allocators import HEAP, RUSTS
+from replaycheck.allocators import HEAP
 from replaycheck.children import outcome
 from replaycheck.programs import ISAS, isa_words, path_of, program, unit_of
 from replaycheck.regions import USUAL_REGIONS
 
-OTHERS = {it.partition("=")[0] for it in KNOWN} - {*HEAP} | {*LEFT}
 NO_TYPE, FUNCTION, SYMBOLS, LOAD = 0, 2, 2, 1
 LONGEST_FILE = 1 << 26
 ECALL = 0x00000073
 # `li a7,2001` to `li a7,2004`, by which a call of the heap is chosen.
 CHOICES = [number << 20 | 17 << 7 | 0x13 for number in range(2001, 2005)]
-# Where the first block of a heap begins, from the region's begin on. Its first byte becomes accessible by the first call for a block.
-BEFORE_BLOCKS = 16
+# What the program says of a heap that goes unseen, after the file's name, and of one of a file without symbols.
+UNSEEN, WITHOUT_SYMBOLS = ": errors of the heap can't be found", ": the file has no symbols: "
 BY_NAME, BY_NUMBER, NONE, NO_SYMBOLS, OTHER_NAMES = "by name", "by number", "none", "no symbols", "other names"
 
 
 class Heap:
-    """How the heap of a file is known, and its functions, or those that have other names."""
+    """How the heap of a file is known, and its functions, or those that have other names. `said` is what the program says of a heap that
+    goes unseen, after the file's name."""
 
-    def __init__(self, known, functions=()):
-        self.known, self.functions = known, sorted(functions)
+    def __init__(self, known, functions=(), said=""):
+        self.known, self.functions, self.said = known, sorted(functions), said
 
     @property
     def is_unseen(self):
         """Whether the file may have a heap whose errors can't be found."""
-        return self.known in (NO_SYMBOLS, OTHER_NAMES)
+        return bool(self.said)
 
     def notice(self, file):
         """What a user has to know of an unseen heap, in a line."""
-        what = f"{file}: errors of the heap can't be found"
-        if self.known == NO_SYMBOLS:
-            return f"{what}: the file has no symbols, and a heap is known by the names of its functions: strip it with --strip-debug only"
-        names = ", ".join(self.functions[:4]) + (", .." if len(self.functions) > 4 else "")
-        how = "adopt --heap` maps them" if any("__rust_" in it for it in self.functions) else "adopt` maps such names"
-        return f"{what}: it has no function malloc, free, calloc or realloc, but {names}: `replaycheck {how}"
+        return file + self.said
 
 
 def fields(data, layout, at):
@@ -80,14 +74,6 @@ class Names:
                 return True
         return False
 
-    def ending(self, end):
-        """The symbols whose names end with a text."""
-        text, at = end.encode() + b"\0", -1
-        while (at := self.texts.find(text, at + 1)) >= 0:
-            first = self.texts.rfind(b"\0", 0, at) + 1
-            if first in self.places:
-                yield self.texts[first:at + len(end)].decode("utf-8", "surrogateescape")
-
 
 def has_word(data, segment, words, unit):
     """Whether a word of a segment is one of these, at an address where an instruction may begin."""
@@ -108,50 +94,45 @@ def calls_by_number(data, unit):
     return all(any(has_word(data, it, words, unit) for it in loaded) for words in ([ECALL], CHOICES))
 
 
-def rusts_in(functions):
-    """The functions by which code of Rust takes blocks and gives them back. Newer compilers put a crate and its hash before a name."""
-    for name in RUSTS:
-        if name.startswith("__rust_"):
-            yield from [name] if functions.has(name) else functions.ending(f"7___rustc{len(name)}_{name}")
+def named_in(data):
+    """The functions that the program takes over in a file, by their names."""
+    functions, _ = symbols(data)
+    return [name for name in HEAP if functions and functions.has(name)]
 
 
-def heap_in(data, isa):
-    """The heap of a file that the program has accepted for an instruction set, by its symbols and its code."""
-    functions, labels = symbols(data)
-    named = [name for name in HEAP if functions and functions.has(name)]
-    if named:
-        return Heap(BY_NAME, named)
-    if calls_by_number(data, unit_of(isa)):
-        return Heap(BY_NUMBER)
-    if not functions and not labels:
-        return Heap(NO_SYMBOLS)
-    others = [name for name in OTHERS if functions and functions.has(name)]
-    others += rusts_in(functions) if functions else []
-    others += [f"{name} (a label, with no type of a function)" for name in HEAP if labels and labels.has(name)]
-    return Heap(OTHER_NAMES, others) if others else Heap(NONE)
-
-
-def makes_blocks(file, given, step, isa, regions=USUAL_REGIONS):
-    """Whether a run makes a block of the heap before a step, whatever its code looks like. It isn't known of an input that can't be read
-    twice."""
-    if given is not None and not os.path.isfile(given):
-        return False
-    words = [program(), "look", *(["--input", path_of(given)] if given is not None else []), *isa_words(isa), *regions.words, path_of(file)]
-    _, told, _ = outcome(words, f"look next shadow 0x{regions.heap + BEFORE_BLOCKS:x} 1 {step}\n".encode())
-    return told.startswith(b"step ")
-
-
-def heap_of_run(file, given, step, has_blocks=False, isa=ISAS[0], regions=USUAL_REGIONS):
-    """The heap of a program's file, as its run up to a step shows it; None of a file that can't be read twice, such as a pipe. `has_blocks`
-    says that the run has made a block, as far as that is known already. `isa` is the run's instruction set, and `regions` where its
-    heap and stack are."""
-    if not os.path.isfile(file):
-        return None
+def has_heap(file, isa):
+    """Whether a file's symbols or its code show a heap that the program takes over."""
     try:
         with open(file, "rb") as opened:
-            heap = heap_in(opened.read(LONGEST_FILE + 1), isa)
+            data = opened.read(LONGEST_FILE + 1)
+        return bool(named_in(data)) or calls_by_number(data, unit_of(isa))
+    except (OSError, struct.error):  # it has changed since it was run
+        return False
+
+
+def said_of(words, step):
+    """What the program says of a run up to a step whose heap goes unseen, after the file's name; nothing of any other."""
+    _, _, said = outcome([program(), "exec", "--quiet", "--require-heap", "--report=/dev/null", f"--step={step}", *words])
+    lines = said.decode("utf-8", "surrogateescape").splitlines()
+    return next((line[line.index(UNSEEN):] for line in lines if UNSEEN in line), "")
+
+
+def heap_of_run(file, given, step, isa=ISAS[0], regions=USUAL_REGIONS, excepted=()):
+    """The heap of a program's file, as its run up to a step shows it; None of a file that can't be read twice, such as a pipe. `isa` is the
+    run's instruction set, `regions` where its heap and stack are, and `excepted` has the functions that are no heap's."""
+    if not os.path.isfile(file):
+        return None
+    words = [*isa_words(isa), *regions.words, *(["--not-heap", ",".join(excepted)] if excepted else []), path_of(file)]
+    first = said = said_of(words, 0)
+    if said and step and (given is None or os.path.isfile(given)):
+        said = said_of([*(["--input", path_of(given)] if given is not None else []), *words], step)
+    if said:
+        is_bare = WITHOUT_SYMBOLS in said
+        return Heap(NO_SYMBOLS if is_bare else OTHER_NAMES, [] if is_bare else said.rpartition(": ")[2].split(", "), said)
+    try:
+        with open(file, "rb") as opened:
+            data = opened.read(LONGEST_FILE + 1)
+        named = named_in(data)
+        return Heap(BY_NAME, named) if named else Heap(BY_NUMBER if first or calls_by_number(data, unit_of(isa)) else NONE)
     except (OSError, struct.error):  # it has changed since it was run
         return None
-    if heap.is_unseen and (has_blocks or makes_blocks(file, given, step, isa, regions)):
-        return Heap(BY_NUMBER)
-    return heap

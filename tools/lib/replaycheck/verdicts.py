@@ -22,10 +22,6 @@ class Verdict:
         """Whether the program has neither exited nor stopped: what it does after the step isn't checked."""
         return self.state == "running"
 
-    def has_blocks(self):
-        """Whether any block of the heap was left, listed or not."""
-        return any(self.blocks.values())
-
     def fails(self, leaks_that_count):
         """Whether there is an error, a leak of kinds that count as errors, listed or not, or anything but an exit."""
         lost = any(self.blocks[kind] for kind, name in LEAK_KINDS.items() if name in leaks_that_count)

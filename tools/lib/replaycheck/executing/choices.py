@@ -37,13 +37,21 @@ class Choices:
 
     def __init__(self):
         self.input, self.report, self.log_file, self.log_fd, self.log_format = None, None, None, None, "valgrind"
-        self.quiet = self.verbose = self.require_heap = self.full_paths = self.asks_for_help = False
+        self.quiet = self.verbose = self.full_paths = self.asks_for_help = False
+        # Whether an unseen heap is a failure; None is the program's own default.
+        self.require_heap: bool | None = None
+        self.not_heap: list[str] = []
         self.demangle, self.strip_prefix, self.error_exitcode = True, None, 0
         self.suppressions, self.patches, self.unused = [], [], []
         self.isa, self.heap_region, self.stack_region, self.regions = ISAS[0], None, None, USUAL_REGIONS
         # Options of the program, by their names there.
         self.passed: dict[str, str] = {}
         self.file, self.arguments = "", []
+
+    @property
+    def needs_heap(self):
+        """Whether an unseen heap is a failure."""
+        return bool(self.error_exitcode) if self.require_heap is None else self.require_heap
 
     @property
     def counted(self):
@@ -130,7 +138,7 @@ WITH_VALUE = {
     "--input": sets("input"), "--report": sets("report"), "--log-file": sets("log_file"), "--log-fd": sets("log_fd", number(0, 1023)),
     "--log-format": sets("log_format", one_of(*FORMATS)), "--demangle": sets("demangle", yes_or_no),
     "--strip-prefix": sets("strip_prefix"), "--error-exitcode": sets("error_exitcode", number(0, 255)),
-    "--supp": adds_to("suppressions"), "--suppressions": adds_to("suppressions"), "--patch": adds_to("patches"),
+    "--supp": adds_to("suppressions"), "--suppressions": adds_to("suppressions"), "--patch": adds_to("patches"), "--not-heap": adds_to("not_heap"),
     "--step": passes("step", 0, 4294967295), "--idle-exitcode": passes("idle-exitcode", 0, 255),
     "--callers": passes("callers", 1, MOST_CALLERS), "--num-callers": take_callers,
     "--redzone": passes("redzone", 0, 4096), "--redzone-size": passes("redzone", 0, 4096),
@@ -139,7 +147,7 @@ WITH_VALUE = {
     "--leak-check": take_leak_check, "--show-reachable": take_show_reachable, "--show-possibly-lost": take_show_possibly_lost,
 }
 FLAGS = {"-q": "quiet", "--quiet": "quiet", "-v": "verbose", "--verbose": "verbose", "--require-heap": "require_heap",
-         "--full-paths": "full_paths", "--no-demangle": "demangle", "-h": "asks_for_help", "--help": "asks_for_help"}
+         "--no-require-heap": "require_heap", "--full-paths": "full_paths", "--no-demangle": "demangle", "-h": "asks_for_help", "--help": "asks_for_help"}
 
 
 def rejected(name):
@@ -213,10 +221,18 @@ def more_options():
     return options
 
 
+def is_text(word):
+    """Whether an argument is UTF-8: of any other byte Python makes a lone surrogate."""
+    return not any("\udc80" <= it <= "\udcff" for it in word)
+
+
 def choices_of(words):
     """What the words of a command line ask for. Those of another `replaycheck exec` come first, then the environment's."""
     given, rest = split(words)
     inner, rest = stepped_over(rest)
+    for word in (*inner, *given, *rest[:1]):
+        if not is_text(word):
+            raise Usage(f"not UTF-8: {word}")
     choices = Choices()
     for options in (inner, more_options(), given):
         while options:

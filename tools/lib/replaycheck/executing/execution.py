@@ -9,6 +9,7 @@ from replaycheck.executing.choices import FAILED, Choices, choices_of
 from replaycheck.executing.logs import NAME, Log, Unwritten, log_text, note
 from replaycheck.options import LAST_STEP
 from replaycheck.programs import USUAL, isa_words, path_of, program
+from replaycheck.refusals import why_unreadable, with_words
 from replaycheck.reports import Lines, NoReport, read_report
 
 UNREADABLE, REFUSED = 127, 126
@@ -44,7 +45,7 @@ def suppressions_of(choices):
 
 def needs_whole_report(choices):
     """Whether the log has something to say of a run with no fault, too."""
-    return not choices.quiet or choices.verbose or choices.require_heap or choices.log_format not in ("valgrind", "report")
+    return not choices.quiet or choices.verbose or choices.log_format not in ("valgrind", "report")
 
 
 def all_patches(choices):
@@ -64,6 +65,8 @@ def words_for(choices, supp, report):
     words += ["--patch", ",".join(patches)] if patches else []
     words += ["--error-exitcode", str(choices.error_exitcode)] if choices.error_exitcode else []
     words += ["--quiet"] if not needs_whole_report(choices) else []
+    words += [] if choices.require_heap is None else ["--require-heap" if choices.require_heap else "--no-require-heap"]
+    words += ["--not-heap", ",".join(choices.not_heap)] if choices.not_heap else []
     return [*words, path_of(choices.file)]
 
 
@@ -79,6 +82,20 @@ def made_run(choices):
     if status < 0:
         raise Interrupted(-status)
     return status, os.pread(room, os.fstat(room).st_size, 0).decode("utf-8", "surrogateescape")
+
+
+def reasons(choices, status):
+    """Why a file can't be read or is rejected, in lines, where that is what a status of 127 or 126 says."""
+    if status == UNREADABLE:
+        for path in (choices.file, choices.input, *choices.suppressions):
+            why = why_unreadable(path) if path is not None else ""
+            if why:
+                yield f"{path}: {why}"
+    elif status == REFUSED:
+        _, _, said = outcome([program(), "look", *isa_words(choices.isa), *choices.regions.words, path_of(choices.file)])
+        for line in said.decode("utf-8", "surrogateescape").splitlines():
+            if with_words(line) != line:
+                yield choices.file + with_words(line)[len(line):]
 
 
 def parsed(told):
@@ -97,12 +114,11 @@ def is_told(choices, report):
 
 
 def heap_of(choices, report):
-    """The heap of a program, where it matters."""
-    if not choices.require_heap and not choices.verbose:
+    """The heap of a program, where a format for other programs has a place for it."""
+    if choices.log_format in ("valgrind", "report"):
         return None
     from replaycheck.file_heaps import heap_of_run
-    has_blocks = any(it.blocks for it in report.sums.values())
-    return heap_of_run(choices.file, choices.input, min(report.step, LAST_STEP), has_blocks, choices.isa, choices.regions)
+    return heap_of_run(choices.file, choices.input, report.step, choices.isa, choices.regions, choices.not_heap)
 
 
 def certificate(choices, report):
@@ -117,12 +133,10 @@ def certificate(choices, report):
     return "certify: " + told.decode("utf-8", "surrogateescape").rstrip("\n").rpartition("\n")[2]
 
 
-def say_more(choices, report, heap):
+def say_more(choices, report):
     """What -v adds."""
     if choices.unused:
         note(f"options that change nothing: {' '.join(choices.unused)}")
-    if heap and heap.is_unseen and not choices.require_heap:
-        note(heap.notice(choices.file))
     note(certificate(choices, report))
 
 
@@ -131,16 +145,14 @@ def executed(choices):
     log = Log(choices)
     status, told = made_run(choices)
     if not told:
+        for reason in reasons(choices, status):
+            note(reason)
         return status
     report = parsed(told)
-    heap = heap_of(choices, report)
     if is_told(choices, report):
-        log.write(log_text(choices, told, report, os.getpid(), heap))
+        log.write(log_text(choices, told, report, os.getpid(), heap_of(choices, report)))
     if choices.verbose:
-        say_more(choices, report, heap)
-    if choices.require_heap and heap and heap.is_unseen:
-        note(heap.notice(choices.file))
-        return choices.error_exitcode or REFUSED
+        say_more(choices, report)
     return status
 
 
@@ -184,5 +196,15 @@ def log_of_quiet_run(process, first, isa, file):
         choices.file, choices.quiet, choices.isa = file, True, isa or USUAL
         told = first + rest_of(0).decode("utf-8", "surrogateescape")
         Log(choices).write(log_text(choices, told, parsed(told), process))
+        return 0
+    end(NAME, lambda: guarded(main))
+
+
+def say_why(status, words):
+    """Says why a quiet run ended with a status before it began, if it did."""
+    def main():
+        choices = choices_of(words)
+        for reason in reasons(choices, status):
+            note(reason)
         return 0
     end(NAME, lambda: guarded(main))

@@ -77,7 +77,7 @@ def shown_report(choices, report, heap=None):
     """A report with source lines and readable names, as far as there are tools for them."""
     from replaycheck.findings import Shown
     from replaycheck.places import Paths
-    shown = Shown(report, choices.file, choices.input, choices.counted, heap, choices.require_heap, choices.isa, choices.regions)
+    shown = Shown(report, choices.file, choices.input, choices.counted, heap, choices.needs_heap, choices.isa, choices.regions)
     paths = Paths(choices.full_paths, choices.strip_prefix, choices.log_format in ("sarif", "github"))
     for missing in shown.show(paths, choices.demangle):
         note(missing)

@@ -1,4 +1,5 @@
 """A log in the form of Valgrind's Memcheck, which ctest's MemCheck step reads."""
+from replaycheck.file_heaps import has_heap
 from replaycheck.findings import is_at_atomic
 from replaycheck.programs import unit_of
 
@@ -61,13 +62,16 @@ def leak_lines(shown):
         yield ""
 
 
-def summary_lines(report):
+def summary_lines(shown):
+    """The sums of leaks, or that there are none, where a heap was seen; and of errors."""
+    report = shown.report
     if any(it.blocks for it in report.sums.values()):
         yield "LEAK SUMMARY:"
         yield from (f"{name:>18}: {report.sums[name].size} bytes in {report.sums[name].blocks} blocks" for name in SUMS)
-    else:
+        yield ""
+    elif has_heap(shown.file, shown.isa):
         yield "All heap blocks were freed -- no leaks are possible"
-    yield ""
+        yield ""
     yield (f"ERROR SUMMARY: {report.happened} errors from {report.contexts} contexts "
            f"(suppressed: {report.suppressed} from {report.suppressed_contexts})")
 
@@ -85,7 +89,7 @@ def lines_of(shown, words, is_quiet):
         yield from heap_lines(shown.report)
     yield from leak_lines(shown)
     if not is_quiet:
-        yield from summary_lines(shown.report)
+        yield from summary_lines(shown)
 
 
 def log_text(shown, process, words, is_quiet):

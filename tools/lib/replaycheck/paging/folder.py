@@ -6,7 +6,7 @@ import json
 import re
 
 from replaycheck import allocators, file_heaps, regions
-from replaycheck.adopting import outside
+from replaycheck.adopting import heap_names, outside
 from replaycheck.adopting.regions import HEAPS, MOST_STACK, STACK_ENDS
 from replaycheck.endings import Fault
 from replaycheck.exploring import outcomes
@@ -23,6 +23,8 @@ MAIN, WORKER, RESOURCES, ONE_FILE = "main.js", "worker.js", "resources.js", "one
 POLICY = re.compile(r'(<meta http-equiv="Content-Security-Policy" content=")[^"]*(">)')
 STYLE = '<link rel="stylesheet" href="page.css">'
 SCRIPT = f'<script type="module" src="{MAIN}"></script>'
+# Where the first block of a heap begins, from the region's begin on. Its first byte becomes accessible by the first call for a block.
+BEFORE_BLOCKS = 16
 # Which regions heap and stack may have, and how that is said.
 REGION_RULES = ("HEAP_SIZE", "HEAP_STEP", "LEAST_HEAP", "GREATEST_HEAP", "HEAP_WANTED", "STACK_STEP", "LEAST_STACK", "STACK_WANTED")
 
@@ -37,11 +39,11 @@ def facts(module):
         ("LAST_STEP", LAST_STEP), ("ISAS", ISAS), ("REFUSALS", WORDS), ("LEAK_KINDS", LEAK_KINDS),
         ("ERROR_KINDS", [(pattern.pattern, name) for pattern, name in TEXTS]),
         ("BADNESS", outcomes.BADNESS), ("FRAMES_TOLD", outcomes.FRAMES_TOLD), ("RUNNING", outcomes.RUNNING),
-        ("HEAP_NAMES", allocators.HEAP), ("OTHER_HEAPS", sorted(file_heaps.OTHERS)),
+        ("HEAP_NAMES", allocators.HEAP), ("OTHER_HEAPS", sorted(heap_names.OTHERS)),
         *((name, getattr(regions, name)) for name in REGION_RULES),
         ("USUAL_HEAP", regions.USUAL_REGIONS.heap), ("USUAL_STACK", regions.USUAL_REGIONS.stack),
         ("HEAPS", HEAPS), ("MOST_STACK", MOST_STACK), ("STACK_ENDS", STACK_ENDS), ("DEVICES", outside.DEVICES),
-        ("HEAP_CHOICES", file_heaps.CHOICES), ("BEFORE_BLOCKS", file_heaps.BEFORE_BLOCKS),
+        ("HEAP_CHOICES", file_heaps.CHOICES), ("BEFORE_BLOCKS", BEFORE_BLOCKS),
         ("MODULE_SUM", hashlib.sha256(module).hexdigest())))
 
 

@@ -21,4 +21,13 @@ returns c =
         given = λ e. c.get_flag.ensures.value (one_text-rows found (codes "quiet") ∙ e);
         absent = λ e. c.get_flag.ensures.other (one_text-rows found (codes "quiet") ∙ e);
       };
+      require_heap = record {
+        given = λ e. c.get_flag-2.ensures.value (one_text-rows found (codes "require-heap") ∙ e);
+        absent = λ e. c.get_flag-2.ensures.other (one_text-rows found (codes "require-heap") ∙ e);
+      };
+      no_require_heap = record {
+        given = λ e. c.get_flag-3.ensures.value (one_text-rows found (codes "no-require-heap") ∙ e);
+        absent = λ e. c.get_flag-3.ensures.other (one_text-rows found (codes "no-require-heap") ∙ e);
+      };
+      not_heap = c.get_str-3.ensures ∙ first_value-rows found (codes "not-heap");
     }

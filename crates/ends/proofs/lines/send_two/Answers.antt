@@ -37,7 +37,5 @@ returns-clause-front g c =
     (c.send.ensures.whole (not-false _ c.if-not-send.false)) in
     let first = subst (λ (first : List ℕ). Appends b d first) c.as_bytes-2.ensures.value
     (c.send-2.ensures.whole (not-false _ c.if-not-send-2.false)) in
-    let rest = subst (λ (second : List ℕ). AppendsFront d e (line_with c.args.gap.now second))
-    c.as_bytes-3.ensures.value c.send_line.ensures.front in
     front-next a d e (c.args.word.now ++ c.args.first.now) (line_with c.args.gap.now c.args.second.now)
-    (Appends-trans a b d c.args.word.now c.args.first.now word first) rest
+    (Appends-trans a b d c.args.word.now c.args.first.now word first) c.send_line.ensures.front

@@ -23,4 +23,6 @@ returns c =
           _ refl
           refl refl c.shown.ensures (c.in_ok-has_errors.ensures shown);
       lost = c.refused.ensures ∙ c.requires.at.refused ∙ ap (refused_at sc) c.requires.last;
+      heap_fails = ?;
+      heap_told = ?;
     }

@@ -39,6 +39,7 @@ returns-in_err-input-clause-err g c =
     same-error c.from_residual-in_err-input.result (Early c.in_err-input.field-0.0) _
     c.from_residual-in_err-input.ensures.1 (inr (inr (
       waits.0,
+      waits.2,
       c.in_err-input.field-0.0,
       refl,
       c.in_err-input.ensures.err,
