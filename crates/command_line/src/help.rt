@@ -287,9 +287,9 @@ pub(crate) const AFTER_CERTIFY: &str = with_statuses!(
 Prints one line on the run up to the step. Where it is
   clean to step N: ..
 nothing that uninitialised, freed or unmapped memory holds, at power-on or put there between any
-two steps, changes the run: its status, output, errors, heap and reports are the same, and by step
-N the run has ended or rests in a jump to itself. A run that does neither goes on after step N, and
-is only clean so far. Its line is
+two steps, changes the run: its status, output, errors, heap and reports are the same. The run has
+ended by step N, or rests in a jump to itself. If it continues after step N, it is clean only up to
+there, and the line is
   clean up to step N: .. the run goes on
 Else it is
   not clean: first use at step N: ..
@@ -300,8 +300,8 @@ Other inputs, later steps, devices and timing are not part of what the line says
 Example:
   replaycheck certify program.elf --input bytes --step 5000
 ",
-    "the run is clean; one that goes on only if --step was given",
-    "  5  the run isn't clean, or it goes on after step 4194304 and --step wasn't given
+    "the run is clean; one that continues after the step only if --step was given",
+    "  5  the run isn't clean, or it continues after step 4194304 and --step wasn't given
 "
 );
 
