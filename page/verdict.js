@@ -9,7 +9,7 @@ const STATES = {
   misaligned: (isa, address) => (hasAtomics(isa) && address % unitOf(isa) === 0
     ? 'met an atomic instruction whose address is no multiple of 4' : `jumped to an address that is no multiple of ${unitOf(isa)}`),
 };
-const CLEAN = /^clean to step \d+: /, FIRST_USE = /^not clean: first use at step (\d+): /;
+const CLEAN = /^clean (up )?to step \d+: /, FIRST_USE = /^not clean: first use at step (\d+): /;
 
 function stateWords({ name, rest, address }, isa) {
   if (name === 'exited') return `exited with ${rest}`;
@@ -48,7 +48,8 @@ export class Verdict {
   certify(line) {
     const [, step] = FIRST_USE.exec(line) ?? [];
     this.use = step === undefined ? null : Number(step);
-    const told = CLEAN.test(line) ? 'uninitialised memory has no influence on it'
+    const [isClean, goesOn] = CLEAN.exec(line) ?? [];
+    const told = isClean ? `uninitialised memory has no influence on it${goesOn ? ' up to here; the run goes on' : ''}`
       : this.use === null ? '' : `from step ${grouped(this.use)} on, what uninitialised or freed memory holds may change it`;
     this.sayCertified(told, this.use !== null, line);
   }

@@ -80,6 +80,8 @@ OPTIONS = [
     Row("their values as arguments", [*QUIET, "--tool", "memcheck", "--leak-check", "full", "says.elf"], 0),
     Row("-v lists them", ["-q", "-v", "--vgdb=no", "says.elf"], 0,
         said=["options that change nothing: --vgdb=no\n", "certify: clean to step"]),
+    Row("-v says that the run goes on", ["-q", "-v", "--step=2", "says.elf"], 124, "",
+        ["certify: clean up to step 2: nothing that", " on the run up to there; the run goes on\n"]),
     Row("-v says it for rv32imc", ["-q", "-v", "--isa=rv32imc", "--input=hi.txt", "half.elf"], 133,
         said=["of signal 5 (SIGTRAP)", "certify: clean to step"]),
     Row("-v says it with regions", ["-q", "-v", *REGIONS, "--input=hi.txt", "placed.elf"], 7, "",

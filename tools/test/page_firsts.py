@@ -175,9 +175,10 @@ def certified(bench):
             text = "".join(f"{it}\n" for it in asked)
             want = subprocess.run([bench.program, "look", *STATION], input=text, capture_output=True, text=True).stdout.splitlines()[-1]
             page.until(f"document.getElementById('certified').title === {json.dumps(want)}", 10)
-            same(f"{label}: what the program says", want.startswith("clean to step"), is_clean is True)
+            same(f"{label}: what the program says", want.startswith(("clean to step", "clean up to step")), is_clean is True)
             told = page.text("certified") if not page.run("document.getElementById('certified').hidden") else None
             same(f"{label}: {line}", told and ("no influence" in told), is_clean)
+            same(f"{label}: whether it goes on", "the run goes on" in (told or ""), want.endswith("the run goes on"))
         page.run("replaycheck.use('input 37 5')")
         bench.settle(page)
         page.until("document.getElementById('certified').title.includes('first use')", 10)

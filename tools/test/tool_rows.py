@@ -171,7 +171,12 @@ def when_rows():
     yield Row("when: the last step", [*when, "--last", "3", "state exited"], 0, "3\n")
     yield Row("when: a hexadecimal step", [*when, "--last=0x3", "state exited"], 0, "3\n")
     yield Row("when: from the start", [*when, "--last", "2", "state running"], 0, "0\n")
-    yield Row("when: before the last step", [*when, "--last", "2", "state exited"], 1)
+    yield Row("when: before the last step", [*when, "--last", "2", "state exited"], 1, "",
+              "replaycheck when: not by step 2; the run goes on\n")
+    yield Row("when: the run rests", [*when, "--last=99", "--line=patch 0x10000 0x6f", "state exited"], 1)
+    yield Row("when: the run rests at a half", ["when", *SHORT, "--last=99", "--line=patch16 0x10006 0xa001", "state exited"], 1)
+    yield Row("when: the run goes on in a loop", [*when, "--last=99", "--line=patch 0x10004 0xffdff06f", "state exited"], 1, "",
+              "replaycheck when: not by step 99; the run goes on\n")
     yield Row("when: a refused line", ["when", "packet.elf", "--line", "input 0 8", "x"], 2, "",
               f"replaycheck when: input 0 8: {NO_BYTE}\n")
     yield Row("when: two lines in one word", ["when", *PACKET, "--line", "input 0 8\nreport", "Invalid"], 2, "",
@@ -491,6 +496,8 @@ def heap_rows():
                        ("github", "*::error title=The heap goes unseen::stripped.elf: errors of the heap*")):
         yield Row(f"run: a heap is needed, as {name}", [*stripped, "--require-heap", f"--format={name}"], 1, told, unseen, needs=ADDR2LINE)
     yield Row("run: a clean run, as json", ["run", *PACKET, "--format=json"], 0, '*"certify": {\n  "clean": true,\n*')
+    yield Row("run: a clean run that goes on, as json", ["run", *PACKET, "--step=9", "--format=json"], 0,
+              '*"certify": {\n  "clean": true,\n  "goes_on": true,\n*', "*still running at step 9: *")
     yield Row("run: the first use of a run, as json", ["run", "use-after-free.elf", "--format=json"], 0,
               '*"clean": false,\n  "first_use": {"step": 14, "text": "Invalid read of size 4", "trace": [{"address": "0x00010050"*')
     yield Row("run: a first use that is suppressed, as json", [*SUPPRESSED, "--format=json"], 0,

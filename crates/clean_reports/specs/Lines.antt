@@ -1,5 +1,5 @@
 -- The line of a verdict.
-use Rattle.std.specs.Prelude.{◌≡◌, ℕ, List, [], ◌∷◌, ◌++◌, codes}
+use Rattle.std.specs.Prelude.{◌≡◌, ℕ, Bool, true, false, List, [], ◌∷◌, ◌++◌, codes}
 use Rattle.std.specs.Fmt.{decimal}
 use Rattle.std.specs.List.{flat_map}
 use Rattle.guest_elf.specs.declared.image.Image.{Image}
@@ -18,11 +18,20 @@ use Rattle.clean_reports.specs.declared.verdict.FirstUse.{FirstUse}
 use Rattle.clean_reports.specs.declared.verdict.Verdict.{Verdict}
 use Rattle.clean_reports.specs.declared.verdict.Verdict.TheVariants.{Clean, Mark as ByMark, Use}
 
--- `clean to step N: ..`
-unfoldable pub clean_line : ℕ → List ℕ
-clean_line n =
-    codes "clean to step " ++ decimal n
-    ++ codes ": nothing that uninitialised, freed or unmapped memory holds has any influence on this run\n"
+-- `clean to step N: .. on this run` of a run that has ended by step N, and `clean up to step N: .. on the run up to
+-- there; the run goes on` of one that hasn't
+abbrev pub clean_front : Bool → List ℕ
+clean_front true = codes "clean to step "
+clean_front false = codes "clean up to step "
+
+abbrev pub clean_end : Bool → List ℕ
+clean_end true = codes "on this run\n"
+clean_end false = codes "on the run up to there; the run goes on\n"
+
+unfoldable pub clean_line : ℕ → Bool → List ℕ
+clean_line n ended =
+    clean_front ended ++ decimal n
+    ++ codes ": nothing that uninitialised, freed or unmapped memory holds has any influence " ++ clean_end ended
 
 -- the kind of a mark, as the line of a session names it
 abbrev pub range_kind_text : RangeKind → List ℕ
@@ -70,7 +79,7 @@ use_line image found =
 
 -- the line of a verdict up to step n
 abbrev pub verdict_line : Image → ℕ → Verdict → List ℕ
-verdict_line image n Clean = clean_line n
+verdict_line image n (Clean ended) = clean_line n ended
 verdict_line image n (ByMark index mark) = mark_line index mark
 verdict_line image n (Use found) = use_line image found
 

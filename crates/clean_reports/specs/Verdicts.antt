@@ -1,6 +1,6 @@
 -- Whether a run is clean up to a step: no mark is in the way, and no error is a use. Otherwise, which mark comes first,
 -- or which error.
-use Rattle.std.specs.Prelude.{◌≡◌, ℕ, suc, ◌<◌, ◌↔◌, false, true, List, Some, slice_get, take}
+use Rattle.std.specs.Prelude.{◌≡◌, ℕ, suc, ◌<◌, ◌↔◌, ◌||◌, Bool, false, true, not, List, Some, slice_get, take}
 use Rattle.std.specs.List.{list_any}
 use Rattle.error_events.specs.declared.event.Event.{Event}
 use Rattle.guest_elf.specs.declared.image.Image.{Image}
@@ -9,8 +9,10 @@ use Rattle.run_values.specs.declared.alteration.Alteration.{Alteration}
 use Rattle.suppressions.specs.Rules.{Rule}
 use Rattle.replay_report.specs.Report.{IsReport}
 use Rattle.replay_report.specs.declared.options.Options.{Options}
+use Rattle.guest_machine.specs.Exec.{is_running}
 use Rattle.guest_machine.specs.State.{State}
 use Rattle.guest_machine.specs.Run.{after_marks, pre, post}
+use Rattle.guest_machine.specs.Streams.{is_idle}
 use Rattle.guest_machine.specs.declared.setup.Setup.{Setup}
 use Rattle.clean_reports.specs.Agreement.{StatesAgree}
 use Rattle.clean_reports.specs.Disturbed.{IsDisturbed}
@@ -46,10 +48,16 @@ pub record IsFirstUse (start : State) (setup : Setup) (marks : List Alteration) 
   pub below : found.step < n
   pub raises : RaisesFirstUse start setup marks found.step
 
--- the verdict on a run up to step n: on marks first, and then on errors, including suppressed ones
+-- has a run ended at a state? It exited or stopped, or it rests in a jump to itself
+unfoldable pub has_ended : State → Setup → Bool
+has_ended s setup = not (is_running s.core.status) || is_idle s setup
+
+-- the verdict on a run up to step n: on marks first, and then on errors, including suppressed ones; of a clean one also
+-- whether it has ended by then
 abbrev pub IsVerdict : State → Setup → List Alteration → ℕ → Verdict → Type 0
-IsVerdict start setup marks n Clean =
+IsVerdict start setup marks n (Clean ended) =
     NoneInTheWay start.core.isa start.core.blocks.begin marks × NoUse (post start setup marks n).events
+    × (ended ≡ has_ended (post start setup marks n) setup)
 IsVerdict start setup marks n (ByMark index mark) =
     IsFirstInTheWay start.core.isa start.core.blocks.begin marks index mark
 IsVerdict start setup marks n (Use found) =

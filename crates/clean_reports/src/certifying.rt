@@ -1,19 +1,20 @@
 //! The verdict on a run.
-ghost use Rattle.std.specs.Prelude.{◌≡◌, ◌+◌, ◌↔◌, ◌≤◌, IfOk, IsTrue, OnOk};
+ghost use Rattle.std.specs.Prelude.{◌≡◌, ◌+◌, ◌↔◌, ◌≤◌, Bool, IfOk, IsTrue, OnOk};
 ghost use Rattle.checkpoints.specs.Trails.{IsRightFor, is_short, last_held, loaded_of};
 ghost use Rattle.checkpoints.specs.Work.{reached};
 ghost use Rattle.guest_elf.specs.declared.image.Image.{Image as ImageOf};
 ghost use Rattle.guest_machine.specs.Run.{post};
+ghost use Rattle.guest_machine.specs.Shows.{Shows};
 ghost use Rattle.guest_machine.specs.State.{State};
 ghost use Rattle.clean_reports.specs.Disturbed.{HasBytes, IsStartOf};
 ghost use Rattle.clean_reports.specs.Uses.{NoUse};
-ghost use Rattle.clean_reports.specs.Verdicts.{IsCertified, IsVerdict, RaisesFirstUse};
+ghost use Rattle.clean_reports.specs.Verdicts.{IsCertified, IsVerdict, RaisesFirstUse, has_ended};
 
 use crate::marks::first_in_the_way;
 use crate::uses::{first_use, is_clean};
 use crate::verdict::{FirstUse, Verdict};
 use checkpoints::Trail;
-use guest_machine::{Alteration, Setup};
+use guest_machine::{Alteration, Machine, Setup, Status};
 use std::alloc::AllocError;
 
 /// Returns whether no error of a trail's run up to a step is a use.
@@ -63,6 +64,14 @@ fn first_use_step(
     Ok(clean)
 }
 
+/// Returns whether a machine's run has ended: it exited or stopped, or it rests in a jump to itself.
+#[tactic(auto, unfolding(crate::specs::Verdicts::has_ended))]
+fn has_ended(machine: &Machine, setup: &Setup) -> bool
+    ensures { (s : State) → Shows machine.now s → result ≡ has_ended s setup.now }
+{
+    !matches!(machine.status(), Status::Running) || machine.is_idle(setup)
+}
+
 /// Returns the verdict on a trail's run up to a step: on marks first, and then on errors. The trail is moved as by [`Trail::at_altered`].
 ///
 /// If the verdict is [`Verdict::Clean`], each disturbed run agrees with the run, and has the same reports (`IsCertified`).
@@ -74,7 +83,7 @@ pub fn certify(
 ) -> Result<Verdict, AllocError>
     ensures verdict { IfOk result (λ verdict. (start : State) → IsRightFor trail.old start setup.now marks.now → NoUse start.events
         → IsVerdict start setup.now marks.now step verdict) }
-    ensures certified { IfOk result (λ verdict. verdict ≡ Verdict.Clean → (image : ImageOf) (start : State)
+    ensures certified { IfOk result (λ verdict. (ended : Bool) → verdict ≡ Verdict.Clean ended → (image : ImageOf) (start : State)
         → IsRightFor trail.old start setup.now marks.now → IsStartOf image start → HasBytes setup.now
         → IsCertified image start setup.now marks.now step) }
     ensures right { (start : State) → IsRightFor trail.old start setup.now marks.now → IsRightFor trail.new start setup.now marks.now }
@@ -87,7 +96,7 @@ pub fn certify(
         return Ok(Verdict::Mark(index, mark));
     }
     let Some(group) = first_use(machine.groups()) else {
-        return Ok(Verdict::Clean);
+        return Ok(Verdict::Clean(has_ended(&machine, setup)));
     };
     Ok(Verdict::Use(FirstUse {
         step: first_use_step(trail, setup, marks, step)?,

@@ -1,7 +1,7 @@
 //! The line of a verdict.
 ghost use Rattle.std.specs.Prelude.{◌≡◌, ◌++◌, OnOk, codes};
 ghost use Rattle.std.specs.List.{flat_map};
-ghost use Rattle.clean_reports.specs.Lines.{caller_text, act_text, clean_line, mark_front, mark_line, range_kind_text, range_text, trace_text, use_front, use_line, verdict_line};
+ghost use Rattle.clean_reports.specs.Lines.{caller_text, act_text, clean_end, clean_front, clean_line, mark_front, mark_line, range_kind_text, range_text, trace_text, use_front, use_line, verdict_line};
 
 use crate::verdict::{FirstUse, Verdict};
 use guest_elf::Image;
@@ -10,17 +10,40 @@ use report_lines::{push_address, push_kind, push_name, push_number, push_text};
 use shadow_memory::RangeKind;
 use std::alloc::AllocError;
 
-/// Appends that a run is clean.
-#[tactic(auto, unfolding(crate::specs::Lines::clean_line), using(std::proofs::Common::append_assoc))]
-fn push_clean(out: &mut Vec<u8>, step: u32) -> Result<(), AllocError>
-    ensures { OnOk result (out.new.items ≡ out.old.items ++ clean_line step) }
+/// Returns how the line of a clean run begins, by whether the run has ended.
+fn clean_front(ended: bool) -> &'static [u8]
+    ensures { result.now ≡ clean_front ended }
 {
-    push_text(out, b"clean to step ")?;
+    if ended {
+        b"clean to step "
+    } else {
+        b"clean up to step "
+    }
+}
+
+/// Returns how it ends.
+fn clean_end(ended: bool) -> &'static [u8]
+    ensures { result.now ≡ clean_end ended }
+{
+    if ended {
+        b"on this run\n"
+    } else {
+        b"on the run up to there; the run goes on\n"
+    }
+}
+
+/// Appends that a run is clean, by whether it has ended.
+#[tactic(auto, unfolding(crate::specs::Lines::clean_line), using(std::proofs::Common::append_assoc))]
+fn push_clean(out: &mut Vec<u8>, step: u32, ended: bool) -> Result<(), AllocError>
+    ensures { OnOk result (out.new.items ≡ out.old.items ++ clean_line step ended) }
+{
+    push_text(out, clean_front(ended))?;
     push_number(out, u64::from(step))?;
     push_text(
         out,
-        b": nothing that uninitialised, freed or unmapped memory holds has any influence on this run\n",
-    )
+        b": nothing that uninitialised, freed or unmapped memory holds has any influence ",
+    )?;
+    push_text(out, clean_end(ended))
 }
 
 /// Returns the kind of a mark as a line of a session names it.
@@ -144,7 +167,7 @@ pub fn push_verdict(
     ensures { OnOk result (out.new.items ≡ out.old.items ++ verdict_line image.now step verdict.now) }
 {
     match verdict {
-        Verdict::Clean => push_clean(out, step),
+        Verdict::Clean(ended) => push_clean(out, step, *ended),
         Verdict::Mark(index, mark) => push_mark(out, *index, mark),
         Verdict::Use(found) => push_use(out, image, found),
     }

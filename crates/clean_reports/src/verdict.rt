@@ -17,8 +17,9 @@ pub struct FirstUse {
 /// Whether a run is clean up to a step, or what is in the way first.
 #[derive(Clone, Copy)]
 pub enum Verdict {
-    /// The run is clean: nothing that undefined or inaccessible memory holds has an influence on it up to the step.
-    Clean,
+    /// The run is clean: nothing that undefined or inaccessible memory holds has an influence on it up to the step. Whether it has ended
+    /// there, or rests in a jump to itself; if not, it goes on.
+    Clean(bool),
     /// A mark makes bits defined, or bytes of the heap inaccessible. It is the first such mark, with its index.
     Mark(usize, Alteration),
     /// An error is a use.

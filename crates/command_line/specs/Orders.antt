@@ -41,6 +41,10 @@ file_argument = record (new_rule (codes "FILE")) { required = true }
 abbrev pub default_option : Text → Text → Rule
 default_option name default = record (option name) { defaults = default ∷ [] }
 
+-- an option with a number between two others
+abbrev pub number_option : Text → ℕ → ℕ → Rule
+number_option name least most = record (option name) { parser = Some (Signed (pos least) (pos most)) }
+
 -- `--isa`, of which any text is taken here
 abbrev pub isa_option : Rule
 isa_option = default_option (codes "isa") (codes "rv32im")
@@ -129,9 +133,11 @@ sweep_command = with_rule sweep_of_flags (default_option (codes "part") (codes "
 abbrev pub with_sweep : App
 with_sweep = with_subcommand with_tries sweep_command.top
 
--- `certify`, which takes no suppressions: a suppressed error counts as any other
+-- `certify`, which takes no suppressions: a suppressed error counts as any other. Its `--step` has no default, as it
+-- matters whether a step was given
 abbrev pub certify_command : App
-certify_command = with_rule (input_command (codes "certify")) step_option
+certify_command =
+    with_rule (input_command (codes "certify")) (number_option (codes "step") 0 greatest_step)
 
 -- with `certify`
 abbrev pub with_certify : App
@@ -141,10 +147,7 @@ with_certify = with_subcommand with_sweep certify_command.top
 abbrev pub greatest_run : ℕ
 greatest_run = 4294967295
 
--- an option with a number between two others, and one that has a value where it isn't given
-abbrev pub number_option : Text → ℕ → ℕ → Rule
-number_option name least most = record (option name) { parser = Some (Signed (pos least) (pos most)) }
-
+-- an option with a number that has a value where it isn't given
 abbrev pub default_number : Text → ℕ → ℕ → Text → Rule
 default_number name least most default = record (number_option name least most) { defaults = default ∷ [] }
 
@@ -244,7 +247,8 @@ pub record IsExecOf (rows : List Row) (asked : ExecWords) : Type 0 where
 abbrev pub IsTaskOf : Text → List Row → Task → Type 0
 IsTaskOf name rows (Report n) = (bytes_eq name (codes "run") ≡ true) × IsStepOf rows n
 IsTaskOf name rows (Sweep words) = (bytes_eq name (codes "sweep") ≡ true) × IsSweepOf rows words
-IsTaskOf name rows (Certify n) = (bytes_eq name (codes "certify") ≡ true) × IsStepOf rows n
+IsTaskOf name rows (Certify asked) =
+    (bytes_eq name (codes "certify") ≡ true) × IsNumberIn (codes "step") rows asked
 IsTaskOf name rows Look = bytes_eq name (codes "look") ≡ true
 IsTaskOf name rows Tries = bytes_eq name (codes "tries") ≡ true
 IsTaskOf name rows (Exec asked) = (bytes_eq name (codes "exec") ≡ true) × IsExecOf rows asked

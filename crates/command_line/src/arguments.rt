@@ -4,7 +4,7 @@ ghost use Rattle.clap.specs.Words.{FailsBy, app_of, fault_of, found_of, kind_of,
 ghost use Rattle.clap.specs.declared.builder.command.Command.TheViews.{out-Command};
 ghost use Rattle.command_line.specs.Orders.{IsOrderFor, IsOrderOf, IsProfileOf, IsStepOf, IsSweepOf, IsTaskOf, certify_command, command_line, default_option, file_argument, heap_option, input_command, isa_option, option, output_flag, program_command, run_command, stack_option, step_option, sides_flag, sweep_command, sweep_of_bytes, sweep_of_flags, sweep_of_steps, sweep_of_words, with_certify, with_look, with_profile, with_run, with_session, with_sweep, with_tries};
 
-use crate::exec::{exec_command, exec_of};
+use crate::exec::{exec_command, exec_of, number_in, number_option};
 use crate::help::{
     ABOUT, AFTER_CERTIFY, AFTER_LOOK, AFTER_RUN, AFTER_SESSION, AFTER_SWEEP, AFTER_TRIES, CERTIFY,
     LOOK, RUN, SESSION, SWEEP, TRIES,
@@ -128,7 +128,7 @@ pub(crate) fn program_command<'a>(
     command.arg(option(alloc, "supp", "F", rules))
 }
 
-/// The step of `run`, `sweep` and `certify`.
+/// The step of `run` and `sweep`.
 fn step_argument<'a>(alloc: Global) -> Arg<'a>
     ensures rule { rule_of result ≡ step_option }
     ensures local { result.global ≡ false }
@@ -275,7 +275,9 @@ fn certify_command<'a>(alloc: Global) -> Result<Command<'a>, AllocError>
     ensures shape { IfOk result (λ command. app_of command ≡ certify_command) }
     ensures globals { IfOk result (λ command. (out-Command command).has_globals ≡ false) }
 {
-    input_command(alloc, "certify", CERTIFY, AFTER_CERTIFY, INPUT)?.arg(step_argument(alloc))
+    let command = input_command(alloc, "certify", CERTIFY, AFTER_CERTIFY, INPUT)?;
+    let step = "The step to certify the run up to, from 0 to 4194304: 4194304 without it";
+    command.arg(number_option(alloc, "step", 0, MOST_STEPS, step))
 }
 
 /// The command line with `run`, `session`, `look`, `tries`, `sweep` and `certify`.
@@ -352,7 +354,7 @@ fn task_of<'a>(name: &str, chosen: &ArgMatches<'a>) -> Option<Task<'a>>
     } else if name == "tries" {
         Some(Task::Tries)
     } else if name == "certify" {
-        Some(Task::Certify(step_of(chosen)?))
+        Some(Task::Certify(number_in("step", chosen)?))
     } else if name == "exec" {
         Some(Task::Exec(exec_of(chosen)?))
     } else {

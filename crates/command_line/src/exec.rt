@@ -14,7 +14,13 @@ use std::alloc::{AllocError, Global};
 const USUAL_KINDS: &str = "definite,possible";
 
 /// An option with a number from `least` to `most`.
-fn number_option<'a>(alloc: Global, name: &'a str, least: u32, most: u32, help: &'a str) -> Arg<'a>
+pub(crate) fn number_option<'a>(
+    alloc: Global,
+    name: &'a str,
+    least: u32,
+    most: u32,
+    help: &'a str,
+) -> Arg<'a>
     ensures rule { rule_of result ≡ number_option name.entry.now least most }
     ensures local { result.global ≡ false }
 {
@@ -129,7 +135,7 @@ fn number_of(name: &str, chosen: &ArgMatches<'_>) -> Option<u32>
 }
 
 /// The number of an option that may not be given.
-fn number_in(name: &str, chosen: &ArgMatches<'_>) -> Option<Option<u32>>
+pub(crate) fn number_in(name: &str, chosen: &ArgMatches<'_>) -> Option<Option<u32>>
     ensures { IfSome result (IsNumberIn name.now (rows_of (found_of chosen.now))) }
 {
     match chosen.get_str(name) {

@@ -287,7 +287,11 @@ pub(crate) const AFTER_CERTIFY: &str = with_statuses!(
 Prints one line on the run up to the step. Where it is
   clean to step N: ..
 nothing that uninitialised, freed or unmapped memory holds, at power-on or put there between any
-two steps, changes the run: its status, output, errors, heap and reports are the same. Else it is
+two steps, changes the run: its status, output, errors, heap and reports are the same. The run has
+ended by step N, or rests in a jump to itself. If it continues after step N, it is clean only up to
+there, and the line is
+  clean up to step N: .. the run goes on
+Else it is
   not clean: first use at step N: ..
 with the first error that reads inaccessible bytes or uses undefined ones, as a report names it,
 and its trace. Invalid writes, bad frees and jumps are no uses. Suppressions don't count here.
@@ -296,8 +300,8 @@ Other inputs, later steps, devices and timing are not part of what the line says
 Example:
   replaycheck certify program.elf --input bytes --step 5000
 ",
-    "the run is clean",
-    "  5  the run isn't clean
+    "the run is clean; one that continues after the step only if --step was given",
+    "  5  the run isn't clean, or it continues after step 4194304 and --step wasn't given
 "
 );
 

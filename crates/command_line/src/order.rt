@@ -39,8 +39,8 @@ pub enum Task<'a> {
     Tries,
     /// Every edit, one at a time.
     Sweep(SweepWords<'a>),
-    /// Whether the run is clean up to a step.
-    Certify(u32),
+    /// Whether the run is clean up to a step, or up to the greatest one if none was given.
+    Certify(Option<u32>),
     /// The run itself, with its output and its exit status.
     Exec(ExecWords<'a>),
 }

@@ -94,11 +94,11 @@ does-report action step image list input left held-old held-new end is reports =
     subst (λ (done : Action). Does done image list input (streams left held-old) (streams left held-new) end) (sym is)
     (Consumes-nil left, reports)
 
-pub does-certify : (action : Action) (step : ℕ) (image : ProgramImage) (list : List Rule) (input : List ℕ)
-    (left held-old held-new : Option (List ℕ)) (end : End) → action ≡ Certify step
-    → Certifies image input step held-old held-new end
+pub does-certify : (action : Action) (asked : Option ℕ) (image : ProgramImage) (list : List Rule) (input : List ℕ)
+    (left held-old held-new : Option (List ℕ)) (end : End) → action ≡ Certify asked
+    → Certifies image input asked held-old held-new end
     → Does action image list input (streams left held-old) (streams left held-new) end
-does-certify action step image list input left held-old held-new end is certifies =
+does-certify action asked image list input left held-old held-new end is certifies =
     subst (λ (done : Action). Does done image list input (streams left held-old) (streams left held-new) end) (sym is)
     (Consumes-nil left, certifies)
 

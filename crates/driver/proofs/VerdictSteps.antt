@@ -1,5 +1,7 @@
 -- The verdict on a run without edits.
-use Rattle.std.proofs.Common.{◌≡◌, ℕ, ◌^◌, ◌<◌, List, [], All, Option, refl, subst, sym}
+use Rattle.std.proofs.Common.{◌≡◌, ℕ, ◌^◌, ◌<◌, Bool, true, false, List, [], All, Option, Some, None, inl, inr}
+use Rattle.std.proofs.Common.{refl, subst, sym}
+use Rattle.std.specs.Prelude.{is_some}
 use Rattle.std.specs.Io.KnownBytes.{Appends}
 use Rattle.checkpoints.specs.Trails.{IsRightFor}
 use Rattle.checkpoints.specs.declared.trail.Trail.{Trail}
@@ -15,7 +17,7 @@ use Rattle.clean_reports.specs.Uses.{NoUse}
 use Rattle.clean_reports.specs.Verdicts.{IsCertified, IsVerdict}
 use Rattle.clean_reports.specs.declared.verdict.Verdict.{Verdict}
 use Rattle.clean_reports.specs.declared.verdict.Verdict.TheVariants.{Clean, Use, Mark as ByMark}
-use Rattle.driver.specs.Certified.{Certifies, IsCertifiedOnce, IsVerdictOnce, end_of_verdict}
+use Rattle.driver.specs.Certified.{Certifies, IsCertifiedOnce, IsVerdictOnce, end_of_verdict, step_for}
 
 -- a program begins with no errors
 none-yet : (image : Image) → NoUse (start_state image).events
@@ -48,10 +50,16 @@ module _ (image : Image) (input : List ℕ) (step : ℕ) (setup : Setup) (plain 
         (subst (λ (s : Setup). HasBytes s) (sym plain) bytes))
 
 -- what was written for a verdict
-pub certifies : (image : Image) (input : List ℕ) (step : ℕ) (old new : Option (List ℕ)) (verdict : Verdict)
-    → IsVerdictOnce image input step verdict → (verdict ≡ Clean → IsCertifiedOnce image input step)
-    → Appends old new (verdict_line image step verdict)
-    → Certifies image input step old new (end_of_verdict verdict)
-certifies image input step old new Clean is certified appended = ((is, appended), certified refl)
-certifies image input step old new (ByMark index mark) is certified appended = let at = is.at in cc
-certifies image input step old new (Use found) is certified appended = (found, (is, appended))
+pub certifies : (image : Image) (input : List ℕ) (asked : Option ℕ) (old new : Option (List ℕ)) (verdict : Verdict)
+    → IsVerdictOnce image input (step_for asked) verdict
+    → ((ended : Bool) → verdict ≡ Clean ended → IsCertifiedOnce image input (step_for asked))
+    → Appends old new (verdict_line image (step_for asked) verdict)
+    → Certifies image input asked old new (end_of_verdict (is_some asked) verdict)
+certifies image input asked old new (Clean true) is certified appended =
+    (true, refl, ((is, appended), certified true refl))
+certifies image input (Some n) old new (Clean false) is certified appended =
+    (false, refl, ((is, appended), certified false refl))
+certifies image input None old new (Clean false) is certified appended =
+    inr (refl, ((is, appended), certified false refl))
+certifies image input asked old new (ByMark index mark) is certified appended = let at = is.at in cc
+certifies image input asked old new (Use found) is certified appended = inl (found, (is, appended))

@@ -57,8 +57,8 @@ Does Session image list input old new end = Serves (Answers (fresh (opening imag
 Does Look image list input old new end = Serves (ViewsLines (fresh (opening image input list))) old new end
 Does Tries image list input old new end =
     Serves (TriesLines (untried (fresh (opening image input list)))) old new end
-Does (Certify step) image list input old new end =
-    Consumes old.left new.left [] × Certifies image input step old.held new.held end
+Does (Certify asked) image list input old new end =
+    Consumes old.left new.left [] × Certifies image input asked old.held new.held end
 
 -- with the program and its suppressions: the input is read, and what the order asks for is done, or the input ends the
 -- program

@@ -81,5 +81,5 @@ CarriedOut gives order Session old new end = Carried gives order Action.Session 
 CarriedOut gives order Look old new end = Carried gives order Action.Look old new end
 CarriedOut gives order Tries old new end = Carried gives order Action.Tries old new end
 CarriedOut gives order (Sweep words) old new end = CarriedSweep gives order words old new.held end
-CarriedOut gives order (Certify step) old new end = Carried gives order (Action.Certify step) old new end
+CarriedOut gives order (Certify asked) old new end = Carried gives order (Action.Certify asked) old new end
 CarriedOut gives order (Exec asked) old new end = (end ≡ Usage) × Untouched old new

@@ -106,8 +106,8 @@ pub(crate) enum Action {
     Look,
     /// A session is served that can also be looked at, and in which inputs can be tried.
     Tries,
-    /// The verdict up to a step is printed.
-    Certify(u32),
+    /// The verdict up to a step is printed, or up to the greatest one if none was asked for.
+    Certify(Option<u32>),
 }
 
 /// Carries out an order for the report or the verdict of a step, or for a session: the name of the instruction set is judged, then the
@@ -133,7 +133,7 @@ fn follow_order<'a, F: Files, R: Read, W: Write>(
         Action::Session => serve_session(alloc, image, input, suppressions, reader, writer),
         Action::Look => serve_looks(alloc, image, input, suppressions, reader, writer),
         Action::Tries => serve_tries(alloc, image, input, suppressions, reader, writer),
-        Action::Certify(step) => print_verdict(alloc, &image, input, step, writer),
+        Action::Certify(asked) => print_verdict(alloc, &image, input, asked, writer),
     }
 }
 
@@ -223,8 +223,8 @@ pub fn run_order<'a, F: Files, R: Read, W: Write>(
         Task::Look => ended(follow_order(alloc, order, Action::Look, files, reader, writer)),
         Task::Tries => ended(follow_order(alloc, order, Action::Tries, files, reader, writer)),
         Task::Sweep(words) => ended(follow_sweep(alloc, order, &words, files, reader, writer)),
-        Task::Certify(step) => {
-            ended(follow_order(alloc, order, Action::Certify(step), files, reader, writer))
+        Task::Certify(asked) => {
+            ended(follow_order(alloc, order, Action::Certify(asked), files, reader, writer))
         }
         Task::Exec(_) => End::Usage,
     }

@@ -1,5 +1,5 @@
 //! One program, one verdict.
-ghost use Rattle.std.specs.Prelude.{◌≡◌, IfOk, Ok};
+ghost use Rattle.std.specs.Prelude.{◌≡◌, Bool, IfOk, Ok};
 ghost use Rattle.clean_reports.specs.Lines.{verdict_line};
 ghost use Rattle.clean_reports.specs.declared.verdict.Verdict.TheVariants.{Clean};
 ghost use Rattle.driver.specs.Certified.{Certifies, IsCertifiedOnce, IsVerdictOnce, end_of_verdict};
@@ -11,6 +11,7 @@ use clean_reports::{Verdict, certify, push_verdict};
 use ends::End;
 use guest_elf::Image;
 use line_server::{Sent, send};
+use replay_session::MOST_STEPS;
 use scenario::setup_with;
 use std::alloc::{AllocError, Global};
 use std::io::Write;
@@ -23,7 +24,7 @@ fn verdict_once(
     step: u32,
 ) -> Result<Verdict, AllocError>
     ensures verdict { IfOk result (λ verdict. IsVerdictOnce image.now input.items step verdict) }
-    ensures certified { result ≡ Ok Clean → IsCertifiedOnce image.now input.items step }
+    ensures certified { (ended : Bool) → result ≡ Ok (Clean ended) → IsCertifiedOnce image.now input.items step }
 {
     inputs_are_bytes(&input);
     let setup = setup_with(alloc, image, input)?;
@@ -45,26 +46,33 @@ fn line_of(
     Ok(line)
 }
 
-/// Returns how the program ends with a verdict.
-fn ended_by<'a>(verdict: &Verdict) -> Result<(), End<'a>>
-    ensures { end_of result ≡ end_of_verdict verdict.now }
+/// Returns how the program ends with a verdict, by whether its step was asked for.
+fn ended_by<'a>(verdict: &Verdict, is_asked: bool) -> Result<(), End<'a>>
+    ensures { end_of result ≡ end_of_verdict is_asked verdict.now }
 {
     match verdict {
-        Verdict::Clean => Ok(()),
+        Verdict::Clean(ended) => {
+            if *ended || is_asked {
+                Ok(())
+            } else {
+                Err(End::NotClean)
+            }
+        }
         Verdict::Mark(..) | Verdict::Use(_) => Err(End::NotClean),
     }
 }
 
-/// Writes the line of the verdict on the run of a program with an input up to a step.
+/// Writes the line of the verdict on the run of a program with an input up to a step, the greatest one if none was asked for.
 pub(crate) fn print_verdict<'a, W: Write>(
     alloc: Global,
     image: &Image,
     input: Vec<u8>,
-    step: u32,
+    asked: Option<u32>,
     writer: &mut W,
 ) -> Result<(), End<'a>>
-    ensures { Certifies image.now input.items step (W.contents writer.old) (W.contents writer.new) (end_of result) }
+    ensures { Certifies image.now input.items asked (W.contents writer.old) (W.contents writer.new) (end_of result) }
 {
+    let step = asked.unwrap_or(MOST_STEPS);
     let Ok(verdict) = verdict_once(alloc, image, input, step) else {
         return Err(End::NoMemory);
     };
@@ -75,5 +83,5 @@ pub(crate) fn print_verdict<'a, W: Write>(
     if !whole {
         return Err(End::CannotWrite);
     }
-    ended_by(&verdict)
+    ended_by(&verdict, asked.is_some())
 }

@@ -337,7 +337,7 @@ const NAMED: [Named; 9] = [
         },
         (
             "a verdict for none",
-            ("program", false, Asked::Task(Task::Certify(3))),
+            ("program", false, Asked::Task(Task::Certify(Some(3)))),
             b"",
             2,
             Written::Nothing,
@@ -361,7 +361,7 @@ const GOOD_RULES: &[u8] = b"{\n  any\n  Memcheck:Cond\n  fun:*\n}\n";
 const BAD_RULES: &[u8] = b"# an empty block\n{\n}\n";
 
 /// A report, a session, one that also looks, one that also tries, and a verdict.
-const ORDERS: [Case; 6] = [
+const ORDERS: [Case; 8] = [
     (
         "a report",
         ("program", false, Asked::Task(Task::Report(3))),
@@ -399,10 +399,24 @@ const ORDERS: [Case; 6] = [
     ),
     (
         "a verdict",
-        ("program", false, Asked::Task(Task::Certify(3))),
+        ("program", false, Asked::Task(Task::Certify(Some(3)))),
         b"",
         0,
         Written::Line(b"clean to step 3: "),
+    ),
+    (
+        "a verdict on a run that goes on after the step",
+        ("program", false, Asked::Task(Task::Certify(Some(2)))),
+        b"",
+        0,
+        Written::Line(b"clean up to step 2: "),
+    ),
+    (
+        "a verdict up to the greatest step",
+        ("program", false, Asked::Task(Task::Certify(None))),
+        b"",
+        0,
+        Written::Line(b"clean to step 4194304: "),
     ),
 ];
 

@@ -91,7 +91,7 @@ fn assert_given(rt: &impl Abort, alloc: Global, lines: &[Line]) {
     }
 }
 
-const REPORTS: [Line; 4] = [
+const REPORTS: [Line; 5] = [
     (
         "the usual step",
         &["run", "program"],
@@ -133,7 +133,18 @@ const REPORTS: [Line; 4] = [
             input: Some("i"),
             suppressions: None,
             profile: USUAL_PROFILE,
-            task: Task::Certify(7),
+            task: Task::Certify(Some(7)),
+        },
+    ),
+    (
+        "a verdict on no step that is given",
+        &["certify", "f"],
+        Order {
+            file: "f",
+            input: None,
+            suppressions: None,
+            profile: USUAL_PROFILE,
+            task: Task::Certify(None),
         },
     ),
 ];

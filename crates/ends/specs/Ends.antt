@@ -22,7 +22,7 @@ use Rattle.line_server.specs.declared.fault.ServeFault.TheVariants as Serve
 use Rattle.suppressions.specs.declared.fault.SuppFault.TheVariants as Supp
 
 -- 0: done, 1: a file or standard input cannot be read, or the output written, 2: the command line, 3: the program, the
--- suppressions or the input is rejected, 4: out of memory, 5: the run isn't clean
+-- suppressions or the input is rejected, 4: out of memory, 5: the run isn't clean, or goes on
 abbrev pub status_of : End → ℕ
 status_of Done = 0
 status_of (CannotRead path) = 1
@@ -87,7 +87,7 @@ overlap_line heap stack =
     ++ line_with (codes " --stack-region ") stack
 
 -- the line on standard error: none if all is done, none for the command line, whose parser has written it, and none if
--- the run isn't clean, as standard output says why
+-- the run isn't clean or goes on, as standard output says why
 abbrev pub line_of : End → List ℕ
 line_of Done = []
 line_of (CannotRead path) = line_with (codes "replaycheck: cannot read ") path.now

@@ -116,7 +116,7 @@ pub enum End<'a> {
     /// An input of more than 1,048,576 bytes.
     InputTooLarge,
     NoMemory,
-    /// The run isn't clean: the line on standard output says why.
+    /// The run isn't clean, or goes on where no step was asked for: the line on standard output says why.
     NotClean,
 }
 

@@ -23,7 +23,7 @@
 //! | `look stack` | `stack PC SITE ..`: pc, and the address of each call that the program is in, newest first, at most 256 |
 //! | `look blocks ADDR` | the blocks of the heap that begin at ADDR or above, in order, those freed that aren't forgotten yet too: `block START SIZE live` or `freed` and up to three addresses of the trace, a line each. After 64 of them `next ADDR`, the start of the next one, else `end` |
 //! | `look calls FROM END` | what happens in the steps from FROM on, below END and below the chosen one, a line each (see below). After 1,024 of these `next STEP`, the step after the last, else `end` |
-//! | `look certify` | `clean to step N: ..`, or `not clean: ..` with the first mark or error that is in the way |
+//! | `look certify` | `clean to step N: ..`, `clean up to step N: .. the run goes on`, or `not clean: ..` with the first mark or error that is in the way |
 //!
 //! What `look calls` lists of a step is the first of these that applies:
 //!

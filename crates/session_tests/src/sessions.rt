@@ -55,34 +55,77 @@ fn read_answers_100_000(alloc: Global, file: &[u8], out: &mut Vec<u8>) -> bool {
     }
 }
 
-/// Returns whether a session reports that its run is clean up to step 3.
-fn tells_clean(session: &mut Session<'_>, out: &mut Vec<u8>) -> bool {
-    session.command(b"goto 3", out) == Ok(Reply::Done)
+/// A label, a program, a line that chooses a step, and the line of the verdict up to that step.
+type Verdict = (&'static str, &'static [u32], &'static [u8], &'static [u8]);
+
+/// Clean runs: whether they have ended, or go on.
+const VERDICTS: [Verdict; 5] = [
+    (
+        "it has exited",
+        &EXITS,
+        b"goto 3",
+        b"clean to step 3: nothing that uninitialised, freed or unmapped memory holds has any influence on this run\n",
+    ),
+    (
+        "it goes on",
+        &EXITS,
+        b"goto 2",
+        b"clean up to step 2: nothing that uninitialised, freed or unmapped memory holds has any influence on the run up to there; the run goes on\n",
+    ),
+    (
+        "it has stopped at EBREAK",
+        &[0x0010_0073],
+        b"goto 1",
+        b"clean to step 1: nothing that uninitialised, freed or unmapped memory holds has any influence on this run\n",
+    ),
+    (
+        "it rests in a jump to itself",
+        &[0x0000_006F],
+        b"goto 0",
+        b"clean to step 0: nothing that uninitialised, freed or unmapped memory holds has any influence on this run\n",
+    ),
+    (
+        "it goes on in a loop of two instructions",
+        &[0x0000_0013, 0xFFDF_F06F],
+        b"goto 9",
+        b"clean up to step 9: nothing that uninitialised, freed or unmapped memory holds has any influence on the run up to there; the run goes on\n",
+    ),
+];
+
+/// Returns whether a session has a verdict.
+fn tells(session: &mut Session<'_>, verdict: &Verdict, out: &mut Vec<u8>) -> bool {
+    session.command(verdict.2, out) == Ok(Reply::Done)
         && session.certify(out).is_ok()
-        && out.as_slice().starts_with(b"clean to step 3: ")
+        && out.as_slice() == verdict.3
 }
 
 /// Returns whether a session on an image does.
-fn begun_tells_clean(alloc: Global, image: Image<'_>, out: &mut Vec<u8>) -> bool {
+fn begun_tells(alloc: Global, image: Image<'_>, verdict: &Verdict, out: &mut Vec<u8>) -> bool {
     match Session::begin(alloc, image, Vec::new(alloc), Vec::new(alloc)) {
-        Ok(mut session) => tells_clean(&mut session, out),
+        Ok(mut session) => tells(&mut session, verdict, out),
         Err(_) => false,
     }
 }
 
 /// Returns the same for a new file.
-fn tells_clean_anew(alloc: Global) -> Result<bool, AllocError> {
-    let file = program(alloc, &EXITS)?;
+fn tells_anew(alloc: Global, verdict: &Verdict) -> Result<bool, AllocError> {
+    let file = program(alloc, verdict.1)?;
     let mut out = Vec::new(alloc);
     match read(alloc, &file) {
-        Ok(image) => Ok(begun_tells_clean(alloc, image, &mut out)),
+        Ok(image) => Ok(begun_tells(alloc, image, verdict, &mut out)),
         Err(_) => Ok(false),
     }
 }
 
 #[test]
-fn a_clean_run(rt: HostRuntime) {
-    assert!(rt; matches!(tells_clean_anew(rt.alloc()), Ok(true)));
+fn verdicts(rt: HostRuntime) {
+    for verdict in &VERDICTS {
+        assert!(rt;
+            matches!(tells_anew(rt.alloc(), verdict), Ok(true)),
+            "{}",
+            verdict.0
+        );
+    }
 }
 
 /// Returns the same for a new file.

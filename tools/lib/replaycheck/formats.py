@@ -7,7 +7,7 @@ from replaycheck.findings import RULES, RUNNING
 from replaycheck.programs import ISAS
 from replaycheck.records import kept
 from replaycheck.reports import Address, Frame
-from replaycheck.verdicts import LEAK_KINDS, SUMS
+from replaycheck.verdicts import CLEAN, CLEAN_SO_FAR, LEAK_KINDS, SUMS
 
 JSON_VERSION = 1
 PLAIN = b"ABCDEFGHIJKLMNOPQRSTUVWXYZabcdefghijklmnopqrstuvwxyz0123456789_.-~/"  # bytes of a URI's path that stand for themselves
@@ -76,8 +76,10 @@ def note_object(note, trace):
 def verdict_object(line, trace):
     """What a line of `look certify` says, with the source lines of a first use; None of any other line."""
     front, _, told = line.partition(": ")
-    if front.startswith("clean to step "):
+    if front.startswith(CLEAN):
         return {"clean": True, "first_use": None}
+    if front.startswith(CLEAN_SO_FAR):
+        return {"clean": True, "goes_on": True, "first_use": None}
     first, is_use, rest = told.partition(": ")
     if front != "not clean" or not is_use:
         return None

@@ -4,6 +4,8 @@ SUMS = ("definitely lost", "indirectly lost", "possibly lost", "still reachable"
 # What options and suppressions call the leaks of a kind.
 LEAK_KINDS = {"definitely lost": "definite", "indirectly lost": "indirect", "possibly lost": "possible",
               "still reachable": "reachable"}
+# How the line of `look certify` on a clean run begins: if the run has ended or rests in a jump to itself, and if it goes on.
+CLEAN, CLEAN_SO_FAR = "clean to step ", "clean up to step "
 
 
 class Verdict:

@@ -81,7 +81,7 @@ ERROR SUMMARY: 1 errors from 1 contexts (suppressed: 0 from 0)
                 "tally 0 1\ntally 1 1\nend 2 2 2097044\n"),),
     "certify": (
         Example("A clean run. The rest of the line says what that means:",
-                "replaycheck certify station.elf --input station.input | cut -d: -f1", "clean to step 1048576\n"),
+                "replaycheck certify station.elf --input station.input | cut -d: -f1", "clean to step 4194304\n"),
         Example("A run that isn't clean:", "replaycheck certify ../use-after-free.elf >verdict.txt", status=5),
         Example("Its line names the first use:", "cut -d: -f1-3 verdict.txt | cut -d' ' -f1-11",
                 "not clean: first use at step 14: Invalid read of size\n")),
@@ -186,7 +186,7 @@ STATUSES = {"": (
     ("1", "a file can't be read, or the output can't be written; of a tool: the answer is no, or there is something new"),
     ("2", "the command line is at fault, or a tool failed: a line on standard error says what, and why"),
     ("3", "the program, the suppressions or the input was refused, by a number that the page of the command explains"),
-    ("4", "out of memory"), ("5", "`certify`: the run isn't clean"))}
+    ("4", "out of memory"), ("5", "`certify`: the run isn't clean, or goes on without `--step`"))}
 ENVIRONMENTS = {"": (("REPLAYCHECK", "the program to run instead of the usual one"),)}
 PAGES = (("/usr/share/replaycheck/replaycheck.html", "the page for a browser, in one file that opens from disk"),
          ("/usr/share/replaycheck/page", "the same as a folder to serve"))

@@ -229,8 +229,9 @@ class Run:
         return met
 
     def certify(self, step: Optional[int] = None) -> Certificate:
-        """Returns whether anything that uninitialised, freed or unmapped memory holds has an influence on the run up to a step."""
-        return Certificate(self._at(step).look("certify")[0])
+        """Returns whether anything that uninitialised, freed or unmapped memory holds has an influence on the run up to a step, without
+        one up to `LAST_STEP`."""
+        return Certificate(self._at(step).look("certify")[0], step is not None)
 
     # ---- looks
 

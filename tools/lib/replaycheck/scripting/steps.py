@@ -5,13 +5,14 @@ from dataclasses import dataclass
 from typing import TYPE_CHECKING, List, NamedTuple, Optional, Tuple, Union
 
 from replaycheck.reports import Address, Lines, State, read_state
+from replaycheck.verdicts import CLEAN, CLEAN_SO_FAR
 
 if TYPE_CHECKING:
     from replaycheck.scripting.runs import Run
 
 # An address: a number, or the name of a symbol.
 Place = Union[int, str]
-CLEAN, FIRST_USE = "clean to step ", "not clean: first use at step "
+FIRST_USE = "not clean: first use at step "
 
 
 class Registers(NamedTuple):
@@ -106,20 +107,27 @@ class Happened:
 @dataclass(frozen=True)
 class Certificate:
     """What `look certify` says of a run up to a step, which is proved: `text` is its line. `clean` says that nothing which uninitialised,
-    freed or unmapped memory holds has any influence on the run. `first_use` is the step of the error that lets such memory in; it is None
-    in a clean run, and where a mark is in the way."""
+    freed or unmapped memory holds has any influence on the run up to there. `goes_on` says of a clean run that it has not ended by then
+    and doesn't rest in a jump to itself. `first_use` is the step of the error that lets such memory in; it is None in a clean run, and
+    where a mark is in the way. `asked` says whether the step was given. A certificate is true where `replaycheck certify` ends with 0: the
+    run is clean, and doesn't go on unless its step was given."""
 
     text: str
+    asked: bool = False
 
     def __bool__(self) -> bool:
-        return self.clean
+        return self.clean and (self.asked or not self.goes_on)
 
     def __str__(self) -> str:
         return self.text
 
     @property
     def clean(self) -> bool:
-        return self.text.startswith(CLEAN)
+        return self.text.startswith((CLEAN, CLEAN_SO_FAR))
+
+    @property
+    def goes_on(self) -> bool:
+        return self.text.startswith(CLEAN_SO_FAR)
 
     @property
     def first_use(self) -> Optional[int]:

@@ -31,10 +31,11 @@ returns-in_default-first_use-clause-verdict c = λ start right none. (
       (c.heap_begin.ensures _ (c.in_ok-machine.ensures.shows start right)) c.in_default.ensures.none,
   no-use (groups_of c.groups.result.now) _ (c.groups.ensures _ (c.in_ok-machine.ensures.shows start right))
       c.in_default-first_use.ensures,
+  c.has_ended.ensures _ (c.in_ok-machine.ensures.shows start right),
 )
 
 pub returns-in_default-first_use-clause-certified : goal.returns-in_default-first_use-clause-certified
-returns-in_default-first_use-clause-certified c = λ is image start right begins bytes.
+returns-in_default-first_use-clause-certified c = λ ended is image start right begins bytes.
     certified image start c.args.setup.now c.args.marks.now c.args.step begins bytes
     (clear start c.args.setup.now c.args.marks.now c.args.step c.isa.result c.heap_begin.result
     (c.isa.ensures _ (c.in_ok-machine.ensures.shows start right))

@@ -5,10 +5,10 @@ use Rattle.command_line.proofs.arguments.certify_command.Goals as goal
 
 pub returns-clause-shape : goal.returns-clause-shape
 returns-clause-shape c =
-    IfOk-weaker c.arg.result _ _ (λ command added. added.shape c.step_argument.ensures.local
-    ∙ ap₂ with_rule c.in_ok-input_command.ensures.shape c.step_argument.ensures.rule) c.arg.ensures
+    IfOk-weaker c.arg.result _ _ (λ command added. added.shape c.number_option.ensures.local
+    ∙ ap₂ with_rule c.in_ok-command.ensures.shape c.number_option.ensures.rule) c.arg.ensures
 
 pub returns-clause-globals : goal.returns-clause-globals
 returns-clause-globals c =
     IfOk-weaker c.arg.result _ _ (λ command added. added.globals
-    ∙ ap₂ ◌||◌ c.in_ok-input_command.ensures.globals c.step_argument.ensures.local) c.arg.ensures
+    ∙ ap₂ ◌||◌ c.in_ok-command.ensures.globals c.number_option.ensures.local) c.arg.ensures
