@@ -15,7 +15,7 @@ class Child:
             os.set_inheritable(number, True)
         actions = [(os.POSIX_SPAWN_DUP2, number, place) for place, number in enumerate(pipes)]
         reset = [signal.SIGPIPE, signal.SIGXFSZ]
-        self.status = None
+        self.status, self.is_killed = None, False
         self.pid = os.posix_spawnp(words[0], words, os.environ, file_actions=actions, setsigdef=reset)
 
     def terminate(self):
@@ -28,7 +28,7 @@ class Child:
         waited for."""
         if self.status is None:
             try:
-                if not options:
+                if not options and not self.is_killed:
                     self.outlast()
                 if os.waitid(os.P_PID, self.pid, os.WEXITED | os.WNOWAIT | options):
                     undisturbed(self.reap)
@@ -55,9 +55,10 @@ class Child:
         self.status = os.waitstatus_to_exitcode(os.waitpid(self.pid, 0)[1])
 
     def kill(self):
-        """Ends it at once, unless it has ended."""
+        """Ends it at once, unless it has ended. To wait for it then needs no other module, which couldn't be imported while Python ends."""
         if self.wait(os.WNOHANG) is None:
             os.kill(self.pid, signal.SIGKILL)
+            self.is_killed = True
 
     def close_input(self):
         """Closes its standard input. What it hasn't read is dropped."""
