@@ -96,8 +96,35 @@ def test_signals(tests):
     tests.check("the first of two goes on until it is ended", child.wait() != -signal.SIGTERM)
 
 
+# The tool that says how far it is after each interval of some seconds.
+HASTY = f"""import runpy, sys
+sys.path.insert(0, {str(TOOLS / "lib")!r})
+from replaycheck.exploring import progress
+progress.INTERVAL = float(sys.argv[1])
+sys.argv = [{EXPLORE!r}, *sys.argv[2:]]
+runpy.run_path({EXPLORE!r}, run_name="__main__")
+"""
+
+
+def test_lines_of_progress(tests):
+    """Where standard error is no terminal a line comes at each interval, after an estimate if the number of edits is known; none if all is
+    done within one; and the sweep doesn't fail where the line can't be written."""
+    words = ["packet.elf", "--input=packet.input", "--jobs=1", "--parts=4", "--step=90"]
+    flips, steps = [*words, "--values=flips"], [*words, "--at=0..3", "--faults=memory,pc"]
+    said = "replaycheck explore: "
+    known = rf"{said}64 edits: some \d+ s in all\n(?:{said}\d+ of 64 edits, \d+ a second(?:, \d+ s left)?\n)+"
+    for label, interval, asked, wanted in (("each interval", 0.3, flips, known), ("less than an interval", 1000, flips, ""),
+                                           ("an unknown number", 0.3, steps, rf"(?:{said}\d+ edits, \d+ a second\n)+")):
+        whole, slow = tests.run(asked), tests.environment(REPLAYCHECK=tests.wrapper("sleep 0.4"))
+        for ends in ("", "2>&-", "2>/dev/full")[:3 if wanted == known else 1]:
+            done = subprocess.run(["bash", "-c", f'exec "$@" {ends}', "bash", sys.executable, "-c", HASTY, str(interval), *asked],
+                                  cwd=tests.room, capture_output=True, text=True, env=slow)
+            is_well = (done.returncode, done.stdout) == whole[:2] and re.fullmatch("" if ends else wanted, done.stderr)
+            tests.check(f"lines of progress: {label} {ends}", "" if is_well else done)
+
+
 def test_progress(tests):
-    """It is told on a terminal alone, and taken back."""
+    """On a terminal it is said in one line, which is taken back."""
     leader, follower = pty.openpty()
     child = subprocess.Popen([EXPLORE, *PACKET, "--jobs=1", "--parts=4"], cwd=tests.room, stdout=subprocess.PIPE, stderr=follower,
                              env=tests.environment(REPLAYCHECK=tests.wrapper("sleep 0.4")))
