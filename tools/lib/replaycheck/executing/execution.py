@@ -134,13 +134,14 @@ def executed(choices):
         return status
     report = parsed(told)
     heap = heap_of(choices, report)
+    lacks_heap = choices.require_heap and heap and heap.is_unseen
+    status = choices.error_exitcode or REFUSED if lacks_heap else status
     if is_told(choices, report):
-        log.write(log_text(choices, told, report, os.getpid(), heap))
+        log.write(log_text(choices, told, report, os.getpid(), heap, status))
     if choices.verbose:
         say_more(choices, report, heap)
-    if choices.require_heap and heap and heap.is_unseen:
+    if lacks_heap:
         note(heap.notice(choices.file))
-        return choices.error_exitcode or REFUSED
     return status
 
 
