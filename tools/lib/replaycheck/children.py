@@ -81,6 +81,20 @@ class Child:
         return os.pread(self.stderr.fileno(), os.fstat(self.stderr.fileno()).st_size, 0)
 
 
+def is_there(name):
+    """Whether there is a program of this name: a path, or a name on the path."""
+    folders = [""] if "/" in name else os.get_exec_path()
+    return any(os.access(os.path.join(folder, name), os.X_OK) for folder in folders)
+
+
+def tied(words):
+    """A command line whose process is killed when this one ends, also by SIGKILL; as it was without setpriv. A shell sees whether this
+    process had ended before that was so."""
+    if not all(map(is_there, ("setpriv", "sh", words[0]))):
+        return words
+    return ["setpriv", "--pdeathsig", "KILL", "--", "sh", "-c", '[ "$PPID" = "$0" ] && exec "$@"', str(os.getpid()), *words]
+
+
 def started(words, pipes, lends=(), needs=""):
     """A child that a signal ends with its parent. Where its program isn't there, the fault says what is needed."""
     made = []
