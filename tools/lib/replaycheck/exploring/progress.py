@@ -5,7 +5,8 @@ import sys
 import time
 
 INTERVAL = 10  # seconds from one line to the next, where standard error is no terminal
-SOON = 0.1  # the part of that after which the rate is known well enough for an estimate
+SOON = 0.1  # the part of that before which nothing is estimated
+ENOUGH = 0.01  # the part of the edits that must have come for an estimate: the first ones come in bursts
 LONG = 2  # of how many intervals on the whole is estimated
 
 
@@ -16,7 +17,7 @@ class Progress:
 
     def __init__(self, edits, what=""):
         self.what, self.edits, self.done, self.begun, self.last, self.is_shown = what, edits, 0, time.monotonic(), 0, False
-        self.told, self.is_estimated = self.begun, not edits
+        self.told, self.is_estimated = self.begun, False
 
     def add(self, number):
         """Counts edits that have come; 0 where only time has passed."""
@@ -26,24 +27,25 @@ class Progress:
             self.last = now
             if sys.stderr.isatty():
                 self.is_shown = True
-                put(f"\r\x1b[Kexplore: {self.text(now)}")
+                put(f"\r\x1b[Kexplore: {self.text(now, self.edits)}")
             else:
                 self.tell(now)
 
     def tell(self, now):
         """Writes the lines that are due."""
-        if not self.is_estimated and self.done:
+        is_known = self.edits and self.done >= ENOUGH * self.edits
+        if now - self.told >= INTERVAL:
+            self.told, self.is_estimated = now, True
+            put(f"replaycheck explore: {self.text(now, is_known)}\n")
+        elif is_known and not self.is_estimated:
             self.is_estimated = True
             whole = self.edits / self.done * (now - self.begun)
             if whole > LONG * INTERVAL:
                 put(f"replaycheck explore: {self.what}{self.edits} edits: some {whole:.0f} s in all\n")
-        if now - self.told >= INTERVAL:
-            self.told = now
-            put(f"replaycheck explore: {self.text(now)}\n")
 
-    def text(self, now):
+    def text(self, now, says_left):
         rate = self.done / (now - self.begun)
-        left = f", {max(0, self.edits - self.done) / rate:.0f} s left" if rate and self.edits else ""
+        left = f", {max(0, self.edits - self.done) / rate:.0f} s left" if rate and says_left else ""
         edits = f"{self.done} of {self.edits} edits" if self.edits else f"{self.done} edits"
         return f"{self.what}{edits}, {rate:.0f} a second{left}"
 
