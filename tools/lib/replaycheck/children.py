@@ -3,6 +3,12 @@ import os
 
 from replaycheck.endings import Fault, children, signal, undisturbed
 
+# Has a command line killed when a process ends, whose number comes first. The second shell sees whether it had ended before that was so.
+TIED = """if setpriv --pdeathsig KILL true 2>/dev/null; then
+  exec setpriv --pdeathsig KILL sh -c '[ "$PPID" = "$0" ] && exec "$@"' "$0" "$@"
+fi
+exec "$@" """
+
 
 class Child:
     """A process that `endings.end_children` can end. What it says on standard error goes to a file, so that it never waits for a reader."""
@@ -88,11 +94,9 @@ def is_there(name):
 
 
 def tied(words):
-    """A command line whose process is killed when this one ends, also by SIGKILL; as it was without setpriv. A shell sees whether this
-    process had ended before that was so."""
-    if not all(map(is_there, ("setpriv", "sh", words[0]))):
-        return words
-    return ["setpriv", "--pdeathsig", "KILL", "--", "sh", "-c", '[ "$PPID" = "$0" ] && exec "$@"', str(os.getpid()), *words]
+    """A command line whose process is killed when this one ends, also by SIGKILL, if there is a setpriv that can do that. Where the program
+    isn't there, it is as it was."""
+    return ["sh", "-c", TIED, str(os.getpid()), *words] if is_there(words[0]) else words
 
 
 def started(words, pipes, lends=(), needs=""):
