@@ -71,6 +71,42 @@ def regions(first: list[str], kind: str) -> list[Row]:
     ]
 
 
+def published(name: str, rows: list[tuple[str, list[str], int, list[str]]]) -> list[Row]:
+    """Logs in a format that other programs publish: of each what it says, by the status with which `exec` ends."""
+    return [Row(f"{name}: {label}", [*QUIET, f"--log-format={name}", *words], status, OUTPUT.get(words[-1], "hi\n"), said)
+            for label, words, status, said in rows]
+
+
+OUTPUT = {"loud.elf": ("hi\n" + "\0" * 4093) * 16}
+JUNIT, SARIF, FAILED = 'tests="1" failures="{}" errors="{}" skipped="0"', '"executionSuccessful": {}, "exitCode": {}', "exit status 3"
+CASE = ['name="exit status {0}">\n', '<failure type="Status" message="exit status {0}{1}">exit status {0}{1}</failure>']
+IDLE, UNLISTED = ["--step=5000", "--idle-exitcode={}", "idles.elf"], ["--show-leak-kinds=none", "leaks.elf"]
+PUBLISHED = [
+    *published("junit", [
+        ("a failed test", ["fails.elf"], 3, [JUNIT.format(1, 0), *(it.format(3, "") for it in CASE)]),
+        ("lost output", ["loud.elf"], 123, [JUNIT.format(1, 0), *(it.format(123, ": output was lost") for it in CASE)]),
+        ("a rest that passes", [*IDLE[:1], IDLE[1].format(0), IDLE[2]], 0, [JUNIT.format(0, 0), 'name="no error and no leak"/>']),
+        ("a rest that fails", [*IDLE[:1], IDLE[1].format(3), IDLE[2]], 3, [JUNIT.format(1, 0), CASE[0].format(3)]),
+        ("it hangs", ["--step=5000", "hangs.elf"], 124, [JUNIT.format(0, 1), '<error type="Running"']),
+        ("a rest that isn't asked for", ["--step=5000", "idles.elf"], 124, [JUNIT.format(0, 1), '<error type="Running"']),
+        ("an error", ["writes-badly.elf"], 9, [JUNIT.format(1, 0), '<failure type="Addr4"']),
+        ("an error that ends with 0", ["--error-exitcode=0", "writes-badly.elf"], 0, [JUNIT.format(1, 0), '<failure type="Addr4"']),
+        ("a leak that isn't listed", UNLISTED, 9, [JUNIT.format(1, 0), CASE[0].format(9)]),
+        ("a stop", ["illegal.elf"], 132, [JUNIT.format(1, 0), '<failure type="Stop"']),
+        ("an unseen heap", ["--require-heap", "stripped.elf"], 9, [JUNIT.format(0, 1), '<error type="Heap"']),
+        ("nothing wrong", ["says.elf"], 0, [JUNIT.format(0, 0), 'name="no error and no leak"/>'])]),
+    *published("sarif", [
+        ("a failed test", ["fails.elf"], 3,
+         [SARIF.format("false", 3), f'"level": "error", "message": {{"text": "{FAILED}"}}', '"results": []']),
+        ("an error", ["writes-badly.elf"], 9, [SARIF.format("false", 9) + "}", '"ruleId": "Addr4"']),
+        ("a rest that passes", [*IDLE[:1], IDLE[1].format(0), IDLE[2]], 0, [SARIF.format("true", 0) + "}", '"results": []']),
+        ("an unseen heap", ["--require-heap", "stripped.elf"], 9, [SARIF.format("false", 9), "errors of the heap can't be found"])]),
+    *published("github", [("a failed test", ["fails.elf"], 3, [f"::error title={FAILED}::fails.elf: {FAILED}\n"]),
+                          ("a rest that passes", [*IDLE[:1], IDLE[1].format(0), IDLE[2]], 0, [])]),
+    *published("gcc", [("a failed test", ["fails.elf"], 3, [f"fails.elf: error: {FAILED} [Status]\n"]),
+                       ("a rest that passes", [*IDLE[:1], IDLE[1].format(0), IDLE[2]], 0, [])]),
+    *published("json", [("a failed test", ["fails.elf"], 3, ['"ended": true,\n "exit_status": 3,\n']),
+                        ("a rest that passes", [*IDLE[:1], IDLE[1].format(0), IDLE[2]], 0, ['"ended": false,\n "exit_status": 0,\n'])])]
 OPTIONS = [
     Row("without -q: a whole log", ["says.elf"], 0, said=["== replaycheck, Memcheck for RV32IM", "== Command: says.elf", "HEAP SUMMARY",
                                                         "no leaks are possible", "ERROR SUMMARY: 0 errors"]),
@@ -158,4 +194,4 @@ BEFORE = [
         ["replaycheck exec: cannot read none.elf: No such file or directory\n"]),
 ]
 PATHS = [(QUIET, "quiet"), ([*QUIET, "--tool=memcheck"], "by Python")]
-ROWS = [*(row for path in PATHS for row in [*statuses(*path), *regions(*path)]), *OPTIONS, *BEFORE]
+ROWS = [*(row for path in PATHS for row in [*statuses(*path), *regions(*path)]), *OPTIONS, *PUBLISHED, *BEFORE]

@@ -8,6 +8,7 @@ import shutil
 import subprocess
 
 from replaycheck.guest_files import ENTRY, elf
+from rows import without_progress
 from tool_rows import HALF, atomic_file
 
 TOOLS = pathlib.Path(__file__).resolve().parent.parent
@@ -48,7 +49,7 @@ class Tests:
         """What `explore` has for a status, standard output and standard error."""
         done = subprocess.run([*before, EXPLORE, *map(str, words)], input=given, capture_output=True, cwd=self.room,
                               env=self.environment(**more), timeout=MOST_SECONDS)
-        return done.returncode, done.stdout.decode("latin-1"), done.stderr.decode("latin-1")
+        return done.returncode, done.stdout.decode("latin-1"), without_progress(done.stderr.decode("latin-1"))
 
     def not_refused(self, words, text, **more):
         """What is wrong of a command line that should be refused, with this text."""

@@ -10,8 +10,10 @@ import signal
 import subprocess
 import sys
 import time
+from unittest import mock
 
 from explore_room import EXPLORE, MOST_SECONDS, PACKET, TOOLS
+from replaycheck.exploring import progress
 from rows import SIGNALS, default_signals
 
 SIGNALLED = str(TOOLS / "test" / "signalled.py")
@@ -96,8 +98,58 @@ def test_signals(tests):
     tests.check("the first of two goes on until it is ended", child.wait() != -signal.SIGTERM)
 
 
+# The tool that says how far it is after each interval of some seconds.
+HASTY = f"""import runpy, sys
+sys.path.insert(0, {str(TOOLS / "lib")!r})
+from replaycheck.exploring import progress
+progress.INTERVAL = float(sys.argv[1])
+sys.argv = [{EXPLORE!r}, *sys.argv[2:]]
+runpy.run_path({EXPLORE!r}, run_name="__main__")
+"""
+
+
+# When edits come, by seconds and numbers; how many there are, or 0 if that isn't known; and what is said where no terminal is.
+STEADY = [(second, 50) for second in range(1, 31)]
+SAID = [("less than an interval", STEADY[:9], 450, []), ("a short whole", STEADY[:9], 900, []),
+        ("each interval", STEADY, 2000, ["2000 edits: some 40 s in all", *(
+            f"{50 * second} of 2000 edits, 50 a second, {40 - second} s left" for second in (10, 20, 30))]),
+        ("an unknown number", STEADY[:20], 0, ["500 edits, 50 a second", "1000 edits, 50 a second"]),
+        ("the first edits in a burst", [(1, 4), (10, 0), (20, 396)], 10000, [
+            "4 of 10000 edits, 0 a second", "400 of 10000 edits, 20 a second, 480 s left"]),
+        ("no edit for long", [(10, 0), (12, 500), (20, 0)], 1000, [
+            "0 of 1000 edits, 0 a second", "500 of 1000 edits, 25 a second, 20 s left"])]
+
+
+def said_of(events, edits):
+    """What is said of a sweep on its way."""
+    said, clock = [], iter([0, *(second for second, _ in events)])
+    with mock.patch.multiple(progress, put=said.append, sys=mock.Mock(**{"stderr.isatty.return_value": False}),
+                             time=mock.Mock(monotonic=lambda: next(clock))):
+        shown = progress.Progress(edits)
+        for _, number in events:
+            shown.add(number)
+        shown.end()
+    return said
+
+
+def test_lines_of_progress(tests):
+    """Where standard error is no terminal a line comes at each interval, after an estimate if that can be known; and a sweep doesn't fail
+    where the line can't be written."""
+    for label, events, edits, wanted in SAID:
+        found = said_of(events, edits)
+        tests.check(f"lines of progress: {label}", "" if found == [f"replaycheck explore: {it}\n" for it in wanted] else found)
+    words = ["packet.elf", "--input=packet.input", "--jobs=1", "--parts=4", "--step=90", "--values=flips"]
+    whole, slow = tests.run(words), tests.environment(REPLAYCHECK=tests.wrapper("sleep 0.4"))
+    lines = r"(?:replaycheck explore: \d+ of 64 edits, \d+ a second(?:, \d+ s left)?\n)+"
+    for ends, told in (("", lines), ("2>&-", ""), ("2>/dev/full", "")):
+        done = subprocess.run(["bash", "-c", f'exec "$@" {ends}', "bash", sys.executable, "-c", HASTY, "0.3", *words], cwd=tests.room,
+                              capture_output=True, text=True, env=slow)
+        is_well = (done.returncode, done.stdout) == whole[:2] and re.fullmatch(told, done.stderr)
+        tests.check(f"lines of progress, written {ends}", "" if is_well else done)
+
+
 def test_progress(tests):
-    """It is told on a terminal alone, and taken back."""
+    """On a terminal it is said in one line, which is taken back."""
     leader, follower = pty.openpty()
     child = subprocess.Popen([EXPLORE, *PACKET, "--jobs=1", "--parts=4"], cwd=tests.room, stdout=subprocess.PIPE, stderr=follower,
                              env=tests.environment(REPLAYCHECK=tests.wrapper("sleep 0.4")))

@@ -71,6 +71,15 @@ with warnings.catch_warnings(record=True) as met:
 assert [(it.category, str(it.message)) for it in met] == [(ResourceWarning, "unclosed run: <Run of station.elf>")], met
 assert not children
 """
+IN_GLOBALS = """
+import replaycheck
+run = replaycheck.Run("station.elf", input="station.input")
+assert run.report().errors == []
+edits = replaycheck.sweep("station.elf", "station.input", bytes=1)
+next(edits)
+def uses():
+    return run, edits
+"""
 THREADS = """
 import replaycheck, threading
 wanted = {}
@@ -149,6 +158,7 @@ SCRIPTS = [
     ("1,000 runs with 256 files, and 130 that fail, and sweeps", FEW, MANY_RUNS),
     ("no warning, no handler of a signal, no thread, nothing printed", PLAIN, ALL_OF_IT),
     ("a run that isn't closed is reported, and ended", PLAIN, UNCLOSED),
+    ("a run and a sweep that the script's end finds", PLAIN[:1], IN_GLOBALS),
     ("runs and sweeps in threads", PLAIN, THREADS),
     ("a process that was forked", PLAIN, FORKED),
     ("an interrupt in a block", PLAIN, INTERRUPTED),

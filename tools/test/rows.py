@@ -2,6 +2,7 @@
 import re
 import signal
 
+PROGRESS = re.compile(r"^replaycheck explore: .* (?:a second|s left|in all)\n", re.MULTILINE)
 SIGNALS = (signal.SIGINT, signal.SIGTERM, signal.SIGHUP)
 
 
@@ -42,6 +43,11 @@ def in_turn(told, texts):
             return [f"not told in turn: {text!r}, in\n{told}"]
         at += len(text)
     return []
+
+
+def without_progress(said):
+    """What was printed, without the lines on how far a sweep is, which it has on a busy machine."""
+    return PROGRESS.sub("", said)
 
 
 def agrees(expected, printed):

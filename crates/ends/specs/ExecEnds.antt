@@ -2,7 +2,7 @@
 -- timeout(1) has.
 use Rattle.std.specs.Prelude.{ℕ, ◌+◌, ◌%◌, ◌==◌, ◌&&◌, ◌||◌, Bool, true, false, if◌then◌else◌, List, [], ◌++◌, Option}
 use Rattle.std.specs.Prelude.{Some, None}
-use Rattle.std.specs.Prelude.{codes, decimal, nat_lt}
+use Rattle.std.specs.Prelude.{codes, decimal, length, nat_lt}
 use denote.Ref.{Bor}
 use Rattle.guest_elf.specs.declared.fault.ElfFault.TheVariants.{Memory}
 use Rattle.run_values.specs.declared.status.Status.{Status}
@@ -120,15 +120,14 @@ run_lines codes outcome =
 
 -- what is said of a heap whose errors can't be found, or of other functions that may give blocks: their names; or that
 -- there are no names
+abbrev pub heap_words : List ℕ → List ℕ
+heap_words names =
+    if length names == 0
+    then codes ": errors of the heap can't be found: the file has no symbols: strip it with --strip-debug only"
+    else codes ": errors of the heap can't be found in blocks of these (see `replaycheck adopt`, --not-heap): "
+
 abbrev pub heap_line : List ℕ → List ℕ → List ℕ
-heap_line file [] =
-    codes "replaycheck exec: " ++ file
-    ++ line_with
-    (codes ": errors of the heap can't be found: the file has no symbols: strip it with --strip-debug only") []
-heap_line file names =
-    codes "replaycheck exec: " ++ file
-    ++ line_with
-    (codes ": errors of the heap can't be found in blocks of these (see `replaycheck adopt`, --not-heap): ") names
+heap_line file names = codes "replaycheck exec: " ++ file ++ line_with (heap_words names) names
 
 -- the name of the place of a report: the path of a file, or standard error
 abbrev pub place_name : Option (Bor (List ℕ)) → List ℕ

@@ -189,7 +189,7 @@ pub(crate) fn write_line<W: Write>(end: &End, writer: &mut W) -> bool
 {
     match end {
         End::RegionsOverlap { heap, stack } => {
-            send_two(writer, OVERLAP, heap, " --stack-region ", stack.as_bytes())
+            send_two(writer, OVERLAP, heap, " --stack-region ", stack)
         }
         _ => write_one(*end, writer),
     }

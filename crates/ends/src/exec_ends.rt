@@ -2,12 +2,12 @@
 ghost use Rattle.std.specs.Prelude.{◌≡◌, ◌++◌, [], IsTrue, decimal, if◌then◌else◌, nat_lt};
 ghost use Rattle.std.specs.Io.KnownBytes.{Appends};
 ghost use Rattle.ends.specs.Ends.{AppendsFront, line_of, line_with, status_of};
-ghost use Rattle.ends.specs.ExecEnds.{early_status, exec_lines, exec_status, going_lines, heap_line, heap_lines, judged_status, lost_line, place_name, run_lines, run_status, standing_lines, standing_status, stop_status};
+ghost use Rattle.ends.specs.ExecEnds.{early_status, exec_lines, exec_status, going_lines, heap_line, heap_lines, heap_words, judged_status, lost_line, place_name, run_lines, run_status, standing_lines, standing_status, stop_status};
 ghost use Rattle.ends.specs.declared.ends.End.TheVariants.{Image};
 ghost use Rattle.ends.specs.declared.exec_ends.ExecEnd.TheVariants.{Early};
 
 use crate::ends::{End, tell, write_line};
-use crate::lines::{send_line, send_two};
+use crate::lines::{send_line, send_named};
 use guest_elf::ElfFault;
 use itoa::Buffer;
 use run_values::{Status, Stop};
@@ -279,24 +279,24 @@ fn write_lines<W: Write>(end: ExecEnd, writer: &mut W) -> bool
     }
 }
 
+/// Returns what is said of a heap that isn't seen, after the file's name and before the functions'.
+fn heap_words(names: &[u8]) -> &'static str
+    ensures { result.now ≡ heap_words names.now }
+{
+    if names.is_empty() {
+        ": errors of the heap can't be found: the file has no symbols: strip it with --strip-debug only"
+    } else {
+        ": errors of the heap can't be found in blocks of these (see `replaycheck adopt`, --not-heap): "
+    }
+}
+
 /// Writes what is said of a heap that isn't seen. Returns whether all of it was taken.
 fn write_heap<W: Write>(file: &str, names: &[u8], writer: &mut W) -> bool
     ensures line { AppendsFront (W.contents writer.old) (W.contents writer.new) (heap_line file.now names.now) }
     ensures whole { IsTrue result → Appends (W.contents writer.old) (W.contents writer.new) (heap_line file.now names.now) }
 {
-    let word = "replaycheck exec: ";
-    match names {
-        [] => {
-            let rest =
-                ": errors of the heap can't be found: the file has no symbols: strip it with --strip-debug only";
-            send_two(writer, word, file, rest, names)
-        }
-        [_, ..] => {
-            let rest =
-                ": errors of the heap can't be found in blocks of these (see `replaycheck adopt`, --not-heap): ";
-            send_two(writer, word, file, rest, names)
-        }
-    }
+    let words = heap_words(names);
+    send_named(writer, "replaycheck exec: ", file, words, names)
 }
 
 /// Writes what is said of the heap of a run, if something is.

@@ -21,7 +21,7 @@ pub(crate) fn send_line<W: Write>(writer: &mut W, word: &str, rest: &[u8]) -> bo
 }
 
 /// Writes a line of four pieces, and returns whether all of it was taken. Nothing is written after a write that fails.
-pub(crate) fn send_two<W: Write>(
+pub(crate) fn send_named<W: Write>(
     writer: &mut W,
     word: &str,
     first: &str,
@@ -38,4 +38,18 @@ pub(crate) fn send_two<W: Write>(
         return false;
     }
     send_line(writer, gap, second)
+}
+
+/// The same of four texts.
+pub(crate) fn send_two<W: Write>(
+    writer: &mut W,
+    word: &str,
+    first: &str,
+    gap: &str,
+    second: &str,
+) -> bool
+    ensures front { AppendsFront (W.contents writer.old) (W.contents writer.new) (word.now ++ first.now ++ line_with gap.now second.now) }
+    ensures whole { IsTrue result → Appends (W.contents writer.old) (W.contents writer.new) (word.now ++ first.now ++ line_with gap.now second.now) }
+{
+    send_named(writer, word, first, gap, second.as_bytes())
 }

@@ -18,11 +18,12 @@ if TYPE_CHECKING:
     from replaycheck.scripting.inputs import Input
     from replaycheck.scripting.runs import Run
     from replaycheck.scripting.steps import Block, Certificate, Happened, Memory, Registers, Step
-    from replaycheck.scripting.sweeps import Outcome, sweep
+    from replaycheck.scripting.sweeps import Outcome, hinders, sweep
 
 __all__ = [
     "LAST_STEP", "Address", "Block", "Certificate", "Ended", "Error", "Frame", "Happened", "Input", "Leak", "Memory", "Note", "OutOfMemory",
-    "Outcome", "Refused", "Registers", "Report", "ReportedError", "Run", "State", "Step", "Sum", "Unreadable", "Usage", "sweep"]
+    "Outcome", "Refused", "Registers", "Report", "ReportedError", "Run", "State", "Step", "Sum", "Unreadable", "Usage", "hinders",
+    "sweep"]
 # Where each name is: its module is imported when the name is asked for, as the tools need none of these.
 _HOMES = {
     "options": ("LAST_STEP",),
@@ -31,7 +32,7 @@ _HOMES = {
     "scripting.inputs": ("Input",),
     "scripting.runs": ("Run",),
     "scripting.steps": ("Block", "Certificate", "Happened", "Memory", "Registers", "Step"),
-    "scripting.sweeps": ("Outcome", "sweep"),
+    "scripting.sweeps": ("Outcome", "hinders", "sweep"),
 }
 _RENAMED = {"ReportedError": ("reports", "Error")}
 

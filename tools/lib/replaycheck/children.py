@@ -3,6 +3,12 @@ import os
 
 from replaycheck.endings import Fault, children, signal, undisturbed
 
+# Has a command line killed when a process ends, whose number comes first. The second shell sees whether it had ended before that was so.
+TIED = """if setpriv --pdeathsig KILL true 2>/dev/null; then
+  exec setpriv --pdeathsig KILL sh -c '[ "$PPID" = "$0" ] && exec "$@"' "$0" "$@"
+fi
+exec "$@" """
+
 
 class Child:
     """A process that `endings.end_children` can end. What it says on standard error goes to a file, so that it never waits for a reader."""
@@ -15,7 +21,7 @@ class Child:
             os.set_inheritable(number, True)
         actions = [(os.POSIX_SPAWN_DUP2, number, place) for place, number in enumerate(pipes)]
         reset = [signal.SIGPIPE, signal.SIGXFSZ]
-        self.status = None
+        self.status, self.is_killed = None, False
         self.pid = os.posix_spawnp(words[0], words, os.environ, file_actions=actions, setsigdef=reset)
 
     def terminate(self):
@@ -28,7 +34,7 @@ class Child:
         waited for."""
         if self.status is None:
             try:
-                if not options:
+                if not options and not self.is_killed:
                     self.outlast()
                 if os.waitid(os.P_PID, self.pid, os.WEXITED | os.WNOWAIT | options):
                     undisturbed(self.reap)
@@ -55,9 +61,10 @@ class Child:
         self.status = os.waitstatus_to_exitcode(os.waitpid(self.pid, 0)[1])
 
     def kill(self):
-        """Ends it at once, unless it has ended."""
+        """Ends it at once, unless it has ended. To wait for it then needs no other module, which couldn't be imported while Python ends."""
         if self.wait(os.WNOHANG) is None:
             os.kill(self.pid, signal.SIGKILL)
+            self.is_killed = True
 
     def close_input(self):
         """Closes its standard input. What it hasn't read is dropped."""
@@ -78,6 +85,18 @@ class Child:
     def said(self):
         """What it has said on standard error."""
         return os.pread(self.stderr.fileno(), os.fstat(self.stderr.fileno()).st_size, 0)
+
+
+def is_there(name):
+    """Whether there is a program of this name: a path, or a name on the path."""
+    folders = [""] if "/" in name else os.get_exec_path()
+    return any(os.access(os.path.join(folder, name), os.X_OK) for folder in folders)
+
+
+def tied(words):
+    """A command line whose process is killed when this one ends, also by SIGKILL, if there is a setpriv that can do that. Where the program
+    isn't there, it is as it was."""
+    return ["sh", "-c", TIED, str(os.getpid()), *words] if is_there(words[0]) else words
 
 
 def started(words, pipes, lends=(), needs=""):

@@ -11,6 +11,8 @@ from replaycheck.records import Record
 from replaycheck.reports import LEAK_KINDS, Address, Frame, Report
 
 RUNNING = "Running"
+# The statuses with which `exec` ends where a run still runs, and where a write found no room.
+STILL_RUNNING, LOST = 124, 123
 STOPS = {"jump": "a jump to where no memory is", "break": "an EBREAK"}
 RULES = {
     "Addr1": "Invalid read or write of one byte",
@@ -91,13 +93,15 @@ class Finding(Record):
 
 class Shown:
     """A report, the files of its run, and how it is shown: where instructions stand, which leaks count as errors, which heap the file has,
-    if that is known, and whether an unseen heap counts as an error."""
+    if that is known, and whether an unseen heap counts as an error. Of a run by `exec`, `status` is that with which it ends, and
+    `error_exitcode` the one for errors."""
 
     def __init__(self, report: Report, file: str, given: str | None, leaks_that_count, heap=None, needs_heap=False, isa=USUAL,
                  regions=USUAL_REGIONS):
         self.report, self.file, self.given, self.isa, self.regions = report, file, given, isa, regions
         self.leaks_that_count, self.heap, self.needs_heap = leaks_that_count, heap, needs_heap
         self.made, self.places, self.names, self.verdict = {}, None, None, ""
+        self.status, self.error_exitcode = None, 0
 
     def show(self, paths, is_demangled):
         """Finds the places of all addresses, and the names that all functions have in the source. Returns what can't be found, in lines: a
@@ -127,6 +131,15 @@ class Shown:
         """Whether all was checked that was asked for: to the program's end, and with a heap where one is needed."""
         return self.report.state.name != "running" and not (self.needs_heap and self.heap_notice)
 
+    @property
+    def failed_status(self):
+        """The status of a run by `exec`, in words, if it isn't 0 and nothing else says why; otherwise nothing."""
+        state, findings = self.report.state, [it for it in self.findings() if it.counts] if self.status else []
+        is_of_findings = self.status == self.error_exitcode and findings or any(it.rule in ("Stop", RUNNING) for it in findings)
+        if not self.status or is_of_findings or self.needs_heap and self.heap_notice:
+            return ""
+        return f"exit status {self.status}" + (": output was lost" if self.status == LOST and state.status == 0 else "")
+
     def calls(self, trace):
         """The calls of a trace, with inlined ones."""
         return [call for frame in trace for call in self.calls_at(frame.address, frame.name)]
@@ -149,7 +162,7 @@ class Shown:
         state = self.report.state
         if state.name == "stopped":
             yield Finding("Stop", True, stop_text(state, self.isa), 1, self.calls([self.frame_at(state.address)]))
-        if state.name == "running":
+        if state.name == "running" and self.status in (None, STILL_RUNNING):  # at rest it has ended, with any other status
             text = f"still running at step {self.report.step}"
             yield Finding(RUNNING, True, text, 1, self.calls([self.frame_at(state.address)]))
 

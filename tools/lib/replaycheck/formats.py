@@ -103,6 +103,7 @@ def json_text(shown):
         "state": {"name": report.state.name, "why": report.state.why, "address": address_text(report.state.address),
                   "status": report.state.status},
         "ended": report.state.name != "running",
+        **({} if shown.status is None else {"exit_status": shown.status}),
         "read": report.position, "length": report.length, "written": report.written,
         "certify": verdict_object(shown.verdict, trace),
         "heap": shown.heap and {"known": shown.heap.known, "functions": shown.heap.functions},
@@ -189,12 +190,14 @@ def sarif_results(shown, rules):
 
 
 def invocation(shown):
-    """Whether the run was checked to its end, and what a reader has to know of it besides."""
-    made = {"executionSuccessful": shown.was_checked}
-    if shown.heap_notice:
-        level = "error" if shown.needs_heap else "warning"
-        made["toolExecutionNotifications"] = [{"level": level, "message": {"text": printable(shown.heap_notice)}}]
-    return made
+    """Whether the run was checked to its end, and what a reader has to know of it besides. Of a run by `exec`, its status and whether that
+    is 0 (SARIF 2.1.0, section 3.20)."""
+    made = {"executionSuccessful": shown.was_checked if shown.status is None else shown.status == 0}
+    if shown.status is not None:
+        made["exitCode"] = shown.status
+    notices = [("error" if shown.needs_heap else "warning", shown.heap_notice), ("error", shown.failed_status)]
+    told_of = [{"level": level, "message": {"text": printable(text)}} for level, text in notices if text]
+    return {**made, **({"toolExecutionNotifications": told_of} if told_of else {})}
 
 
 def sarif_text(shown):
@@ -318,22 +321,22 @@ def junit_case(suite, number, finding):
     yield "  </testcase>\n"
 
 
-def junit_heap(suite, shown):
-    """A case of its own for a heap that goes unseen where one is needed."""
-    text = xml(shown.heap_notice)
-    return (f'  <testcase classname="{suite}" name="the heap">\n    <error type="Heap" message="{text}">{text}</error>\n'
+def junit_other(suite, name, sort, kind, text):
+    """A case of its own for what is no finding: a heap that goes unseen where one is needed, or a status."""
+    return (f'  <testcase classname="{suite}" name="{name}">\n    <{sort} type="{kind}" message="{xml(text)}">{xml(text)}</{sort}>\n'
             "  </testcase>\n")
 
 
 def junit_text(shown):
     suite, findings = xml(os.path.basename(shown.file)), list(shown.findings())
     cases = [part for number, finding in enumerate(findings, 1) for part in junit_case(suite, number, finding)]
-    no_heap = bool(shown.needs_heap and shown.heap_notice)
-    cases += [junit_heap(suite, shown)] if no_heap else []
+    no_heap, status = bool(shown.needs_heap and shown.heap_notice), shown.failed_status
+    cases += [junit_other(suite, "the heap", "error", "Heap", shown.heap_notice)] if no_heap else []
+    cases += [junit_other(suite, status.partition(":")[0], "failure", "Status", status)] if status else []
     cases = cases or [f'  <testcase classname="{suite}" name="no error and no leak"/>\n']
     errors = sum(finding.rule == RUNNING for finding in findings)
-    failures = sum(finding.counts for finding in findings) - errors
-    tests = len(findings) + no_heap or 1
+    failures = sum(finding.counts for finding in findings) - errors + bool(status)
+    tests = len(findings) + no_heap + bool(status) or 1
     counts = f'tests="{tests}" failures="{failures}" errors="{errors + no_heap}" skipped="0"'
     return "".join(['<?xml version="1.0" encoding="UTF-8"?>\n', f'<testsuite name="{suite}" {counts}>\n', *cases,
                     "</testsuite>\n"])
@@ -363,6 +366,8 @@ def gcc_parts(shown):
             yield gcc_line(shown, finding.lead(), "note", finding.note)
     if shown.needs_heap and shown.heap_notice:
         yield one_line(f"{shown.file}: warning: {shown.heap_notice.partition(': ')[2]} [Heap]") + "\n"
+    if shown.failed_status:
+        yield one_line(f"{shown.file}: error: {shown.failed_status} [Status]") + "\n"
 
 
 def gcc_text(shown):
@@ -385,6 +390,8 @@ def github_parts(shown):
     if shown.heap_notice:
         level = "error" if shown.needs_heap else "warning"
         yield f"::{level} title=The heap goes unseen::{escaped(shown.heap_notice)}\n"
+    if shown.failed_status:
+        yield f"::error title={escaped(shown.failed_status, ':,')}::{escaped(f'{shown.file}: {shown.failed_status}')}\n"
 
 
 def github_text(shown):

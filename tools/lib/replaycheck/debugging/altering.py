@@ -4,6 +4,7 @@ from typing import List
 
 from replaycheck.endings import Fault
 from replaycheck.looking import Seen, TOP
+from replaycheck.scripting.scenarios import number
 from replaycheck.sessions import MARKS
 
 from .registers import CONTROLS, NAMES, PC, SHADOWS, STEP, value_of
@@ -45,6 +46,13 @@ class Alterer:
             else:
                 (listed if word in MARKS else others).append(line)
         return listed, others
+
+    def writes(self):
+        """The alterations that stand and write memory: of each its step and the range of bytes. Bits are inverted in a word."""
+        for line in self.standing()[0]:
+            word, step, place, *more = [*line.split(" "), ""]
+            if word == "write" or word == "flip" and place[0].isdigit():
+                yield number(step), (number(place), number(more[0]) if word == "write" else SIZES[0])
 
     def alter(self, lines):
         """Gives lines that alter the run here: all of them, or none if one is rejected."""

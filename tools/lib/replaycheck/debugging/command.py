@@ -40,8 +40,8 @@ def debug(options):
         return 0
     run = Run(options.file, options.input, options.supp, options.isa, options.regions)
     run.registers()  # what keeps the program from its work is told before gdb is answered
-    goer = Goer(run)
     alterer = Alterer(run)
+    goer = Goer(run, alterer)
     monitor = Monitor(run, goer, alterer)
     connection = Pipes() if options.port is None else Port(options.port)
     Stub(Packets(connection), run, goer, alterer, monitor).serve()

@@ -3,6 +3,7 @@ from dataclasses import dataclass
 
 from replaycheck.looking import REACHES, TOP
 from replaycheck.options import LAST_STEP
+from replaycheck.regions import meets
 
 SOFTWARE, HARDWARE, WRITE, READ, ACCESS = range(5)  # the sorts of points, by their numbers in packets
 KINDS = {SOFTWARE: ("run",), HARDWARE: ("run",), WRITE: ("write",), READ: ("read",), ACCESS: ("write", "read")}
@@ -44,8 +45,8 @@ class Goer:
     """Goes on and back in a run. gdb holds that RISC-V stops before a watched access, and makes that step itself, with the points
     taken out: so the run stops at an access that it is to make, and going back at the step after it."""
 
-    def __init__(self, run):
-        self.run, self.points, self.at_errors = run, [], False
+    def __init__(self, run, alterer):
+        self.run, self.alterer, self.points, self.at_errors = run, alterer, [], False
         self.erring = None  # the step of which it was last told that it makes an error
 
     def add(self, point):
@@ -83,13 +84,21 @@ class Goer:
                 break
         return self.stopped(stop or Stop(0, BEGIN))
 
+    def search(self, way, kind, span, here, edge):
+        """The step that a look finds from one on or before it. What is altered before a step counts as written by the step before that."""
+        found = [self.run.search(way, kind, span, here, edge)]
+        if kind == "write":
+            low, high = (here, edge) if way == "next" else (edge, here)
+            found += [step - 1 for step, written in self.alterer.writes() if low < step <= high and overlap(span, written)]
+        return (min if way == "next" else max)((it for it in found if it is not None), default=None)
+
     def first(self, here, edge, within):
         """The first stop before a step. An error at a stop of another kind is told when it goes on from there: gdb itself has points for
         single steps, and says nothing of those."""
         found = None
         for point in self.points:
             for kind in KINDS[point.sort]:
-                step = self.run.search("next", kind, point.span, here, found.step if found else edge)
+                step = self.search("next", kind, point.span, here, found.step if found else edge)
                 found = found if step is None else Stop(step, point.word)
         for span in outside(within):  # the step itself is made, wherever it is
             step = self.run.search("next", "run", span, here + 1, found.step if found else edge)
@@ -105,7 +114,7 @@ class Goer:
         for point in self.points:
             for kind in KINDS[point.sort]:
                 begin = found.step if found else max(0, edge - point.is_watched)
-                step = self.run.search("last", kind, point.span, here, begin)
+                step = self.search("last", kind, point.span, here, begin)
                 found = found if step is None else Stop(step + point.is_watched, point.word)
         if self.at_errors:
             step = self.run.last_error(found.step if found else edge, here)
@@ -131,7 +140,12 @@ class Goer:
     def accessed_in(self, step):
         """A watched point of which a step makes an access, if there is one."""
         return next((point for point in self.points if point.is_watched and any(
-            self.run.search("next", kind, point.span, step, step + 1) is not None for kind in KINDS[point.sort])), None)
+            self.search("next", kind, point.span, step, step + 1) is not None for kind in KINDS[point.sort])), None)
+
+
+def overlap(one, other):
+    """Whether two ranges, each an address and a length, have a byte in common."""
+    return meets(one[0], sum(one), other[0], sum(other))
 
 
 def outside(within):

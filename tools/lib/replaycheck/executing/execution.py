@@ -2,7 +2,7 @@
 import os
 import sys
 
-from replaycheck.children import outcome, started
+from replaycheck.children import outcome, started, tied
 from replaycheck.endings import Fault, Interrupted, end, write
 from replaycheck.executing.arguments import patches_for
 from replaycheck.executing.choices import FAILED, Choices, choices_of
@@ -78,7 +78,7 @@ def made_run(choices):
         words = words_for(choices, supp, f"/dev/fd/{room}")
     except OSError as fault:
         raise Unreadable(f"cannot read {choices.file}: {fault.strerror}") from None
-    status = started(words, (0, 1, 2), [*lent, room]).wait()
+    status = started(tied(words), (0, 1, 2), [*lent, room]).wait()
     if status < 0:
         raise Interrupted(-status)
     return status, os.pread(room, os.fstat(room).st_size, 0).decode("utf-8", "surrogateescape")
@@ -150,7 +150,7 @@ def executed(choices):
         return status
     report = parsed(told)
     if is_told(choices, report):
-        log.write(log_text(choices, told, report, os.getpid(), heap_of(choices, report)))
+        log.write(log_text(choices, told, report, os.getpid(), heap_of(choices, report), status))
     if choices.verbose:
         say_more(choices, report)
     return status

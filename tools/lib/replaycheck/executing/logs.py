@@ -73,22 +73,24 @@ class Log:
             raise Unwritten(f"cannot write the log: {self.name}: {fault.strerror}") from None
 
 
-def shown_report(choices, report, heap=None):
+def shown_report(choices, report, heap=None, status=None):
     """A report with source lines and readable names, as far as there are tools for them."""
     from replaycheck.findings import Shown
     from replaycheck.places import Paths
     shown = Shown(report, choices.file, choices.input, choices.counted, heap, choices.needs_heap, choices.isa, choices.regions)
+    shown.status, shown.error_exitcode = status, choices.error_exitcode
     paths = Paths(choices.full_paths, choices.strip_prefix, choices.log_format in ("sarif", "github"))
     for missing in shown.show(paths, choices.demangle):
         note(missing)
     return shown
 
 
-def log_text(choices, told, report, process, heap=None):
-    """The log of a run in the chosen format, of the text of its report."""
+def log_text(choices, told, report, process, heap=None, status=None):
+    """The log of a run in the chosen format, of the text of its report. `status` is that with which this process ends, where a format
+    says it."""
     if choices.log_format == "report":
         return told
-    shown = shown_report(choices, report, heap)
+    shown = shown_report(choices, report, heap, status)
     if choices.log_format == "valgrind":
         from replaycheck.executing import valgrind_log
         return valgrind_log.log_text(shown, process, [choices.file, *choices.arguments], choices.quiet)

@@ -20,8 +20,9 @@ from .lines import shown_name
 from .merging import Merged, in_order, sources_in, spooled
 from .outputs import OUTPUTS, Outputs, check_outputs
 from .picture import Picture
+from .progress import Progress
 from .request import Request, models_of, range_of, values_reader, words_of
-from .running import Progress, Runner
+from .running import Runner
 from .steps import MODELS
 from .summary import SourceLines, Summary
 

@@ -21,7 +21,7 @@ from replaycheck.sessions import Session
 
 from .lines import shown_name
 from .merging import Merged
-from .running import Progress
+from .progress import Progress
 
 MOST_LINES = 90000  # of a session, which takes 100,000 and doesn't count looks
 MOST_WAITING = 1000  # lines of a session whose replies are to come

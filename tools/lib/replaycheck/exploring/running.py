@@ -3,8 +3,6 @@ import contextlib
 import os
 import selectors
 import subprocess
-import sys
-import time
 from dataclasses import dataclass, field
 
 from replaycheck.endings import Fault, heed_signal, start
@@ -24,30 +22,6 @@ EDITS = tuple(b"\n" + it for it in tables.EDITS)  # how rows begin
 def edits_in(content):
     """How many rows of edits begin in a text."""
     return sum(map(content.count, EDITS))
-
-
-class Progress:
-    """Says on standard error how far it is, where that is a terminal."""
-
-    def __init__(self, edits, what=""):
-        self.what, self.edits, self.done, self.begun, self.last, self.is_shown = what, edits, 0, time.monotonic(), 0, False
-
-    def add(self, number):
-        self.done += number
-        now = time.monotonic()
-        if now - self.last > 0.2 and now - self.begun > 0.5 and sys.stderr.isatty():
-            self.last, self.is_shown = now, True
-            rate = self.done / (now - self.begun)
-            left = f", {max(0, self.edits - self.done) / rate:.0f} s left" if rate and self.edits else ""
-            edits = f"{self.done} of {self.edits} edits" if self.edits else f"{self.done} edits"
-            sys.stderr.write(f"\r\x1b[Kexplore: {self.what}{edits}, {rate:.0f} a second{left}")
-            sys.stderr.flush()
-
-    def end(self):
-        if self.is_shown:
-            sys.stderr.write("\r\x1b[K")
-            sys.stderr.flush()
-            self.is_shown = False
 
 
 @dataclass
@@ -90,6 +64,7 @@ class Runner:
         try:
             while waiting or self.running:
                 heed_signal()
+                progress.add(0)
                 while waiting and len(self.running) < self.jobs:
                     self.begin(waiting.pop())
                 for job in self.read(progress):

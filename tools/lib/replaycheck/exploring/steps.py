@@ -1,8 +1,10 @@
 """Steps at which the machine is altered: the fault models, and the edits of each step in the order of a table."""
 import re
 from dataclasses import dataclass
-from itertools import takewhile
+from itertools import chain, takewhile
 from typing import Iterator, List, Optional, Tuple
+
+from replaycheck.hindering import hinders
 
 from .ranges import WORD, Places
 
@@ -19,7 +21,6 @@ MODELS = {
 }
 # How many edits a place has; of bytes of memory as many as the run reads later. An instruction of 16 bits has as many of `words` as bits.
 SIZES = {"skip": 1, "registers": LAST_REGISTER * BITS, "pc": BITS, "words": BITS, "zero": LAST_REGISTER, "ones": LAST_REGISTER}
-SETTING = {"zero", "ones"}  # the models that make bits defined
 REGISTERS = [f"x{number}" for number in range(1, LAST_REGISTER + 1)]
 MASKS = [f"0x{1 << bit:08x}" for bit in range(BITS)]
 TURNED = re.compile(r"flip [0-9]+ (0x[0-9a-f]{8}) [^ ]+; ")  # an instruction of the program, for one step
@@ -53,10 +54,11 @@ class Steps(Places):
     def has_memory(self):
         return "memory" in self.models
 
-    @property
-    def sets(self):
-        """Whether registers are set, which makes their bits defined."""
-        return bool(SETTING & set(self.models))
+    def hinders(self, isa: str, heap: int) -> bool:
+        """Whether one of its edits is in the way of a clean run's guarantee. At each step a model has edits of the same form."""
+        edits = chain(self.singles(self.first, "0x00000000", BITS), byte_edits(self.first, 0) if self.has_memory else (),
+                      [f"skip {self.first}; skip {self.last}"] if self.has_pairs else ())
+        return any(hinders(it, isa, heap) for it in edits)
 
     @property
     def start(self):

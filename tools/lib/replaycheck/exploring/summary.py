@@ -112,13 +112,13 @@ class Summary:
 
     def clean_lines(self):
         """How many runs have no error: with no suppressions an outline lists each, so these are runs without a use of undefined or
-        inaccessible memory. Nothing is said of what memory holds where registers are set, as this makes bits defined."""
-        edits = sum(self.merged.tallies[it.number] for it in self.outcomes if not it.has_errors)
-        if edits and not self.merged.head.files[SUPPRESSIONS][0]:
+        inaccessible memory. What that means for them is said unless an edit of the sweep is in the way of it."""
+        edits, head = sum(self.merged.tallies[it.number] for it in self.outcomes if not it.has_errors), self.merged.head
+        if edits and not head.files[SUPPRESSIONS][0]:
             too = "" if self.unedited.has_errors else " and the unedited run"
-            says = "" if any(it.kind == "steps" and it.sets for it in self.merged.head.ranges) else (
-                ": nothing that uninitialised, freed or unmapped memory holds can change these runs up to step "
-                f"{self.merged.head.step}")
+            is_hindered = any(it.kind == "steps" and it.hinders(head.isa, head.regions.heap) for it in head.ranges)
+            says = "" if is_hindered else (
+                f": nothing that uninitialised, freed or unmapped memory holds can change these runs up to step {head.step}")
             yield f"no error by {counted(edits, 'edit')}{too}{says}"
 
     # ---- outcomes

@@ -4,6 +4,7 @@ from __future__ import annotations
 from contextlib import ExitStack, closing
 from typing import Dict, Iterable, Iterator, List, Optional, Tuple, Union
 
+from replaycheck import hindering
 from replaycheck.adopting.elf import refusals
 from replaycheck.children import Child, piped
 from replaycheck.endings import Fault
@@ -16,7 +17,8 @@ from replaycheck.refusals import Ended
 from replaycheck.regions import USUAL_REGIONS, Regions
 from replaycheck.scripting.errors import Error, Usage, of_end
 from replaycheck.scripting.files import Room, Source, name_of, read
-from replaycheck.scripting.regions import regions_for
+from replaycheck.scripting.regions import check_heap, regions_for
+from replaycheck.scripting.scenarios import EDITS
 from replaycheck.scripting.symbols import Symbols
 
 # Places: a text `A..B` or `A`, a number, or a range. Values: one of the words that `replaycheck sweep` knows, or numbers.
@@ -73,6 +75,22 @@ def sweep(program: Source, input: Optional[Source] = None, suppressions: Optiona
     options += [*isa_words(isa), *regions.words, f"--step={step}", *(["--with-output"] if with_output else [])]
     names |= {"bytes": f"bytes {given['bytes']}", "words": f"words {given['words']}"}
     yield from rows_of(data, options, names)
+
+
+def hinders(line: str, *, isa: str = ISAS[0], heap_region: int = USUAL_REGIONS.heap) -> bool:
+    """Returns whether an edit is in the way of a clean run's guarantee, by which nothing that uninitialised, freed or unmapped memory holds
+    can change the run. `line` is as `sweep` yields it; `isa` and `heap_region` are as of a `Run`.
+
+    # Errors
+
+    `Usage` for a text that is no edit, an unknown instruction set, and an address at which no heap is."""
+    check_heap(isa, heap_region)
+    try:
+        if all(it.split(" ")[0] in EDITS for it in line.split("; ")):
+            return hindering.hinders(line, isa, heap_region)
+    except (ValueError, IndexError):
+        pass
+    raise Usage(f"no edit: {line!r}")
 
 
 def places_of(places: Optional[Places]) -> Optional[str]:
