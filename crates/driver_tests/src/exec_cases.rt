@@ -1,4 +1,6 @@
 //! What `exec` writes, and how it ends.
+ghost use Rattle.std.specs.Prelude.{◌≡◌, IfOk, option_map, string_bytes};
+
 use crate::shelf::Shelf;
 use crate::words::{COPIES, USUAL_PROFILE, WRITES};
 use command_line::{ExecWords, Order, ProfileWords, Task};
@@ -10,11 +12,13 @@ use std::alloc::{AllocError, Global};
 use std::io;
 use std::io::Write;
 
-/// A file for a report, which can be opened or not.
+/// A place for a report, which can be opened or not, and which one is open.
 #[derive(Drop)]
 struct Paper {
     room: Room,
     opens: bool,
+    opened: Option<Option<String>>,
+    alloc: Global,
 }
 
 impl Write for Paper {
@@ -27,9 +31,30 @@ impl Write for Paper {
     }
 }
 
+/// Returns a place, which may be a path, as a text of its own.
+fn owned(alloc: Global, path: Option<&str>) -> Result<Option<String>, AllocError>
+    ensures { IfOk result (λ place. option_map string_bytes place ≡ option_map (λ path. path.now) path.entry) }
+{
+    match path {
+        Some(path) => Ok(Some(String::from_str(alloc, path)?)),
+        None => Ok(None),
+    }
+}
+
 impl Log for Paper {
-    fn open(&mut self, _path: Option<&str>) -> bool {
-        self.opens
+    ghost place = { λ paper. option_map (option_map string_bytes) paper.opened };
+
+    fn open(&mut self, path: Option<&str>) -> bool {
+        if !self.opens {
+            return false;
+        }
+        match owned(self.alloc, path) {
+            Ok(place) => {
+                self.opened = Some(place);
+                true
+            }
+            Err(_) => false,
+        }
     }
 }
 
@@ -57,6 +82,9 @@ const PLAIN: ExecWords<'static> = ExecWords {
     show: "definite,possible",
     count: "definite,possible",
     quiet: true,
+    require_heap: false,
+    no_require_heap: true,
+    not_heap: None,
 };
 
 /// What there is room for: the bytes of output and of a report that are taken, and whether the report's file can be opened.
@@ -101,6 +129,16 @@ const QUIET: Case = Case {
     report: b"",
 };
 
+/// Whether the place that is open is the one that a case asks for; none is where it can't be opened.
+fn is_place(opened: &Option<Option<String>>, case: &Case) -> bool {
+    match (opened, case.asked.report) {
+        (Some(Some(path)), Some(asked)) => path.as_str() == asked,
+        (Some(None), None) => true,
+        (None, _) => !case.rooms.opens,
+        _ => false,
+    }
+}
+
 /// Whether a case of a file comes out so.
 fn comes_out(alloc: Global, file: &[u8], case: &Case) -> bool {
     let order = Order {
@@ -119,8 +157,10 @@ fn comes_out(alloc: Global, file: &[u8], case: &Case) -> bool {
     let mut log = Paper {
         room: Room::new(alloc, case.rooms.report),
         opens: case.rooms.opens,
+        opened: None,
+        alloc,
     };
-    let end = exec_order(
+    let done = exec_order(
         alloc,
         &order,
         &case.asked,
@@ -129,8 +169,9 @@ fn comes_out(alloc: Global, file: &[u8], case: &Case) -> bool {
         &mut writer,
         &mut log,
     );
-    let status = tell_exec(end, &mut Room::new(alloc, 1 << 20));
-    status == case.status
+    let status = tell_exec(&done, &mut Room::new(alloc, 1 << 20));
+    is_place(&log.opened, case)
+        && status == case.status
         && writer.taken.as_slice() == case.output
         && log.room.taken.starts_with(case.report)
         && log.room.taken.is_empty() == case.report.is_empty()
@@ -142,7 +183,7 @@ fn is_executed(alloc: Global, case: &Case) -> Result<bool, AllocError> {
     Ok(comes_out(alloc, &file, case))
 }
 
-const RUNS: [Case; 10] = [
+const RUNS: [Case; 12] = [
     Case {
         label: "output and status",
         status: 7,
@@ -221,6 +262,29 @@ const RUNS: [Case; 10] = [
         },
         status: 125,
         output: b"ok",
+        ..QUIET
+    },
+    Case {
+        label: "a report in a file",
+        asked: ExecWords {
+            report: Some("log"),
+            quiet: false,
+            ..PLAIN
+        },
+        status: 7,
+        output: b"ok!\n",
+        report: b"step 1000\nstate exited 7\n",
+        ..QUIET
+    },
+    Case {
+        label: "a file without symbols, of which it is asked for that errors of its heap can be found",
+        asked: ExecWords {
+            error_exitcode: Some(99),
+            no_require_heap: false,
+            ..PLAIN
+        },
+        status: 99,
+        output: b"ok!\n",
         ..QUIET
     },
     Case {

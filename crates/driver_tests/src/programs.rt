@@ -1,6 +1,6 @@
 //! Runs whose output is written as it is made, and how such a run ends.
 use crate::words::{COPIES, WRITES};
-use ends::{Codes, End, ExecEnd, Outcome, tell_exec};
+use ends::{Codes, End, ExecDone, ExecEnd, Outcome, tell_exec};
 use executions::{Execution, ExecutionFault};
 use fake_streams::Room;
 use guest_elf::read;
@@ -115,6 +115,8 @@ const PLAIN: Outcome = Outcome {
     idles: false,
     has_errors: false,
     lost: 0,
+    heap_fails: false,
+    heap_told: false,
 };
 
 /// The exit statuses that a user chose.
@@ -123,8 +125,14 @@ const CHOSEN: Codes = Codes {
     idle: Some(3),
 };
 
+/// None.
+const NO_CODES: Codes = Codes {
+    errors: None,
+    idle: None,
+};
+
 /// An end, its exit status, and what is said of it.
-const ENDS: [(ExecEnd<'static>, u8, &'static [u8]); 9] = [
+const ENDS: [(ExecEnd<'static>, u8, &'static [u8]); 13] = [
     (ExecEnd::Ran(CHOSEN, PLAIN), 0, b""),
     (
         ExecEnd::Ran(
@@ -172,6 +180,55 @@ const ENDS: [(ExecEnd<'static>, u8, &'static [u8]); 9] = [
         b"",
     ),
     (
+        ExecEnd::Ran(
+            CHOSEN,
+            Outcome {
+                status: Status::Running,
+                idles: true,
+                has_errors: true,
+                ..PLAIN
+            },
+        ),
+        99,
+        b"",
+    ),
+    (
+        ExecEnd::Ran(
+            CHOSEN,
+            Outcome {
+                heap_fails: true,
+                heap_told: true,
+                ..PLAIN
+            },
+        ),
+        99,
+        b"replaycheck exec: a.elf: errors of the heap can't be found in blocks of these (see `replaycheck adopt`, --not-heap): k_malloc\n",
+    ),
+    (
+        ExecEnd::Ran(
+            NO_CODES,
+            Outcome {
+                heap_fails: true,
+                ..PLAIN
+            },
+        ),
+        126,
+        b"",
+    ),
+    (
+        ExecEnd::Ran(
+            NO_CODES,
+            Outcome {
+                status: Status::Running,
+                idles: true,
+                has_errors: true,
+                ..PLAIN
+            },
+        ),
+        124,
+        b"replaycheck exec: in a jump to itself (--idle-exitcode=0 passes that, as a failed assert that loops) at step 9\n",
+    ),
+    (
         ExecEnd::Ran(CHOSEN, Outcome { lost: 2, ..PLAIN }),
         123,
         b"replaycheck exec: 65536 bytes of output are all there is room for; writes refused: 2\n",
@@ -193,11 +250,21 @@ const ENDS: [(ExecEnd<'static>, u8, &'static [u8]); 9] = [
     ),
 ];
 
+/// Returns the status of an end of a program with an allocator of its own, after what is said of it is written.
+fn is_told(alloc: Global, end: ExecEnd<'_>, writer: &mut Room) -> u8 {
+    let mut names = Vec::new(alloc);
+    if names.extend_from_slice(b"k_malloc").is_err() {
+        return 0;
+    }
+    let file = "a.elf";
+    tell_exec(&ExecDone { end, file, names }, writer)
+}
+
 #[test]
 fn ends_of_executions_are_told(rt: HostRuntime) {
     for (i, (end, status, line)) in ENDS.iter().enumerate() {
         let mut writer = Room::new(rt.alloc(), 1000);
-        let told = tell_exec(*end, &mut writer);
+        let told = is_told(rt.alloc(), *end, &mut writer);
         assert!(rt;
             told == *status && writer.taken.as_slice() == *line,
             "end {i}"

@@ -29,7 +29,7 @@ use Rattle.suppressions.specs.Rules.{Rule}
 use Rattle.exec_orders.specs.Executed.{Executed, IsChoice, IsUntouched, Opening, Pipes, WithImage}
 use Rattle.exec_orders.specs.Executed.{names_in, pipes, plan_for, waits_for}
 use Rattle.exec_orders.specs.declared.executing.Plan.{Plan}
-use Rattle.file_heaps.specs.FileHeaps.{known_of, unknown_names}
+use Rattle.file_heaps.specs.FileHeaps.{known_of}
 use Rattle.file_heaps.specs.declared.heap.Known.{Known}
 use Rattle.guest_elf.specs.Defined.{SymbolContent, defined_in}
 use Rattle.exec_orders.specs.declared.executing.Choices.{Choices}
@@ -207,11 +207,10 @@ pub with-program : (gives : Giving) (opens : Opening) (order : Order) (asked : E
     (end : ExecEnd) (names : List ℕ)
     → IsChoice asked show choices → IsProfileNamed order.profile profile
     → IsFront gives order.file.now most_judged front → bytes ≡ front → IsImageFor profile bytes image
-    → names ≡ unknown_names (defined_in front) (names_in asked.not_heap)
-    → WithImage gives opens order asked show (plan_for order asked choices.count (defined_in front)) image old new end
+    → WithImage gives opens order asked show choices.count image (defined_in front) old new end names
     → Executed gives opens order asked old new end names
 with-program gives opens order asked show choices profile front bytes image old new end names choice named read same
-    is told h =
+    is h =
     inr (
       show,
       choices.count,
@@ -221,7 +220,6 @@ with-program gives opens order asked show choices profile front bytes image old 
         image,
         defined_in front,
         (profile, front, named, read, subst (λ (xs : List ℕ). IsImageFor profile xs image) same is, refl),
-        told,
         h,
       )),
     )

@@ -270,17 +270,19 @@ HasProgram gives words path image symbols =
 -- with a program: the other files are read, and the edits made; the names are those of functions whose blocks aren't
 -- known
 abbrev pub WithImage :
-    Giving → Opening → Order → ExecWords → LeakKinds → Plan → Image → Pipes → Pipes → ExecEnd → Type 0
-WithImage gives opens order asked show plan image old new end =
+    Giving → Opening → Order → ExecWords → LeakKinds → LeakKinds → Image → List SymbolContent → Pipes → Pipes → ExecEnd
+    → List ℕ → Type 0
+WithImage gives opens order asked show count image symbols old new end names =
     (MakesNone gives order asked show image end × IsUntouched old new)
-    ⊎ ((sc : Scenario) × Makes gives order asked show image sc × WithScenario opens plan sc old new end)
+    ⊎ ((sc : Scenario) × Makes gives order asked show image sc
+    × (names ≡ unknown_names symbols (names_in asked.not_heap))
+    × WithScenario opens (plan_for order asked count symbols) sc old new end)
 
 abbrev pub WithProgram :
     Giving → Opening → Order → ExecWords → LeakKinds → LeakKinds → Pipes → Pipes → ExecEnd → List ℕ → Type 0
 WithProgram gives opens order asked show count old new end names =
     (image : Image) × (symbols : List SymbolContent) × HasProgram gives order.profile order.file.now image symbols
-    × (names ≡ unknown_names symbols (names_in asked.not_heap))
-    × WithImage gives opens order asked show (plan_for order asked count symbols) image old new end
+    × WithImage gives opens order asked show count image symbols old new end names
 
 -- with options that are none that end it: the program's file is read for the instruction set that the order names
 abbrev pub WithKinds :

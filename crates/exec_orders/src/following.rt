@@ -132,8 +132,9 @@ fn follow<'a, F: Files, R: Read, W: Write, L: Log>(
         return Err(ExecEnd::Early(End::NoMemory));
     };
     let mut scenario = prepare(alloc, image, order, asked, show, files)?;
+    let waits = order.input.is_none();
     let plan = Plan {
-        waits: order.input.is_none(),
+        waits,
         codes: choices.codes,
         count: choices.count,
         quiet: choices.quiet,

@@ -2,11 +2,6 @@
 //! outside (`tools/test/test-guests`).
 use crate::trials::{COUNT, NO_STREAMS, Row, Trial, are_hooks, assert_so, assert_so_for, is_count};
 use guest_elf::Isa;
-use guest_machine::laws::{
-    alters_as_marked, end_stays, fetches_codes, goes_by_fours, keeps_end, keeps_heap, keeps_input,
-    keeps_isa, keeps_pokes, keeps_words, lacks_atomics, lacks_extensions, reads_on, runs_as_marked,
-    stays_halted,
-};
 use guest_machine::{Input, Status, Stop};
 use instructions::{Code, row_of_code};
 use std::alloc::{AllocError, Global};
@@ -277,25 +272,6 @@ fn machines_rest_and_are_copied(rt: HostRuntime) {
 #[test]
 fn functions_are_known_by_address(rt: HostRuntime) {
     assert!(rt; matches!(are_hooks(rt.alloc()), Ok(true)));
-}
-
-#[test]
-fn the_laws_can_be_called() {
-    keeps_words();
-    keeps_input();
-    keeps_heap();
-    keeps_pokes();
-    reads_on();
-    keeps_end();
-    end_stays();
-    stays_halted();
-    keeps_isa();
-    goes_by_fours();
-    lacks_atomics();
-    lacks_extensions();
-    fetches_codes();
-    alters_as_marked();
-    runs_as_marked();
 }
 
 /// Returns whether an input of three bytes has one byte left after its last two were removed.

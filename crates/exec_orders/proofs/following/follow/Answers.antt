@@ -87,7 +87,40 @@ returns-in_default-clause-err g c = λ names. inr (
 )
 
 pub returns-in_err-scenario-clause-err : goal.returns-in_err-scenario-clause-err
-returns-in_err-scenario-clause-err g c = ?
+returns-in_err-scenario-clause-err g c =
+    same-error c.from_residual-in_err-scenario.result c.in_err-scenario.field-0.0 _
+    c.from_residual-in_err-scenario.ensures.1
+    (λ names. with-program (g.F.Files.gives c.args.files.now) _ c.args.order.now c.args.asked.now c.in_ok-show.show
+    c.in_ok-show.choices c.in_ok-profile.profile c.in_ok-file.file.items c.deref.result.now c.in_ok-image.image _ _
+    c.in_err-scenario.field-0.0 names c.in_ok-show.ensures.ok c.in_ok-profile.ensures.ok c.in_ok-file.ensures.ok
+    c.deref.ensures.value c.in_ok-image.ensures.image
+    (inl (
+      c.in_err-scenario.ensures.err,
+      untouched (g.R.Read.remaining c.args.reader.now) (g.W.Write.contents c.args.writer.now)
+          (g.L.Write.contents c.args.log.now) (g.L.Log.place c.args.log.now) c.requires,
+    )))
 
 pub returns-clause-ok : goal.returns-clause-ok
-returns-clause-ok g c = ?
+returns-clause-ok g c =
+    let symbols = defined_in c.in_ok-file.file.items in
+    let except = names_in c.args.asked.now.not_heap in
+    let read : c.deref-2.result.now ≡ c.in_ok-file.file.items = c.deref-2.ensures.value in
+    let known : c.in-Ok.heap.known ≡ known_of symbols except = c.in-Ok.ensures.known
+    ∙ ap (λ bytes. known_of (defined_in bytes) c.names_in.result.now) read ∙ ap (known_of symbols) c.names_in.ensures in
+    let names : c.in-Ok.heap.names.items ≡ unknown_names symbols except = c.in-Ok.ensures.names
+    ∙ ap (λ bytes. unknown_names (defined_in bytes) c.names_in.result.now) read
+    ∙ ap (unknown_names symbols) c.names_in.ensures in
+    with-program (g.F.Files.gives c.args.files.now) _ c.args.order.now c.args.asked.now c.in_ok-show.show
+    c.in_ok-show.choices c.in_ok-profile.profile c.in_ok-file.file.items c.deref.result.now c.in_ok-image.image _ _
+    c.open_and_execute-end.result _ c.in_ok-show.ensures.ok c.in_ok-profile.ensures.ok c.in_ok-file.ensures.ok
+    c.deref.ensures.value c.in_ok-image.ensures.image
+    (inr (
+      c.in_ok-scenario.scenario,
+      c.in_ok-scenario.ensures.ok,
+      names,
+      subst (λ (plan : Plan). WithScenario _ plan c.in_ok-scenario.scenario _ _ c.open_and_execute-end.result)
+          (plan-is c.args.order.now c.args.asked.now c.in_ok-show.show c.in_ok-show.choices c.is_none-waits.result
+          c.in-Ok.heap.known symbols c.in_ok-show.ensures.ok
+          (waits-same c.is_none-waits.result c.args.order.now.input c.is_none-waits.ensures) known)
+          c.open_and_execute-end.ensures,
+    ))
