@@ -34,6 +34,7 @@ SOURCES = {
     "rests": f"{SAY} csrr a0, mcycle; again: j again",
     "hangs": f"{SAY} again: nop; j again",
     "idles": f"{SAY} again: j again",
+    "rests-badly": f"{SAY} sw zero, 0(zero); again: j again",
     "loud": f"li s0, 17; again: li a7, 64; li a0, 1; li a1, {DATA}; li a2, 2048; li a3, 2048; add a2, a2, a3; ecall; addi s0, s0, -1; "
             f"bne s0, zero, again; {END}",
     "counts": f"li a1, {ROOM[1]}; lw a0, 0(a1); li a7, 93; ecall",
@@ -42,6 +43,19 @@ SOURCES = {
 # Those that take arguments, and what the function is called in which a program begins.
 WITH_ROOM = ("counts", "first")
 NAMES = {"mangled": "_ZN5gauge4markEv"}
+# Functions beside that one, of programs that say something, by their files: at which word each is.
+FUNCTIONS = {
+    "zephyr": {"k_malloc": 1}, "both": {"malloc": 1, "pvPortMalloc": 2}, "pool": {"pool_alloc": 1}, "pool-beside": {"malloc": 1, "pool_Allocate": 2},
+    "mapped": {"k_malloc": 1, "malloc": 1}, "marked": {"k_malloc": 1, "__replaycheck_mapped": 1, "malloc": 2},
+    "reserved": {"_alloc_pages": 1, "is_free": 2}, "newlib": {"malloc": 1, "_malloc_r": 2}, "bare-newlib": {"_malloc_r": 1},
+    "rust": {"_RNvCseulmdZsCeCG_7___rustc12___rust_alloc": 1},
+    "five": {f"take_{it}_alloc": it for it in range(1, 6)},
+}
+# Functions that give blocks of a heap of their own: a file that has one fails, whatever else it has.
+ALLOCATORS = (
+    "pvPortMalloc pvPortCalloc k_malloc k_calloc k_aligned_alloc k_heap_alloc k_heap_aligned_alloc rt_malloc rt_calloc rt_memheap_alloc "
+    "rt_mp_alloc sys_heap_alloc os_memblock_get chHeapAlloc chHeapAllocAligned chPoolAlloc OSMemGet tx_byte_allocate tx_block_allocate "
+    "osMemoryPoolAlloc heap_caps_malloc tlsf_malloc tlsf_memalign umm_malloc umm_calloc umm_multi_malloc o1heapAllocate").split()
 
 
 def put_guests(folder: pathlib.Path) -> None:
@@ -52,6 +66,16 @@ def put_guests(folder: pathlib.Path) -> None:
         symbols = [(NAMES.get(name, "start"), ENTRY, 0x100 if name in NAMES else 4), *([ROOM] if name in WITH_ROOM else [])]
         (folder / f"{name}.elf").write_bytes(elf(words, memory=0x2000, symbols=symbols, data=b"hi\n"))
     (folder / "placed.elf").write_bytes(placed_file())
+    for name, functions in (*FUNCTIONS.items(), *((f"with-{it}", {"malloc": 1, it: 2}) for it in ALLOCATORS)):
+        put_saying(folder / f"{name}.elf", [("start", ENTRY, 4), *((it, ENTRY + 4 * at, 4) for it, at in functions.items())])
+    put_saying(folder / "stripped.elf", [])
+    compressed = bytearray((folder / "half.elf").read_bytes())
+    compressed[36] |= 1
+    (folder / "compressed.elf").write_bytes(compressed + b"riscv\0rv32i2p1_m2p0_a2p1_c2p0\0")
+
+
+def put_saying(path: pathlib.Path, symbols: list[tuple[str, int, int]]) -> None:
+    """Writes a program that says something, and has these functions."""
     words = assemble(SOURCES["says"])
     words += [0x13] * ((DATA - ENTRY) // 4 - len(words))
-    (folder / "stripped.elf").write_bytes(elf(words, data=b"hi\n"))
+    path.write_bytes(elf(words, symbols=symbols, data=b"hi\n"))

@@ -45,17 +45,52 @@ def statuses(first: list[str], kind: str) -> list[Row]:
         Row(f"{kind}: a null call", [*first, "null.elf"], 139, said=["Jump to the invalid address", "of signal 11 (SIGSEGV)"]),
         Row(f"{kind}: it hangs", [*first, "--step=5000", "hangs.elf"], 124, said=["still running at step 5000\n"]),
         Row(f"{kind}: it idles", [*first, "--step=5000", "idles.elf"], 124,
-            said=["replaycheck exec: in a jump to itself (--idle-exitcode=0 lets that pass) at step 5000\n"]),
+            said=["replaycheck exec: in a jump to itself (--idle-exitcode=0 passes that, as a failed assert that loops) at step 5000\n"]),
+        Row(f"{kind}: it idles after an error", [*first, "--step=5000", "rests-badly.elf"], 9, said=["Invalid write of size 4"]),
+        Row(f"{kind}: it may idle, and has an error", [*first, "--idle-exitcode=0", "rests-badly.elf"], 9, said=["Invalid write of size 4"]),
         Row(f"{kind}: it may idle", [*first, "--idle-exitcode=0", "idles.elf"], 0),
         Row(f"{kind}: input", [*first, "reads.elf"], 0, "abc", given=b"abc"),
         Row(f"{kind}: input by --input", [*first, "--input", "hi.txt", "says-and-reads.elf"], 0, "hi\nhi\n"),
         Row(f"{kind}: too much output", [*first, "loud.elf"], 123, ("hi\n" + "\0" * 4093) * 16, ["writes refused: 1\n"]),
-        Row(f"{kind}: no such file", [*first, "none.elf"], 127, "", ["cannot read none.elf\n"]),
-        Row(f"{kind}: no program", [*first, "hi.txt"], 126, "", ["image refused 20\n"]),
+        Row(f"{kind}: no such file", [*first, "none.elf"], 127, "",
+            ["cannot read none.elf\n", "replaycheck exec: none.elf: No such file or directory\n"]),
+        Row(f"{kind}: no program", [*first, "hi.txt"], 126, "", ["image refused 20\n", "replaycheck exec: hi.txt: no ELF file\n"]),
+        Row(f"{kind}: a name that isn't UTF-8", [*first, "\udcff.elf"], 125, "", ["replaycheck exec: not UTF-8: "]),
+        Row(f"{kind}: an option that isn't UTF-8", [*first, "--input", "\udcff", "says.elf"], 125, "", ["replaycheck exec: not UTF-8: "]),
+        Row(f"{kind}: instructions of 16 bits, and no --isa", [*first, "compressed.elf"], 135,
+            said=["of signal 7 (SIGBUS)", "==  The file has instructions of 16 bits: --isa rv32imac reads it for them\n"]),
         Row(f"{kind}: suppressions", [*first, "--supp", "known.supp", "writes-badly.elf"], 0),
         Row(f"{kind}: bad suppressions", [*first, "--supp", "hi.txt", "says.elf"], 126, "", ["suppressions refused 13 at line 1\n"]),
         Row(f"{kind}: a patch", [*first, "--patch", "0x00010400=0x0a6f6821", "says.elf"], 0, "!ho"),
         Row(f"{kind}: a bad patch", [*first, "--patch=0x1=2", "says.elf"], 126, "", ["patch refused 4: 0x1=2\n"]),
+    ]
+
+
+UNSEEN = "errors of the heap can't be found"
+UNMAPPED = f"{UNSEEN} in blocks of these (see `replaycheck adopt`, --not-heap): "
+
+
+def heaps(first: list[str], kind: str) -> list[Row]:
+    """Heaps that are seen and that aren't, by both paths."""
+    def unseen(name: str, functions: str) -> list[str]:
+        return [f"replaycheck exec: {name}: {UNMAPPED}{functions}\n"]
+    return [
+        Row(f"{kind}: a file without symbols", [*first, "stripped.elf"], 9, said=[f"replaycheck exec: stripped.elf: {UNSEEN}: the file has no"]),
+        Row(f"{kind}: --no-require-heap", [*first, "--no-require-heap", "stripped.elf"], 0),
+        Row(f"{kind}: a heap of another name", [*first, "zephyr.elf"], 9, said=unseen("zephyr.elf", "k_malloc")),
+        Row(f"{kind}: --not-heap", [*first, "--not-heap=none,k_malloc", "zephyr.elf"], 0),
+        Row(f"{kind}: another one is none", [*first, "--not-heap=k_mallo,k_malloc_", "zephyr.elf"], 9, said=unseen("zephyr.elf", "k_malloc")),
+        Row(f"{kind}: such a heap beside malloc", [*first, "both.elf"], 9, said=unseen("both.elf", "pvPortMalloc")),
+        Row(f"{kind}: a name that speaks of blocks", [*first, "pool.elf"], 9, said=unseen("pool.elf", "pool_alloc")),
+        Row(f"{kind}: one beside malloc", [*first, "pool-beside.elf"], 0),
+        Row(f"{kind}: a heap that is mapped", [*first, "mapped.elf"], 0),
+        Row(f"{kind}: one that is marked as mapped", [*first, "marked.elf"], 0),
+        Row(f"{kind}: reserved names, and a word", [*first, "reserved.elf"], 0),
+        Row(f"{kind}: the C library's own part beside malloc", [*first, "newlib.elf"], 0),
+        Row(f"{kind}: the C library's own part", [*first, "bare-newlib.elf"], 9, said=unseen("bare-newlib.elf", "_malloc_r")),
+        Row(f"{kind}: Rust's own heap", [*first, "rust.elf"], 9, said=["__rust_alloc"]),
+        Row(f"{kind}: five functions", [*first, "five.elf"], 9,
+            said=unseen("five.elf", "take_1_alloc, take_2_alloc, take_3_alloc, take_4_alloc, ..")),
     ]
 
 
@@ -108,8 +143,8 @@ PUBLISHED = [
     *published("json", [("a failed test", ["fails.elf"], 3, ['"ended": true,\n "exit_status": 3,\n']),
                         ("a rest that passes", [*IDLE[:1], IDLE[1].format(0), IDLE[2]], 0, ['"ended": false,\n "exit_status": 0,\n'])])]
 OPTIONS = [
-    Row("without -q: a whole log", ["says.elf"], 0, said=["== replaycheck, Memcheck for RV32IM", "== Command: says.elf", "HEAP SUMMARY",
-                                                        "no leaks are possible", "ERROR SUMMARY: 0 errors"]),
+    Row("without -q: a whole log", ["mapped.elf"], 0, said=["== replaycheck, Memcheck for RV32IM", "== Command: mapped.elf", "HEAP SUMMARY",
+                                                          "no leaks are possible", "ERROR SUMMARY: 0 errors"]),
     Row("ctest's MemCheck step", [*CTEST, "qemu-riscv32", "says.elf"], 0),
     Row("options that ask for what is done anyway", [*QUIET, "--leak-check=full", "--track-origins=yes", "--vgdb=no", "--error-limit=no",
                                                      "--undef-value-errors=yes", "--trace-children=yes", "says.elf"], 0),
@@ -150,7 +185,7 @@ OPTIONS = [
         ["replaycheck exec: cannot write the report: no/report\n"]),
     Row("a full report", ["--report=/dev/full", "says.elf"], 125, said=["replaycheck exec: cannot write the report: /dev/full\n"]),
     Row("--report and a format", ["--report=a", "--log-format=gcc", "says.elf"], 125, "", ["--report and --log-format gcc at once\n"]),
-    Row("--report and --require-heap", ["-q", "--report=a", "--require-heap", "stripped.elf"], 126, said=["errors of the heap can't"]),
+    Row("--report and --require-heap", ["-q", "--report=a", "--require-heap", "stripped.elf"], 126, said=[UNSEEN]),
     Row("--log-fd", [*QUIET, "--log-fd=1", "writes-badly.elf"], 9, said=[]),
     Row("a closed --log-fd", ["--log-fd=77", "says.elf"], 125, "", ["--log-fd: cannot write to descriptor 77: Bad file descriptor\n"]),
     Row("--log-file of a missing folder", ["--log-file=no/log", "says.elf"], 125, "",
@@ -159,8 +194,13 @@ OPTIONS = [
     Row("--log-file with no such variable", ["--log-file=%q{NO_SUCH}", "says.elf"], 125, "",
         ["no variable in the environment: NO_SUCH\n"]),
     Row("--log-file of the program", ["--log-file=./says.elf", "says.elf"], 125, "", ["would replace a file that is read: ./says.elf\n"]),
-    Row("--require-heap, a stripped file", [*QUIET, "--require-heap", "stripped.elf"], 9, said=["errors of the heap can't be found"]),
-    Row("--require-heap, without --error-exitcode", ["-q", "--require-heap", "stripped.elf"], 126, said=["errors of the heap can't be"]),
+    Row("an unseen heap, without --error-exitcode", ["-q", "stripped.elf"], 0),
+    Row("it is a line of a whole log", ["stripped.elf"], 0, said=[f"replaycheck exec: stripped.elf: {UNSEEN}: the file has no symbols"]),
+    Row("and so are functions beside malloc", ["pool-beside.elf"], 0, said=[f"pool-beside.elf: {UNMAPPED}pool_Allocate\n"]),
+    Row("--require-heap, a stripped file", [*QUIET, "--require-heap", "stripped.elf"], 9, said=[UNSEEN]),
+    Row("--require-heap, without --error-exitcode", ["-q", "--require-heap", "stripped.elf"], 126, said=[UNSEEN]),
+    Row("the last of --require-heap and --no-require-heap holds", [*QUIET, "--require-heap", "--no-require-heap", "stripped.elf"], 0),
+    Row("--not-heap, twice", [*QUIET, "--not-heap=none", "--not-heap=k_malloc", "zephyr.elf"], 0),
     Row("--require-heap, a known heap", [*QUIET, "--require-heap", "leaks.elf"], 9, said=["definitely lost"]),
     Row("options of the environment", ["says.elf"], 0, more={"REPLAYCHECK_OPTS": "-q"}),
     Row("options of the environment come first", ["--error-exitcode=7", "writes-badly.elf"], 7, said=["Invalid write"],
@@ -194,4 +234,4 @@ BEFORE = [
         ["replaycheck exec: cannot read none.elf: No such file or directory\n"]),
 ]
 PATHS = [(QUIET, "quiet"), ([*QUIET, "--tool=memcheck"], "by Python")]
-ROWS = [*(row for path in PATHS for row in [*statuses(*path), *regions(*path)]), *OPTIONS, *PUBLISHED, *BEFORE]
+ROWS = [*(row for path in PATHS for row in [*statuses(*path), *heaps(*path), *regions(*path)]), *OPTIONS, *PUBLISHED, *BEFORE]

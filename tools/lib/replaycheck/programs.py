@@ -62,3 +62,17 @@ def path_of(path):
     """A path as a text that the program doesn't take for an option."""
     path = os.fsdecode(path)
     return "./" + path if path.startswith("-") else path
+
+
+def isa_for(file):
+    """The instruction set that a file's flags and attributes ask for, where it isn't the usual one: bit 0 of e_flags stands for instructions
+    of 16 bits, and the attributes have a text such as `rv32i2p1_m2p0_a2p1_c2p0` (RISC-V ELF psABI)."""
+    try:
+        with open(file, "rb") as opened:
+            data = opened.read(1 << 24)
+    except OSError:
+        return None
+    if len(data) < 40 or not data[36] & 1:
+        return None
+    at = data.find(b"rv32i", data.rfind(b"riscv\0"))
+    return ATOMIC if at >= 0 and b"_a" in data[at:data.find(b"\0", at)] else SHORT
