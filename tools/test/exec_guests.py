@@ -7,6 +7,8 @@ from tool_rows import placed_file
 
 # Code comes first, and from here on there is data.
 DATA = ENTRY + 0x400
+# Where functions are that are never called.
+APART = ENTRY + 0x200
 SAY = f"li a7, 64; li a0, 1; li a1, {DATA}; li a2, 3; ecall;"
 END = "li a0, 0; li a7, 93; ecall"
 ROOM = ("__replaycheck_arguments", DATA + 16, 64)
@@ -43,7 +45,7 @@ SOURCES = {
 # Those that take arguments, and what the function is called in which a program begins.
 WITH_ROOM = ("counts", "first")
 NAMES = {"mangled": "_ZN5gauge4markEv"}
-# Functions beside that one, of programs that say something, by their files: at which word each is.
+# Functions beside that one, of programs that say something, by their files: at which word each is, apart from the code that is executed.
 FUNCTIONS = {
     "zephyr": {"k_malloc": 1}, "both": {"malloc": 1, "pvPortMalloc": 2}, "pool": {"pool_alloc": 1}, "pool-beside": {"malloc": 1, "pool_Allocate": 2},
     "mapped": {"k_malloc": 1, "malloc": 1}, "marked": {"k_malloc": 1, "__replaycheck_mapped": 1, "malloc": 2},
@@ -67,7 +69,7 @@ def put_guests(folder: pathlib.Path) -> None:
         (folder / f"{name}.elf").write_bytes(elf(words, memory=0x2000, symbols=symbols, data=b"hi\n"))
     (folder / "placed.elf").write_bytes(placed_file())
     for name, functions in (*FUNCTIONS.items(), *((f"with-{it}", {"malloc": 1, it: 2}) for it in ALLOCATORS)):
-        put_saying(folder / f"{name}.elf", [("start", ENTRY, 4), *((it, ENTRY + 4 * at, 4) for it, at in functions.items())])
+        put_saying(folder / f"{name}.elf", [("start", ENTRY, 4), *((it, APART + 4 * at, 4) for it, at in functions.items())])
     put_saying(folder / "stripped.elf", [])
     compressed = bytearray((folder / "half.elf").read_bytes())
     compressed[36] |= 1
