@@ -38,7 +38,8 @@ BUILDS = [("DWARF 5", ["-gdwarf-5"], []), ("DWARF 4", ["-gdwarf-4"], []), ("DWAR
           ("split", ["-gsplit-dwarf"], []), ("linked as a whole", ["-flto"], []), ("16 bits", ["-march=rv32imac"], ["--isa=rv32imac"])]
 # What each format says of the place.
 SAYS = {"gcc": f"{PUT}: warning: Invalid write", "github": "file=library.h,line=6", "json": '{"file": "library.h", "line": 6}',
-        "junit": PUT, "sarif": '{"uri": "library.h"}, "region": {"startLine": 6}', "valgrind-xml": "<file>library.h</file>\n      <line>6</line>"}
+        "junit": PUT, "sarif": '{"uri": "library.h"}, "region": {"startLine": 6}',
+        "valgrind-xml": "<file>library.h</file>\n      <line>6</line>"}
 DAMAGES = 1000
 
 

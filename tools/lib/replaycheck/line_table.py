@@ -101,8 +101,8 @@ def inflated(data) -> bytes:
 
 
 class Row(Record):
-    """The path and the line of an instruction. `including` is the path of file 0, if that isn't the same as file 1, and the row is in file 1
-    only since each sequence begins there."""
+    """The path and the line of an instruction. `including` is the path of file 0, if that isn't the same as file 1, and the row is in
+    file 1 only since each sequence begins there."""
 
     path: str
     line: int
