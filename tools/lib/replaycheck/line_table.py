@@ -28,6 +28,7 @@ PATH, FOLDER = 1, 2  # what a column of a table of files has
 TEXT, LINE_TEXT, ANY_TEXT, NUMBER, BLOCK, SIZES = 0x08, 0x1F, 0x0E, 0x0F, 0x09, {0x0B: 1, 0x05: 2, 0x06: 4, 0x07: 8, 0x1E: 16}
 # What no compiler writes more of, so that a damaged file costs no more: units, files of one, bytes of a text, and rows of a sequence.
 MOST_UNITS, MOST_FILES, LONGEST_TEXT, MOST_ROWS = 1 << 16, 1 << 16, 1 << 12, 1 << 22
+AT_ONCE = 1 << 20  # bytes of a program that are executed before its rows are counted
 NEAR = 16  # bytes from the end of a sequence to the opcode that gives the next one its address
 
 
@@ -219,10 +220,11 @@ class Sequence:
         return Row(self.unit.path(FIRST_FILE), line, self.unit.including) if file is None else Row(self.unit.path(file), line)
 
     def read(self, until):
-        """Executes the program until it has passed an address, or an opcode that isn't among the usual ones."""
+        """Executes some of the program: until it has passed an address, or has executed an opcode that isn't among the usual ones."""
         data, first, base, around, least = self.unit.data, self.unit.first, self.unit.base, self.unit.range, self.unit.least
-        at, address, line, file, last = self.at, self.address, self.line, self.file, self.lines[-1] if self.lines else None
-        while address <= until:
+        at, address, line, file, starts, lines = self.at, self.address, self.line, self.file, self.starts, self.lines
+        stop, last = at + AT_ONCE, lines[-1][1] if lines and lines[-1][0] == file else None
+        while is_usual := address <= until and at < stop:
             opcode = data[at]
             at += 1
             if opcode == SET_COLUMN and data[at] < 128:
@@ -237,21 +239,18 @@ class Sequence:
                 if opcode != COPY:
                     address += (opcode - first) // around * least
                     line += base + (opcode - first) % around
-                if last != (file, line):
-                    last = file, line
-                    self.add(address, last)
+                if line != last:
+                    last = line
+                    starts.append(address)
+                    lines.append((file, line))
             elif opcode != NEGATE_STATEMENT:
                 at -= 1
                 break
         self.at, self.address, self.line = at, address, line
-        if address <= until:
+        if is_usual:
             self.execute(Reader(data, at))
-
-    def add(self, address, line):
-        if self.starts and address < self.starts[-1] or len(self.starts) == MOST_ROWS:
+        if len(starts) > MOST_ROWS or starts and self.address < starts[-1]:
             raise Malformed
-        self.starts.append(address)
-        self.lines.append(line)
 
     def execute(self, reader):
         """Executes one opcode."""
