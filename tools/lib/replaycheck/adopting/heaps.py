@@ -106,15 +106,17 @@ class Plan:
 
     def take(self, symbol, name, function, places):
         """Takes a function over: its words move the parameters and jump to the heap's function, or, where none is in
-        the file or in reach, the address behind the moves gets its name, too."""
+        the file or in reach, or no room for a jump, the address behind the moves gets its name, too."""
         pairs = moves(places, self.unit)
         behind = symbol.value + length_of(pairs)
         if self.hooked.get(behind) == function and self.has(symbol.value, pairs):
             self.hooked[symbol.value] = function
             return
         named, away = behind, self.targets.get(function, behind) - behind
-        if pairs and away and -isa.JUMP_REACH <= away < isa.JUMP_REACH:
-            pairs.append((in_bytes(isa.jump(away)), f"j {function}"))
+        code = in_bytes(isa.jump(away))
+        has_room = self.elf.extent(symbol) >= length_of(pairs) + len(code)
+        if pairs and away and has_room and -isa.JUMP_REACH <= away < isa.JUMP_REACH:
+            pairs.append((code, f"j {function}"))
             named = None
         needed = length_of(pairs) if named is None else length_of(pairs) + self.unit
         if symbol.value % self.unit or self.elf.extent(symbol) < needed:
