@@ -1,6 +1,7 @@
 """Where in the source an instruction stands, by one addr2line that is kept open."""
 from __future__ import annotations
 
+import functools
 import os
 
 from replaycheck.children import piped
@@ -74,7 +75,7 @@ class Places:
     the instruction for which it stands."""
 
     def __init__(self, file, paths):
-        self.paths, self.known, self.stand_ins = paths, {}, StandIns(file)
+        self.file, self.paths, self.known, self.stand_ins = file, paths, {}, StandIns(file)
         if not os.path.isfile(file):
             raise Fault(f"{file}: no such file")
         self.child = piped([tool("ADDR2LINE", PROGRAMS), "-a", "-f", "-i", "-e", file], needs=NEEDS)
@@ -101,7 +102,7 @@ class Places:
             except BrokenPipeError:
                 self.ended()
             for address in part:
-                self.known[address] = self.answer()
+                self.known[address] = self.righted(self.asked(address), self.answer())
 
     def asked(self, address):
         """The address that addr2line is asked for: a stub's is that of its site."""
@@ -118,6 +119,18 @@ class Places:
         self.read(), self.read()
         return [it for it in map(self.place, told[::2], told[1::2]) if it]
 
+    @functools.cached_property
+    def table(self):
+        from replaycheck.line_table import LineTable  # here, as a report without errors asks for no place
+        return LineTable(self.file)
+
+    def righted(self, address, told):
+        """The places of an address. If addr2line has taken the including file for that of the innermost, it is the line table's file."""
+        row = self.table.misread(int(str(address), 16)) if told else None
+        if row is None or row.line != told[0].line or not is_same(told[0].path, row.including, row.path):
+            return told
+        return [Place(told[0].function, row.path, self.paths.name(row.path), row.line), *told[1:]]
+
     def place(self, function, told):
         path, _, line = told.split(" (discriminator")[0].rpartition(":")
         if path == "??" or not line.isdigit() or line == "0":
@@ -130,3 +143,12 @@ class Places:
         if address not in self.known:
             self.learn([address])
         return self.known[address]
+
+
+def is_same(path, one, other):
+    """Whether a path is rather one than another one. Both may lack the folder where they begin."""
+    names = [os.path.basename(it) for it in (path, one, other)]
+    if names[1] != names[2]:
+        return names[0] == names[1]
+    whole = [os.path.normpath(it) for it in (path, one, other)]
+    return whole[0].endswith(whole[1]) and not whole[0].endswith(whole[2])

@@ -5,8 +5,8 @@ import collections
 from replaycheck import programs
 
 from . import instructions as isa
-from .elf import HAS_CODE, word_at
-from .halves import expanded, is_half
+from .elf import HAS_CODE
+from .encodings import Instruction, read
 
 Found = collections.namedtuple("Found", "address word")
 # How many words the walk through the start file takes, and the one back from mret.
@@ -76,10 +76,29 @@ class Code:
             return None
         return self.stretches[index]
 
-    def word(self, address):
-        """The word of an address that may have code, or None."""
+    def instruction(self, address):
+        """The instruction at an address that may have code, or None."""
         stretch = self.stretch_at(address)
-        return None if stretch is None else word_at(self.elf.data, stretch.place + address - stretch.start)
+        found = stretch and read(self.elf.data, stretch.place + address - stretch.start, stretch.end - address, self.unit)
+        return Instruction(address, *found) if found else None
+
+    def before(self, address):
+        """The instructions before an address, the nearest first, as far as an address tells where they begin."""
+        return [self.instruction(it) for it in range(address - 4, address - 4 * NEAR, -4)]
+
+    def seen(self):
+        """The instructions that were looked at, and None between those of which one doesn't follow the other."""
+        for stretch in self.stretches:
+            index = 0
+            while (index := stretch.seen.find(1, index)) >= 0:
+                yield None
+                while index < len(stretch.seen) and stretch.seen[index]:
+                    it = self.instruction(stretch.start + self.unit * index)
+                    if it is None:
+                        index += 1
+                        break
+                    yield it
+                    index += it.length // self.unit
 
     def data(self):
         """What mapping symbols call data: from each up to the next one or the next function."""
@@ -158,24 +177,30 @@ class Code:
 
 
 class CodeOfHalves(Code):
-    """The same of a file that has instructions of 16 bits too. `compressed` has those that stand for none of RV32IM. No instruction of
-    such a file is cured."""
+    """The same of a file that has instructions of 16 bits too. `compressed` has those that stand for none of RV32IM."""
 
     unit, least = 2, programs.SHORT
+
+    def before(self, address):
+        """Instructions have no one length: they are counted from the begin of the function, if there is one."""
+        symbol, found = self.elf.function_places.before(address), []
+        at = symbol.value if symbol else address
+        while at < address and (it := self.instruction(at)):
+            found.append(it)
+            at = it.next
+        return found[:-NEAR:-1] if at == address else []
 
     def line(self, address):
         stretch, elsewhere, before = self.stretch_at(address), [], 0
         if stretch is None:
             return elsewhere
         while address + 2 <= stretch.end and not stretch.seen[(address - stretch.start) // 2]:
-            place = stretch.place + address - stretch.start
-            half = int.from_bytes(self.elf.data[place:place + 2], "little")
-            length = 2 if is_half(half) else 4
-            if address + length > stretch.end:
+            found = read(self.elf.data, stretch.place + address - stretch.start, stretch.end - address, 2)
+            if found is None:
                 return elsewhere
+            length, word = found
             stretch.seen[(address - stretch.start) // 2] = 1
             stretch.seen[(address - stretch.start + length) // 2 - 1] = 1
-            word = (expanded(half) or half) if is_half(half) else word_at(self.elf.data, place)
             if not isa.is_of_rv32im(word) and not self.is_instruction(address, word):
                 return elsewhere
             if isa.may_jump(word):
@@ -206,19 +231,19 @@ def targets(address, before, word):
 
 
 def stack_words(code, entry):
-    """The words of the start file that give the stack pointer another place, up to the first call: a run has a stack,
+    """The instructions of the start file that give the stack pointer another place, up to the first call: a run has a stack,
     so each can be left out. What moves the pointer from where it is, `addi sp,sp,-16` or `andi sp,sp,-16`, stays."""
     found, address, walked = [], entry, set()
     before = 0
     while address not in walked and len(walked) < FURTHEST:
         walked.add(address)
-        word = code.word(address)
-        if word is None or isa.opcode(word) == isa.JALR or isa.opcode(word) == isa.JAL and isa.rd(word) != isa.ZERO:
+        it = code.instruction(address)
+        if it is None or isa.opcode(it.word) == isa.JALR or isa.opcode(it.word) == isa.JAL and isa.rd(it.word) != isa.ZERO:
             break
-        if places_stack(word, before, bool(found)):
-            found.append(Found(address, word))
-        before = word
-        address += isa.distance(word) if isa.opcode(word) == isa.JAL else 4
+        if places_stack(it.word, before, bool(found)):
+            found.append(it)
+        before = it.word
+        address += isa.distance(it.word) if isa.opcode(it.word) == isa.JAL else it.length
     return found
 
 
@@ -245,11 +270,10 @@ def replaced(code, found):
 def return_register(code, address):
     """The register whose value mret jumps to and which still has it, if no jump or call stands before; else None."""
     changed = set()
-    for before in range(address - 4, address - 4 * NEAR, -4):
-        word = code.word(before)
-        if word is None or isa.may_jump(word) or word in (isa.ECALL, isa.EBREAK):
+    for it in code.before(address):
+        if it is None or isa.may_jump(it.word) or it.word in (isa.ECALL, isa.EBREAK):
             return None
-        if isa.sets_return(word):
-            return isa.rs1(word) if isa.rs1(word) not in changed else None
-        changed.add(isa.written(word))
+        if isa.sets_return(it.word):
+            return isa.rs1(it.word) if isa.rs1(it.word) not in changed else None
+        changed.add(isa.written(it.word))
     return None

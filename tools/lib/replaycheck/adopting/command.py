@@ -81,7 +81,7 @@ def answer_for_devices(findings, inputs, kept):
         return cured(findings)[0]
 
     def can_be(site):
-        return can_lead(findings.elf, site, kept)
+        return can_lead(findings.elf, site, kept, findings.unit)
 
     for given in inputs:
         os.stat(given)

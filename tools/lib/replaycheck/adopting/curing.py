@@ -6,6 +6,7 @@ from replaycheck.stand_ins import FORMS
 
 from . import elf as form
 from . import instructions as isa
+from .encodings import in_bytes, nop
 
 Change = collections.namedtuple("Change", "offset size what")
 WEAK, NO_SECTION = 0x20, 0xFFF1
@@ -29,8 +30,8 @@ class Cured:
         self.data += bytes(gap) + content
         return len(self.data) - len(content)
 
-    def put_word(self, address, word, what):
-        self.put(self.elf.place(address), struct.pack("<I", word), f"0x{address:08x}: {what}")
+    def put_code(self, address, code, what):
+        self.put(self.elf.place(address, len(code)), code, f"0x{address:08x}: {what}")
 
     def name_addresses(self, named):
         """Adds symbols: each a name, an address, a size, a kind and a section. The tables move to the end, as they are
@@ -72,12 +73,14 @@ def cured(findings):
     """The file with all that can be cured, as bytes, and the changes."""
     result = Cured(findings.elf)
     for it in findings.plan.taken.values():
-        for i, (word, text) in enumerate(zip(it.words, it.texts)):
-            result.put_word(it.symbol.value + 4 * i, word, f"{it.name}: {text}")
+        address = it.symbol.value
+        for code, text in zip(it.codes, it.texts):
+            result.put_code(address, code, f"{it.name}: {text}")
+            address += len(code)
     for it in findings.control:
-        result.put_word(it.address, it.new, f"{it.text} for {isa.control(it.word)}")
-    for found in findings.stack:
-        result.put_word(found.address, isa.NOP, f"nop for 0x{found.word:08x}, which sets sp")
+        result.put_code(it.address, in_bytes(it.new), f"{it.text} for {isa.control(it.word)}")
+    for it in findings.stack:
+        result.put_code(it.address, nop(it.length), f"nop for 0x{it.word:08x}, which sets sp")
     segments = [(it.offset, it.paddr, it.filesz, it.flags, it.align) for it in findings.copied]
     named = [(it.function, it.named, it.size - (it.named - it.symbol.value), form.FUNCTION, it.symbol.section)
              for it in findings.plan.taken.values() if it.named is not None]
@@ -95,6 +98,6 @@ def led(result, added):
     """Leads instructions to their stubs, and adds these. Returns the segments to be loaded."""
     for address, content, stubs in added.pieces():
         for site, stub in stubs.items():
-            result.put_word(site, isa.jump(stub - site), f"j 0x{stub:08x} for {added.told(site)}")
+            result.put_code(site, in_bytes(isa.jump(stub - site)), f"j 0x{stub:08x} for {added.told(site)}")
         offset = result.add(content, f"{added.WHAT}, for 0x{address:08x}")
         yield offset, address, len(content), READ_WRITE_RUN, WORD

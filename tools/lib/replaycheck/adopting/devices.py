@@ -30,14 +30,14 @@ def spans(elf):
     return ANSWERED + ([(tohost, 8)] if tohost != device_handler.NO_SUCH else [])
 
 
-def can_lead(elf, site, kept):
-    """Whether at an address is a load or store that a stub can make: in no function that is kept, and without the stack
-    pointer."""
+def can_lead(elf, site, kept, unit):
+    """Whether at an address is a load or store that a stub can make: of 32 bits, as a jump has them, in no function that is kept, and
+    without the stack pointer."""
     place = elf.place(site)
     word = word_at(elf.data, place) if place is not None else 0
     uses = isa.rd(word) if isa.opcode(word) == isa.LOAD else word >> 20 & 31
     is_one = isa.opcode(word) in (isa.LOAD, isa.STORE) and isa.is_of_rv32im(word) and isa.SP not in (isa.rs1(word), uses)
-    return is_one and site % 4 == 0 and elf.function_at(site) not in kept
+    return is_one and site % unit == 0 and elf.function_at(site) not in kept
 
 
 def answerable(found):
@@ -50,8 +50,8 @@ def asking(word, is_lower, handler):
     """The words of a stub that ask the handler. What the registers had is on the stack."""
     is_store = isa.opcode(word) == isa.STORE
     offset = isa.store_offset(word) if is_store else isa.immediate(word)
-    words = [isa.add_immediate(isa.SP, isa.SP, -FRAME), *(isa.store_word(register, isa.SP, at) for register, at in SAVED)]
-    words.append(isa.add_immediate(isa.A0, isa.rs1(word), offset))
+    words = [isa.addi(isa.SP, isa.SP, -FRAME), *(isa.store_word(register, isa.SP, at) for register, at in SAVED)]
+    words.append(isa.addi(isa.A0, isa.rs1(word), offset))
     value = word >> 20 & 31
     if is_store:
         words.append(isa.load_word(isa.A1, isa.SP, 4) if value == isa.A0 else isa.move(isa.A1, value))
@@ -70,7 +70,7 @@ def taking(word):
                       far << 20 | isa.A0 << 15 | isa.A0 << 7 | down & ~0x7F | isa.IMMEDIATE]
         words += [isa.move(into, isa.A0)] if into != isa.A0 else []
     words += [isa.load_word(register, isa.SP, at) for register, at in SAVED if register != into or into == isa.ZERO]
-    return words + [isa.add_immediate(isa.SP, isa.SP, FRAME)]
+    return words + [isa.addi(isa.SP, isa.SP, FRAME)]
 
 
 class Driving(Added):
@@ -105,7 +105,7 @@ class Driving(Added):
         word = self.word(site)
         ask, take = asking(word, self.is_lower(site), self.handler), taking(word)
         itself = [isa.load_word(register, isa.SP, at) for register, at in SAVED]
-        itself += [isa.add_immediate(isa.SP, isa.SP, FRAME), word]
+        itself += [isa.addi(isa.SP, isa.SP, FRAME), word]
         past = isa.jump(4 * (ACCESSES.size // 4 - 1 - len(ask) - 1 - len(take)))
         words = [*ask, isa.branch_if_zero(isa.A1, 4 * (len(take) + 2)), *take, past, *itself]
         words += [isa.NOP] * (ACCESSES.size // 4 - 1 - len(words))

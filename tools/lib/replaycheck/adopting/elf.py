@@ -9,7 +9,7 @@ from replaycheck.regions import USUAL_REGIONS
 
 EXECUTABLE, RISC_V, LOAD, INTERPRETER, SYMBOLS = 2, 243, 1, 3, 2
 HEADER, PROGRAM_HEADER, SECTION_HEADER, SYMBOL = 52, 32, 40, 16
-ENTRY, PROGRAM_TABLE, SECTION_TABLE, FLAGS, PROGRAM_COUNT = 24, 28, 32, 36, 44
+ENTRY, PROGRAM_TABLE, SECTION_TABLE, FLAGS, PROGRAM_COUNT, SECTION_NAMES = 24, 28, 32, 36, 44, 50
 IS_COMPRESSED, HAS_CODE, NO_TYPE, OBJECT, FUNCTION = 1, 4, 0, 1, 2
 ROOM = 16777216
 LONGEST_NAME = 1000
@@ -57,6 +57,13 @@ class Elf:
     def table(self, form, layout, place, count, size):
         at = word_at(self.data, place)
         return [form(*it) for it in struct.iter_unpack(layout, self.data[at:at + half_at(self.data, count) * size])]
+
+    def section_named(self, name):
+        """The first section of a name, or None."""
+        at = half_at(self.data, SECTION_NAMES)
+        table, wanted = self.sections[at] if at < len(self.sections) else None, name.encode() + b"\0"
+        names = self.data[table.offset:table.offset + table.size] if table else b""
+        return next((it for it in self.sections if names.startswith(wanted, it.name)), None)
 
     @functools.cached_property
     def strings(self):

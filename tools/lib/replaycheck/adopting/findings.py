@@ -2,14 +2,14 @@
 cures."""
 import collections
 
-from replaycheck.programs import ISAS, SHORT, USUAL
+from replaycheck.programs import ATOMIC, ISAS, SHORT, USUAL, unit_of
 from replaycheck.regions import USUAL_REGIONS
 
 from .code import Code, CodeOfHalves, joined, replaced, stack_words, without
 from .devices import Driving
 from .elf import IS_COMPRESSED, ROOM, Elf, refusals
 from .heaps import Plan
-from .instructions import is_control
+from .instructions import is_atomic, is_control
 from .outside import reached
 from .regions import fitting, has_own, own_stack
 from .semihosting import Hosting, sites
@@ -24,10 +24,12 @@ TARGET = "-march=rv32im -mabi=ilp32"
 class Findings:
     """All that is found in a file. `elf` is None where it can't be read so far. `isa` is the instruction set for which the file is to be
     run: the one that is asked for, unless it needs another one to have all that is missing. `regions` are where it is to have heap and
-    stack: those that are asked for, unless a segment meets them. `own` is the start file's stack, if it can be the stack's region."""
+    stack: those that are asked for, unless a segment meets them. `own` is the start file's stack, if it can be the stack's region. A file
+    that has instructions of 16 bits is looked at only for an instruction set that has them."""
 
     def __init__(self, data, heaps, kept, asked=USUAL, regions=USUAL_REGIONS):
         refused = refusals(data, regions)
+        self.asked, self.asked_regions = asked, regions
         self.damaged = next((it for it in refused if it.number in DAMAGED), None)
         self.regions, self.elf, self.own = regions, Elf(data, regions) if all(it.readable for it in refused) else None, None
         is_cured = self.elf is not None and any(it.region for it in refused) and self.place(data)
@@ -36,10 +38,10 @@ class Findings:
             refused = sorted([*met, *refusals(data, self.regions)], key=lambda it: it.number)
         self.obstacles = [in_the_way(it, self.regions if is_cured else None) for it in refused]
         self.plan, self.control, self.stack, self.copied, self.devices = None, [], [], [], []
-        self.hosting, self.driving, self.runs, self.isa, self.asked = None, None, 0, USUAL, asked
+        self.hosting, self.driving, self.runs, self.isa = None, None, 0, USUAL
         if self.elf is None:
             return
-        if self.elf.flags & IS_COMPRESSED:
+        if self.lacks_set:
             code = CodeOfHalves(self.elf)
             self.isa = USUAL if self.hopeless() else set_of(code)
             self.obstacles.append(compressed(self.elf, self.isa_option))
@@ -50,11 +52,24 @@ class Findings:
 
     def place(self, data):
         """Puts heap and stack where no segment is. Returns whether there is such a place."""
-        self.own = own_stack(self.elf, [] if self.elf.flags & IS_COMPRESSED else stack_words(Code(self.elf), self.elf.entry))
+        self.own = own_stack(self.elf, [] if self.lacks_set else stack_words(self.code(), self.elf.entry))
         found = fitting(self.elf, self.own)
         if found is not None:
             self.regions, self.elf = found, Elf(data, found)
         return found is not None
+
+    @property
+    def lacks_set(self):
+        """Whether the file says that it has instructions of 16 bits, and the set that is asked for has none."""
+        return bool(self.elf.flags & IS_COMPRESSED) and self.asked == USUAL
+
+    @property
+    def unit(self):
+        """How many bytes the shortest instruction of the file has."""
+        return unit_of(self.asked) if self.elf.flags & IS_COMPRESSED else unit_of(USUAL)
+
+    def code(self, closed=()):
+        return (CodeOfHalves if self.unit == 2 else Code)(self.elf, closed)
 
     @property
     def isa_option(self):
@@ -66,6 +81,12 @@ class Findings:
         """The options of the program without which the file doesn't run, or not to its end; None if there are none."""
         return " ".join(filter(None, (self.isa_option, self.regions.told))) or None
 
+    @property
+    def missing_option(self):
+        """Those of them that weren't given; None if there are none."""
+        regions = [f"{name} {value}" for name, value in self.regions.options if (name, value) not in self.asked_regions.options]
+        return " ".join([*([self.isa_option] if self.isa not in (USUAL, self.asked) else []), *regions]) or None
+
     def hopeless(self):
         """Whether nothing that can be done to the file makes any of it run."""
         return any(it.stops_all for it in self.obstacles)
@@ -75,13 +96,13 @@ class Findings:
         if not self.elf.functions:
             self.obstacles.append(Obstacle("no symbols of functions: a heap isn't found, and traces have ??? for names",
                                            "link without -s, and don't strip the file", False))
-        self.plan = Plan(self.elf, heaps, kept)
+        self.plan = Plan(self.elf, heaps, kept, self.unit)
         for name, address, size in self.plan.small:
             self.obstacles.append(Obstacle(
                 f"{name} at 0x{address:08x} is too small for the {size} bytes that take it over",
                 "compile it with -O0, or call malloc and its like in its place", False))
-        code = Code(self.elf, self.plan.closed())
-        if code.word(self.elf.entry) is None:
+        code = self.code(self.plan.closed())
+        if code.instruction(self.elf.entry) is None:
             self.obstacles.append(Obstacle(f"the entry, 0x{self.elf.entry:08x}, isn't at code of the file",
                                            "name the first function to the linker: ENTRY(_start), or -Wl,-e,_start",
                                            True))
@@ -93,7 +114,8 @@ class Findings:
         words = stack_words(code, self.elf.entry)
         self.own = own_stack(self.elf, words)
         self.stack = [it for it in words if self.elf.function_at(it.address) not in kept and not has_own(self.regions, self.own)]
-        self.obstacles += of_code(self.elf, code, self.isa_option if needed != USUAL else None)
+        atomic = [it for it in code.atomic if self.asked != ATOMIC or not is_atomic(it.word)]
+        self.obstacles += of_code(self.elf, code, atomic, self.isa_option if self.isa != self.asked else None)
         self.copied, unplaced = physical(self.elf)
         self.obstacles += [Obstacle(
             f"{it.filesz} bytes for 0x{it.vaddr:08x} that the linker script puts to 0x{it.paddr:08x}, where they can't "
@@ -104,7 +126,7 @@ class Findings:
 
     def look_for_calls_of_a_host(self, kept):
         """Looks for calls of a host, and for a place of what answers them."""
-        found = sites(self.elf, kept)
+        found = sites(self.elf, kept, self.unit)
         if found:
             self.hosting = Hosting(self.elf, found, [(it.first, it.last + 1) for it in self.devices if it.places])
             why = self.hosting.refused(self.loaded(), len(self.elf.segments) + len(self.copied))
@@ -189,11 +211,12 @@ def places(elf, found):
     return elf.where_all([it.address for it in found])
 
 
-def of_code(elf, code, option):
-    """Obstacles of instructions that there aren't, or only with an option. Of all kinds only atomic ones have one here."""
+def of_code(elf, code, atomic, option):
+    """Obstacles of instructions that there aren't, or only with an option, which of all kinds only atomic ones have here."""
     kinds = [
-        (code.compressed, "compressed instructions", f"compile all of it, and link with libraries for it: {TARGET}"),
-        (code.atomic, "atomic instructions",
+        (code.compressed, "compressed instructions" if code.unit == 4 else "halves that are no instructions of RV32IMC",
+         f"compile all of it, and link with libraries for it: {TARGET}"),
+        (atomic, "atomic instructions",
          f"{by_option(option)}compile with {TARGET}, without the letter a: then they are calls of __atomic_*, "
          "which stubs.c of the firmware kit has"),
         (code.floating, "instructions for floating point",

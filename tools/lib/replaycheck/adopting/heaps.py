@@ -3,13 +3,14 @@ import collections
 import re
 
 from . import instructions as isa
+from .encodings import in_bytes, load_number, move
 from .heap_names import KNOWN, LEFT
 
 PARAMETERS = {"malloc": 1, "free": 1, "calloc": 2, "realloc": 2}
 FORM = re.compile(r"([^=]+)=(\w+)\(([^()]*)\)")
-# A function to take over: its name, its symbol, how long it is, the heap's function, the words that it becomes, their
+# A function to take over: its name, its symbol, how long it is, the heap's function, the instructions that it becomes, each in bytes, their
 # texts, and the address that gets the heap's name, where no jump goes there.
-Taken = collections.namedtuple("Taken", "name symbol size function words texts named")
+Taken = collections.namedtuple("Taken", "name symbol size function codes texts named")
 
 
 class BadHeap(ValueError):
@@ -40,21 +41,25 @@ def heap_of(text):
     return match[1], match[2], places
 
 
-def moved(to, place):
+def moved(to, place, unit):
     kind, number = place
     if kind == "number":
-        return isa.load_immediate(to, number), f"li {isa.NAMES[to]},{number}"
-    return isa.move(to, number), f"mv {isa.NAMES[to]},{isa.NAMES[number]}"
+        return load_number(to, number, unit), f"li {isa.NAMES[to]},{number}"
+    return move(to, number, unit), f"mv {isa.NAMES[to]},{isa.NAMES[number]}"
 
 
-def moves(places):
-    """Words and texts that bring parameters from their places to a0 and a1."""
+def moves(places, unit):
+    """Instructions and texts that bring parameters from their places to a0 and a1."""
     wanted = [(isa.A0 + i, place) for i, place in enumerate(places)]
     if [place for _, place in wanted] == [("register", isa.A1), ("register", isa.A0)]:
         wanted = [(isa.T1, wanted[0][1]), wanted[1], (isa.A0, ("register", isa.T1))]
     elif len(wanted) == 2 and wanted[1][1] == ("register", isa.A0):
         wanted.reverse()
-    return [moved(to, place) for to, place in wanted if place != ("register", to)]
+    return [moved(to, place, unit) for to, place in wanted if place != ("register", to)]
+
+
+def length_of(pairs):
+    return sum(len(code) for code, _ in pairs)
 
 
 def hooks(elf):
@@ -72,8 +77,8 @@ class Plan:
     """What is taken over in a file: by its names already (`hooked`), by a cure (`taken`), and what can't be, each with
     the reason (`left`) or with the bytes that it would need (`small`)."""
 
-    def __init__(self, elf, heaps, kept):
-        self.elf, self.hooked, self.targets = elf, hooks(elf), {}
+    def __init__(self, elf, heaps, kept, unit):
+        self.elf, self.unit, self.hooked, self.targets = elf, unit, hooks(elf), {}
         for address, name in self.hooked.items():
             self.targets.setdefault(name, address)
         self.taken, self.left, self.small, self.found = {}, [], [], set()
@@ -101,30 +106,32 @@ class Plan:
 
     def take(self, symbol, name, function, places):
         """Takes a function over: its words move the parameters and jump to the heap's function, or, where none is in
-        the file or in reach, the address behind the moves gets its name, too."""
-        pairs = moves(places)
-        behind, needed = symbol.value + 4 * len(pairs), 4 * len(pairs) + 4
+        the file or in reach, or no room for a jump, the address behind the moves gets its name, too."""
+        pairs = moves(places, self.unit)
+        behind = symbol.value + length_of(pairs)
         if self.hooked.get(behind) == function and self.has(symbol.value, pairs):
             self.hooked[symbol.value] = function
             return
-        if symbol.value % 4 or self.elf.extent(symbol) < needed:
+        named, away = behind, self.targets.get(function, behind) - behind
+        code = in_bytes(isa.jump(away))
+        has_room = self.elf.extent(symbol) >= length_of(pairs) + len(code)
+        if pairs and away and has_room and -isa.JUMP_REACH <= away < isa.JUMP_REACH:
+            pairs.append((code, f"j {function}"))
+            named = None
+        needed = length_of(pairs) if named is None else length_of(pairs) + self.unit
+        if symbol.value % self.unit or self.elf.extent(symbol) < needed:
             self.small.append((name, symbol.value, needed))
             return
-        named, away = behind, self.targets.get(function, behind) - behind
-        if pairs and away and -isa.JUMP_REACH <= away < isa.JUMP_REACH:
-            pairs.append((isa.jump(away), f"j {function}"))
-            named = None
         if named is None and self.has(symbol.value, pairs):
             self.hooked[symbol.value] = function
             return
-        words, texts = [word for word, _ in pairs], [text for _, text in pairs]
-        self.taken[symbol.value] = Taken(name, symbol, self.elf.extent(symbol), function, words, texts, named)
+        codes, texts = [code for code, _ in pairs], [text for _, text in pairs]
+        self.taken[symbol.value] = Taken(name, symbol, self.elf.extent(symbol), function, codes, texts, named)
 
     def has(self, address, pairs):
-        """Whether these words stand at an address already."""
-        place = self.elf.place(address, 4 * len(pairs))
-        standing = self.elf.data[place:place + 4 * len(pairs)] if place is not None else None
-        return standing == b"".join(word.to_bytes(4, "little") for word, _ in pairs)
+        """Whether these instructions are at an address already."""
+        place = self.elf.place(address, length_of(pairs))
+        return place is not None and self.elf.data[place:place + length_of(pairs)] == b"".join(code for code, _ in pairs)
 
     def closed(self):
         """Ranges that a run never reaches: functions that are taken over."""

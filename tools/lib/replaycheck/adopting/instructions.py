@@ -1,13 +1,15 @@
 """Words of RISC-V instructions: which of them are RV32IM's, where they go, and those that cures are made of."""
 import functools
 
-from replaycheck.assembly import ATOMICS, FIRST_CONSTANT, LOAD_RESERVED, WFI
+from replaycheck import assembly
+from replaycheck.assembly import ATOMICS, BRANCHES, FIRST_CONSTANT, LOAD_RESERVED, LOADS, WFI, addi, branch, load, store
 
 NAMES = ["zero", "ra", "sp", "gp", "tp", "t0", "t1", "t2", "s0", "s1", *(f"a{i}" for i in range(8)),
          *(f"s{i}" for i in range(2, 12)), *(f"t{i}" for i in range(3, 7))]
 NOP, UNIMP, ECALL, EBREAK = 0x00000013, 0xC0001073, 0x00000073, 0x00100073
 ZERO, RA, SP, T1, A0, A1, A2 = 0, 1, 2, 6, 10, 11, 12
 JUMP_REACH = 1 << 20
+OF_WORD = LOADS["lw"]  # funct3
 # The opcodes.
 LOAD, FENCE, IMMEDIATE, AUIPC, STORE, REGISTERS, LUI, BRANCH, JALR, JAL, SYSTEM = (
     0x03, 0x0F, 0x13, 0x17, 0x23, 0x33, 0x37, 0x63, 0x67, 0x6F, 0x73)
@@ -162,15 +164,11 @@ def harmless(word):
 
 
 def load_immediate(to, number):
-    return number << 20 | to << 7 | IMMEDIATE
+    return addi(to, ZERO, number)
 
 
 def jump_register(source, link=ZERO, number=0):
     return (number & 0xFFF) << 20 | source << 15 | link << 7 | JALR
-
-
-def add_immediate(to, source, number):
-    return (number & 0xFFF) << 20 | source << 15 | to << 7 | IMMEDIATE
 
 
 def load_upper(to, number):
@@ -184,22 +182,20 @@ def call(address):
 
 
 def load_word(to, base, number):
-    return (number & 0xFFF) << 20 | base << 15 | 2 << 12 | to << 7 | LOAD
+    return load(OF_WORD, to, base, number)
 
 
 def store_word(source, base, number):
-    return (number >> 5 & 0x7F) << 25 | source << 20 | base << 15 | 2 << 12 | (number & 31) << 7 | STORE
+    return store(OF_WORD, source, base, number)
 
 
 def move(to, source):
-    return source << 15 | to << 7 | IMMEDIATE
+    return addi(to, source, 0)
 
 
 def branch_if_zero(register, away):
-    high = (away >> 12 & 1) << 31 | (away >> 5 & 0x3F) << 25
-    return high | register << 15 | (away >> 1 & 15) << 8 | (away >> 11 & 1) << 7 | BRANCH
+    return branch(BRANCHES["beq"], register, ZERO, away)
 
 
 def jump(away):
-    high, low = (away >> 20 & 1) << 31, (away >> 1 & 0x3FF) << 21
-    return high | low | (away >> 11 & 1) << 20 | (away >> 12 & 0xFF) << 12 | JAL
+    return assembly.jump(ZERO, away)

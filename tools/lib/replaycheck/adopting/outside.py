@@ -6,7 +6,6 @@ from replaycheck.stand_ins import ACCESSES
 
 from . import instructions as isa
 from .code import joined
-from .elf import word_at
 
 # What a device is called, by its first address and by how many it has.
 DEVICES = [(0x100000, 0x1000, "the test device of QEMU's virt"), (0x2000000, 0x10000, "a clock, the CLINT"),
@@ -63,19 +62,15 @@ class Constants:
 
 def accesses(elf, code):
     """Each load and store whose address is known: its place and where it goes."""
-    begins = {it.value for it in elf.functions}
-    for stretch in code.stretches:
-        constants = Constants()
-        for index, is_code in enumerate(stretch.seen):
-            address = stretch.start + 4 * index
-            if not is_code or address in begins:
-                constants = Constants()
-            if is_code:
-                word = word_at(elf.data, stretch.place + 4 * index)
-                target = constants.target(word)
-                if target is not None:
-                    yield address, target
-                constants.after(word)
+    begins, constants = {it.value for it in elf.functions}, Constants()
+    for it in code.seen():
+        if it is None or it.address in begins:
+            constants = Constants()
+        if it is not None:
+            target = constants.target(it.word)
+            if target is not None:
+                yield it.address, target
+            constants.after(it.word)
 
 
 def device_at(address):

@@ -128,7 +128,7 @@ def verdict(findings, name, out):
 
 def without_option(findings):
     """Without which option a file won't run, and how far with it."""
-    if not findings.option or any(it.stops_all and not it.by_option for it in findings.obstacles):
+    if not findings.missing_option or any(it.stops_all and not it.by_option for it in findings.obstacles):
         return ""
     far = "" if all(it.by_option for it in findings.obstacles) else ", and with it as far as it meets nothing that needs a rebuild"
-    return f" without {findings.option}{far}"
+    return f" without {findings.missing_option}{far}"

@@ -14,14 +14,15 @@ from .elf import OBJECT
 SEQUENCE = struct.pack("<3I", 0x01F01013, isa.EBREAK, 0x40705013)
 
 
-def sites(elf, kept):
-    """Addresses of the middle one of the three, in any segment, but for those in functions that are kept."""
+def sites(elf, kept, unit):
+    """Addresses of the middle one of the three, in any segment, but for those in functions that are kept. Instructions are at multiples of
+    the unit; those three always have 32 bits."""
     found = set()
     for segment in elf.contents:
         at, end = elf.data.find(SEQUENCE, segment.offset, segment.offset + segment.filesz), segment.offset + segment.filesz
         while at >= 0:
             address = segment.vaddr + at - segment.offset
-            if address % 4 == 0 and elf.function_at(address) not in kept:
+            if address % unit == 0 and elf.function_at(address) not in kept:
                 found.add(address + 4)
             at = elf.data.find(SEQUENCE, at + 1, end)
     return sorted(found)
@@ -47,8 +48,8 @@ class Hosting(Added):
 
     def stub(self, address, site):
         """A stub's words: it saves ra, calls the handler and jumps back to where the site goes on."""
-        words = [isa.add_immediate(isa.SP, isa.SP, -16), isa.store_word(isa.RA, isa.SP, 12), *isa.call(self.handler),
-                 isa.load_word(isa.RA, isa.SP, 12), isa.add_immediate(isa.SP, isa.SP, 16)]
+        words = [isa.addi(isa.SP, isa.SP, -16), isa.store_word(isa.RA, isa.SP, 12), *isa.call(self.handler),
+                 isa.load_word(isa.RA, isa.SP, 12), isa.addi(isa.SP, isa.SP, 16)]
         return struct.pack("<7I", *words, isa.jump(site + 4 - (address + CALLS.size - 4)))
 
     def symbols(self):

@@ -6,38 +6,14 @@ from typing import Iterator, List, Optional, Tuple
 
 from replaycheck.adopting.code import joined, without
 from replaycheck.adopting.elf import HAS_CODE, Elf, refusals
-from replaycheck.adopting.halves import expanded, is_half
-from replaycheck.adopting.instructions import BRANCH, JAL, distance, opcode
+from replaycheck.adopting.encodings import Instruction, read
 from replaycheck.endings import Fault
 from replaycheck.programs import unit_of
-from replaycheck.records import Record
 from replaycheck.stand_ins import ranges_of
 
 LONGEST_FILE = 1 << 26
 EXECUTABLE = 1  # the flag of a segment
 CODE, DATA = "$x", "$d"  # how the names of mapping symbols begin
-
-
-class Instruction(Record):
-    """Where an instruction is, how many bytes it has, and its word: of one of 16 bits, that of what it stands for."""
-
-    address: int
-    length: int
-    word: int
-
-    @property
-    def next(self):
-        return self.address + self.length
-
-    @property
-    def is_branch(self):
-        """Whether it jumps on a condition."""
-        return opcode(self.word) == BRANCH
-
-    @property
-    def target(self) -> Optional[int]:
-        """Where a branch or a jump goes that has its distance in it."""
-        return self.address + distance(self.word) & 0xFFFFFFFF if opcode(self.word) in (BRANCH, JAL) else None
 
 
 class Code:
@@ -96,15 +72,10 @@ class Code:
                     address = begins[at]
 
     def instruction(self, address) -> Optional[Instruction]:
-        """The instruction at an address, if the file has all its bytes. A half that stands for nothing has the word 0."""
+        """The instruction at an address, if the file has all its bytes."""
         place = self.elf.place(address, 2)
-        if place is None:
-            return None
-        half = int.from_bytes(self.elf.data[place:place + 2], "little")
-        if self.unit == 2 and is_half(half):
-            return Instruction(address, 2, expanded(half) or 0)
-        place = self.elf.place(address, 4)
-        return None if place is None else Instruction(address, 4, int.from_bytes(self.elf.data[place:place + 4], "little"))
+        found = place is not None and read(self.elf.data, place, 2 if self.elf.place(address, 4) is None else 4, self.unit)
+        return Instruction(address, *found) if found else None
 
 
 def ranges_of_code(elf, unit, stubs) -> List[List[int]]:

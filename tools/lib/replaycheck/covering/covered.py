@@ -11,7 +11,6 @@ from replaycheck.endings import Fault
 from replaycheck.places import Place, Places
 
 from .code import Code, Instruction
-from .line_table import LineTable
 from .runs import WENT_ELSEWHERE, WENT_ON, Sides
 
 AT_ONCE = 1000  # instructions whose places are asked for together
@@ -81,7 +80,7 @@ class Covered:
         self.by_name: Dict[str, SourceFile] = {}
         self.code, self.executed, self.paths = code, sides.all(), places.paths
         self.outer, self.begins, self.unnamed = None, {it.value for it in code.elf.functions}, []
-        self.blocks, self.table, self.placeless = blocks_of(code, self.executed), LineTable(path), 0
+        self.blocks, self.table, self.placeless = blocks_of(code, self.executed), places.table, 0
         for some in in_parts(code.instructions(list(self.executed)), AT_ONCE):
             places.learn(hexadecimal(it.address) for it in some)
             for it in some:
@@ -93,10 +92,10 @@ class Covered:
 
     def places_of(self, address, told: List[Place]) -> List[Place]:
         """What addr2line says of an address, but for the file and the line of the innermost place, which are the line table's."""
-        found = self.table.at(address)
-        if found is None:
+        found = self.table.row(address)
+        if found is None or not found.path:
             return told
-        path, line = found
+        path, line = found.path, found.line
         place = Place(told[0].function if told else UNNAMED, path, self.paths.name(path), line)
         if told and told[0].line == line and not os.path.isabs(path) and os.path.basename(told[0].path) == os.path.basename(path):
             place = told[0]  # the path of the table may begin where the unit was compiled, which only addr2line knows

@@ -29,5 +29,5 @@ returns c =
         given = λ e. c.get_flag-3.ensures.value (one_text-rows found (codes "no-require-heap") ∙ e);
         absent = λ e. c.get_flag-3.ensures.other (one_text-rows found (codes "no-require-heap") ∙ e);
       };
-      not_heap = c.get_str-3.ensures ∙ first_value-rows found (codes "not-heap");
+      not_heap = c.get_str-5.ensures ∙ first_value-rows found (codes "not-heap");
     }

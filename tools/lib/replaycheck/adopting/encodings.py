@@ -1,0 +1,68 @@
+"""Instructions of 16 and 32 bits in a file: how long each is, the word that it stands for, and bytes that take its place. Where the unit
+is 4 there are only those of 32 bits."""
+from __future__ import annotations
+
+from typing import Optional, Tuple
+
+from replaycheck.records import Record
+
+from . import instructions as isa
+from .halves import expanded, is_half
+
+SHORT_NOP, SHORT_MOVE, SHORT_NUMBER = 0x0001, 0x8002, 0x4001  # c.nop, c.mv, c.li, without their operands
+MOST_SHORT = 31  # the greatest number of c.li
+
+
+class Instruction(Record):
+    """Where an instruction is, how many bytes it has, and its word: of one of 16 bits, that of what it stands for, or the half itself if it
+    stands for nothing."""
+
+    address: int
+    length: int
+    word: int
+
+    @property
+    def next(self):
+        return self.address + self.length
+
+    @property
+    def is_branch(self):
+        """Whether it jumps on a condition."""
+        return isa.opcode(self.word) == isa.BRANCH
+
+    @property
+    def target(self) -> Optional[int]:
+        """Where a branch or a jump goes that has its distance in it."""
+        return self.address + isa.distance(self.word) & 0xFFFFFFFF if isa.opcode(self.word) in (isa.BRANCH, isa.JAL) else None
+
+
+def read(data, place, room, unit) -> Optional[Tuple[int, int]]:
+    """The length and the word of the instruction at a place of the data, where `room` bytes may be one's; None if it has more."""
+    half = int.from_bytes(data[place:place + 2], "little")
+    if unit == 2 and room >= 2 and is_half(half):
+        return 2, expanded(half) or half
+    return (4, int.from_bytes(data[place:place + 4], "little")) if room >= 4 else None
+
+
+def in_bytes(*words) -> bytes:
+    return b"".join(it.to_bytes(4, "little") for it in words)
+
+
+def half_in_bytes(half) -> bytes:
+    return half.to_bytes(2, "little")
+
+
+def nop(length) -> bytes:
+    return half_in_bytes(SHORT_NOP) if length == 2 else in_bytes(isa.NOP)
+
+
+def move(to, source, unit) -> bytes:
+    """What gives a register the value of another one."""
+    return half_in_bytes(SHORT_MOVE | to << 7 | source << 2) if unit == 2 else in_bytes(isa.move(to, source))
+
+
+def load_number(to, number, unit) -> bytes:
+    """What gives a register a number from 0 to 2047."""
+    if unit == 2 and number <= MOST_SHORT:
+        return half_in_bytes(SHORT_NUMBER | to << 7 | number << 2)
+    return in_bytes(isa.load_immediate(to, number))
