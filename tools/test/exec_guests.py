@@ -47,7 +47,8 @@ WITH_ROOM = ("counts", "first")
 NAMES = {"mangled": "_ZN5gauge4markEv"}
 # Functions beside that one, of programs that say something, by their files: at which word each is, apart from the code that is executed.
 FUNCTIONS = {
-    "zephyr": {"k_malloc": 1}, "both": {"malloc": 1, "pvPortMalloc": 2}, "pool": {"pool_alloc": 1}, "pool-beside": {"malloc": 1, "pool_Allocate": 2},
+    "zephyr": {"k_malloc": 1}, "both": {"malloc": 1, "pvPortMalloc": 2}, "pool": {"pool_alloc": 1},
+    "pool-beside": {"malloc": 1, "pool_Allocate": 2},
     "mapped": {"k_malloc": 1, "malloc": 1}, "marked": {"k_malloc": 1, "__replaycheck_mapped": 1, "malloc": 2},
     "reserved": {"_alloc_pages": 1, "is_free": 2}, "newlib": {"malloc": 1, "_malloc_r": 2}, "bare-newlib": {"_malloc_r": 1},
     "rust": {"_RNvCseulmdZsCeCG_7___rustc12___rust_alloc": 1},

@@ -47,7 +47,8 @@ def statuses(first: list[str], kind: str) -> list[Row]:
         Row(f"{kind}: it idles", [*first, "--step=5000", "idles.elf"], 124,
             said=["replaycheck exec: in a jump to itself (--idle-exitcode=0 passes that, as a failed assert that loops) at step 5000\n"]),
         Row(f"{kind}: it idles after an error", [*first, "--step=5000", "rests-badly.elf"], 9, said=["Invalid write of size 4"]),
-        Row(f"{kind}: it may idle, and has an error", [*first, "--idle-exitcode=0", "rests-badly.elf"], 9, said=["Invalid write of size 4"]),
+        Row(f"{kind}: it may idle, and has an error", [*first, "--idle-exitcode=0", "rests-badly.elf"], 9,
+            said=["Invalid write of size 4"]),
         Row(f"{kind}: it may idle", [*first, "--idle-exitcode=0", "idles.elf"], 0),
         Row(f"{kind}: input", [*first, "reads.elf"], 0, "abc", given=b"abc"),
         Row(f"{kind}: input by --input", [*first, "--input", "hi.txt", "says-and-reads.elf"], 0, "hi\nhi\n"),
@@ -75,11 +76,13 @@ def heaps(first: list[str], kind: str) -> list[Row]:
     def unseen(name: str, functions: str) -> list[str]:
         return [f"replaycheck exec: {name}: {UNMAPPED}{functions}\n"]
     return [
-        Row(f"{kind}: a file without symbols", [*first, "stripped.elf"], 9, said=[f"replaycheck exec: stripped.elf: {UNSEEN}: the file has no"]),
+        Row(f"{kind}: a file without symbols", [*first, "stripped.elf"], 9,
+            said=[f"replaycheck exec: stripped.elf: {UNSEEN}: the file has no"]),
         Row(f"{kind}: --no-require-heap", [*first, "--no-require-heap", "stripped.elf"], 0),
         Row(f"{kind}: a heap of another name", [*first, "zephyr.elf"], 9, said=unseen("zephyr.elf", "k_malloc")),
         Row(f"{kind}: --not-heap", [*first, "--not-heap=none,k_malloc", "zephyr.elf"], 0),
-        Row(f"{kind}: another one is none", [*first, "--not-heap=k_mallo,k_malloc_", "zephyr.elf"], 9, said=unseen("zephyr.elf", "k_malloc")),
+        Row(f"{kind}: another one is none", [*first, "--not-heap=k_mallo,k_malloc_", "zephyr.elf"], 9,
+            said=unseen("zephyr.elf", "k_malloc")),
         Row(f"{kind}: such a heap beside malloc", [*first, "both.elf"], 9, said=unseen("both.elf", "pvPortMalloc")),
         Row(f"{kind}: a name that speaks of blocks", [*first, "pool.elf"], 9, said=unseen("pool.elf", "pool_alloc")),
         Row(f"{kind}: one beside malloc", [*first, "pool-beside.elf"], 0),

@@ -466,18 +466,24 @@ def running_rows():
 def heap_rows():
     """Whether a heap goes unseen is said, and of no file whose heap is known or that has none."""
     stripped = ["run", "stripped.elf", "--input=long-name.input"]
-    unseen = "*replaycheck run: stripped.elf: errors of the heap can't be found: the file has no symbols, *"
-    other = "*replaycheck run: other.elf: errors of the heap can't be found: *but pvPortMalloc, vPortFree: *"
+    unseen = "*replaycheck run: stripped.elf: errors of the heap can't be found: the file has no symbols: *"
+    blocks = "errors of the heap can't be found in blocks of these (see `replaycheck adopt`, --not-heap): "
+    other = f"*replaycheck run: other.elf: {blocks}pvPortMalloc\n*"
     yield Row("run: the error of a file with symbols", ["run", "station.elf", "--input=long-name.input", "--error-exitcode=9"], 9, None)
-    yield Row("run: a stripped file", [*stripped, "--error-exitcode=9"], 0, None, unseen)
-    yield Row("run: a stripped file, and a heap is needed", [*stripped, "--error-exitcode=9", "--require-heap"], 9, None, unseen)
+    yield Row("run: a stripped file", [*stripped, "--error-exitcode=9"], 9, None, unseen)
+    yield Row("run: a stripped file, and no heap is needed", [*stripped, "--error-exitcode=9", "--no-require-heap"], 0, None, unseen)
+    yield Row("run: a stripped file, without a status for errors", [*stripped, "--error-exitcode=0"], 0, None, unseen)
+    yield Row("run: a heap is needed and isn't", [*stripped, "--require-heap", "--no-require-heap"], 2, "",
+              "*--require-heap and --no-require-heap at once*")
     yield Row("run: a heap is needed, and no other status is asked for", [*stripped, "--require-heap"], 1, None, unseen)
-    yield Row("run: a heap of other names", ["run", "other.elf", "--error-exitcode=9"], 0, None, other)
+    yield Row("run: a heap of other names", ["run", "other.elf", "--error-exitcode=9"], 9, None, other)
+    yield Row("run: names that aren't a heap's",
+              ["run", "other.elf", "--error-exitcode=9", "--not-heap=no", "--not-heap=pvPortMalloc"], 0, None)
     for name, symbol in (("rust.elf", "__rust_alloc"), ("new-rust.elf", "_RNvCseulmdZsCeCG_7___rustc12___rust_alloc")):
         yield Row(f"run: Rust's own heap, {name}", ["run", name, "--error-exitcode=9", "--require-heap"], 9, None,
-                  f"*replaycheck run: {name}: errors of the heap can't be found: *but {symbol}: `replaycheck adopt --heap` maps them*")
-    yield Row("run: a label of the heap's name", ["run", "label.elf", "--error-exitcode=9"], 0, None,
-              "*replaycheck run: label.elf: errors of the heap can't be found: *but malloc (a label, *")
+                  f"*replaycheck run: {name}: {blocks}{symbol}\n*")
+    yield Row("run: a label of the heap's name", ["run", "label.elf", "--error-exitcode=9"], 9, None,
+              f"*replaycheck run: label.elf: {blocks}malloc\n*")
     for label, words in (("a heap by name", ["station.elf", "--input=station.input"]),
                          ("a heap by number", ["station-by-number.elf", "--input=station.input"]),
                          ("a heap by number, stripped", ["stripped-by-number.elf", "--input=station.input"]),

@@ -1,7 +1,7 @@
 """Which heap a program's file has, and whether errors of the heap can be found in its run.
 
-The program takes over functions that are named malloc, free, calloc and realloc, and environment calls 2001 to 2004. Its `exec` says whether
-the heap of a run goes unseen, and why; here that is asked for."""
+The program takes over functions that are named malloc, free, calloc and realloc, and environment calls 2001 to 2004. Its `exec` says
+whether the heap of a run goes unseen, and why; here that is asked for."""
 import os
 import struct
 

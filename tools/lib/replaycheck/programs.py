@@ -65,8 +65,8 @@ def path_of(path):
 
 
 def isa_for(file):
-    """The instruction set that a file's flags and attributes ask for, where it isn't the usual one: bit 0 of e_flags stands for instructions
-    of 16 bits, and the attributes have a text such as `rv32i2p1_m2p0_a2p1_c2p0` (RISC-V ELF psABI)."""
+    """The instruction set that a file's flags and attributes ask for, where it isn't the usual one: bit 0 of e_flags stands for
+    instructions of 16 bits, and the attributes have a text such as `rv32i2p1_m2p0_a2p1_c2p0` (RISC-V ELF psABI)."""
     try:
         with open(file, "rb") as opened:
             data = opened.read(1 << 24)

@@ -7,6 +7,7 @@ from replaycheck.stand_ins import FORMS
 from . import elf as form
 from . import instructions as isa
 from .encodings import in_bytes, nop
+from .heap_names import MAPPED_MARK
 
 Change = collections.namedtuple("Change", "offset size what")
 WEAK, NO_SECTION = 0x20, 0xFFF1
@@ -84,6 +85,9 @@ def cured(findings):
     segments = [(it.offset, it.paddr, it.filesz, it.flags, it.align) for it in findings.copied]
     named = [(it.function, it.named, it.size - (it.named - it.symbol.value), form.FUNCTION, it.symbol.section)
              for it in findings.plan.taken.values() if it.named is not None]
+    if findings.elf.symbol_table is not None:
+        named += [(MAPPED_MARK, it.symbol.value, it.size, form.FUNCTION, it.symbol.section)
+                  for it in findings.plan.taken.values() if it.named != it.symbol.value]
     for added in findings.added():
         segments += led(result, added)
         named += [(*it, NO_SECTION) for it in added.symbols()] if result.elf.symbol_table is not None else []

@@ -19,6 +19,8 @@ _Znwj=malloc(a0) _Znaj=malloc(a0) _ZnwjRKSt9nothrow_t=malloc(a0) _ZnajRKSt9nothr
 _ZdlPv=free(a0) _ZdaPv=free(a0) _ZdlPvj=free(a0) _ZdaPvj=free(a0)
 _ZdlPvRKSt9nothrow_t=free(a0) _ZdaPvRKSt9nothrow_t=free(a0)
 """.split()
+# The name that a function gets besides its own whose instructions become moves that lead to one of C's four: `exec` knows it as mapped.
+MAPPED_MARK = "__replaycheck_mapped"
 UNKNOWN_BLOCKS = ("its blocks come from the file's own heap: what is done in them isn't checked, and free of one is a "
                   "false error")
 LEFT = {

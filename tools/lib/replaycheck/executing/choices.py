@@ -138,7 +138,8 @@ WITH_VALUE = {
     "--input": sets("input"), "--report": sets("report"), "--log-file": sets("log_file"), "--log-fd": sets("log_fd", number(0, 1023)),
     "--log-format": sets("log_format", one_of(*FORMATS)), "--demangle": sets("demangle", yes_or_no),
     "--strip-prefix": sets("strip_prefix"), "--error-exitcode": sets("error_exitcode", number(0, 255)),
-    "--supp": adds_to("suppressions"), "--suppressions": adds_to("suppressions"), "--patch": adds_to("patches"), "--not-heap": adds_to("not_heap"),
+    "--supp": adds_to("suppressions"), "--suppressions": adds_to("suppressions"), "--patch": adds_to("patches"),
+    "--not-heap": adds_to("not_heap"),
     "--step": passes("step", 0, 4294967295), "--idle-exitcode": passes("idle-exitcode", 0, 255),
     "--callers": passes("callers", 1, MOST_CALLERS), "--num-callers": take_callers,
     "--redzone": passes("redzone", 0, 4096), "--redzone-size": passes("redzone", 0, 4096),
@@ -147,7 +148,8 @@ WITH_VALUE = {
     "--leak-check": take_leak_check, "--show-reachable": take_show_reachable, "--show-possibly-lost": take_show_possibly_lost,
 }
 FLAGS = {"-q": "quiet", "--quiet": "quiet", "-v": "verbose", "--verbose": "verbose", "--require-heap": "require_heap",
-         "--no-require-heap": "require_heap", "--full-paths": "full_paths", "--no-demangle": "demangle", "-h": "asks_for_help", "--help": "asks_for_help"}
+         "--no-require-heap": "require_heap", "--full-paths": "full_paths", "--no-demangle": "demangle", "-h": "asks_for_help",
+         "--help": "asks_for_help"}
 
 
 def rejected(name):
