@@ -1,5 +1,5 @@
 //! An order for `exec` is followed: options and files are judged, and then the run is made.
-ghost use Rattle.std.specs.Prelude.{◌≡◌, ◌×◌, ℕ, List, [], Option, None, Some, Bool, true, IfErr, IfOk, is_some, option_map};
+ghost use Rattle.std.specs.Prelude.{◌≡◌, ℕ, List, [], Option, None, Some, Bool, true, IfErr, IfOk, is_some, option_map};
 ghost use Rattle.exec_orders.specs.Executed.{Executed, IsChoice, NoChoice, WithScenario, is_path, is_read, names_in, pipes, requires_heap};
 
 use crate::executing::{Choices, Plan, execute};

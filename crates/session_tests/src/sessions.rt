@@ -92,38 +92,44 @@ const VERDICTS: [Verdict; 5] = [
     ),
 ];
 
-/// Returns whether a session has a verdict.
-fn tells(session: &mut Session<'_>, verdict: &Verdict, out: &mut Vec<u8>) -> bool {
-    session.command(verdict.2, out) == Ok(Reply::Done)
+/// Returns whether a session at the step of a line has a verdict.
+fn tells(session: &mut Session<'_>, line: &[u8], want: &[u8], out: &mut Vec<u8>) -> bool {
+    session.command(line, out) == Ok(Reply::Done)
         && session.certify(out).is_ok()
-        && out.as_slice() == verdict.3
+        && out.as_slice() == want
 }
 
 /// Returns whether a session on an image does.
-fn begun_tells(alloc: Global, image: Image<'_>, verdict: &Verdict, out: &mut Vec<u8>) -> bool {
+fn begun_tells(
+    alloc: Global,
+    image: Image<'_>,
+    line: &[u8],
+    want: &[u8],
+    out: &mut Vec<u8>,
+) -> bool {
     match Session::begin(alloc, image, Vec::new(alloc), Vec::new(alloc)) {
-        Ok(mut session) => tells(&mut session, verdict, out),
+        Ok(mut session) => tells(&mut session, line, want, out),
         Err(_) => false,
     }
 }
 
 /// Returns the same for a new file.
-fn tells_anew(alloc: Global, verdict: &Verdict) -> Result<bool, AllocError> {
-    let file = program(alloc, verdict.1)?;
+fn tells_anew(alloc: Global, words: &[u32], line: &[u8], want: &[u8]) -> Result<bool, AllocError> {
+    let file = program(alloc, words)?;
     let mut out = Vec::new(alloc);
     match read(alloc, &file) {
-        Ok(image) => Ok(begun_tells(alloc, image, verdict, &mut out)),
+        Ok(image) => Ok(begun_tells(alloc, image, line, want, &mut out)),
         Err(_) => Ok(false),
     }
 }
 
 #[test]
 fn verdicts(rt: HostRuntime) {
-    for verdict in &VERDICTS {
+    for (label, words, line, want) in &VERDICTS {
         assert!(rt;
-            matches!(tells_anew(rt.alloc(), verdict), Ok(true)),
+            matches!(tells_anew(rt.alloc(), words, line, want), Ok(true)),
             "{}",
-            verdict.0
+            label
         );
     }
 }
