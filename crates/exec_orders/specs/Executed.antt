@@ -61,11 +61,11 @@ sight_in plan sc = sight_of plan.known (is_called sc)
 
 -- a heap whose errors can't be found is a failure, if that is asked for; it is said then, and otherwise unless only
 -- errors are asked for, as is a heap that is seen in part
-abbrev pub heap_fails : Plan → Scenario → Bool
-heap_fails plan sc = plan.requires_heap && is_unseen (sight_in plan sc)
+abbrev pub fails_at : Plan → Sight → Bool
+fails_at plan sight = plan.requires_heap && is_unseen sight
 
-abbrev pub heap_told : Plan → Scenario → Bool
-heap_told plan sc = heap_fails plan sc || (not plan.quiet && not (is_seen (sight_in plan sc)))
+abbrev pub told_at : Plan → Sight → Bool
+told_at plan sight = fails_at plan sight || (not plan.quiet && not (is_seen sight))
 
 -- how a run stands at its last step
 pub record IsOutcome (sc : Scenario) (plan : Plan) (outcome : Outcome) : Type 0 where
@@ -75,8 +75,8 @@ pub record IsOutcome (sc : Scenario) (plan : Plan) (outcome : Outcome) : Type 0 
   pub has_errors :
       HasFindings (chosen_state sc) sc.image sc.rules sc.options.callers (shown plan.count) outcome.has_errors
   pub lost : outcome.lost ≡ refused_at sc sc.step
-  pub heap_fails : outcome.heap_fails ≡ heap_fails plan sc
-  pub heap_told : outcome.heap_told ≡ heap_told plan sc
+  pub heap_fails : outcome.heap_fails ≡ fails_at plan (sight_in plan sc)
+  pub heap_told : outcome.heap_told ≡ told_at plan (sight_in plan sc)
 
 -- has the program stopped?
 abbrev pub is_stopped : Status → Bool

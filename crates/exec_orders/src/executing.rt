@@ -6,7 +6,7 @@ ghost use Rattle.scenario.specs.Edits.{shown};
 ghost use Rattle.scenario.specs.Scenario.{Scenario as TheScenario, chosen_state};
 ghost use Rattle.executions.specs.Executions.{step_of, IsAt, Wrote, WroteFront};
 ghost use Rattle.ends.specs.declared.exec_ends.ExecEnd.TheVariants.{Early};
-ghost use Rattle.exec_orders.specs.Executed.{Cuts, CutsOutput, Executes, Finishes, HasRun, HasRunAll, IsFault, IsOutcome, IsTold, Tells, end_of_fault, is_stopped, pipes, sight_in};
+ghost use Rattle.exec_orders.specs.Executed.{Cuts, CutsOutput, Executes, Finishes, HasRun, HasRunAll, IsFault, IsOutcome, IsTold, Tells, end_of_fault, fails_at, is_stopped, pipes, sight_in, told_at};
 
 use ends::{Codes, End, ExecEnd, Outcome};
 use executions::laws::moves_on;
@@ -129,6 +129,20 @@ fn sight_in(plan: Plan, machine: &Machine) -> Sight
     plan.known.sight(machine.heap_calls() > 0)
 }
 
+/// Returns whether a heap that is seen so is a failure.
+fn fails_at(plan: Plan, sight: Sight) -> bool
+    ensures { result ≡ fails_at plan.entry sight }
+{
+    plan.requires_heap && sight.is_unseen()
+}
+
+/// Returns whether it is said how the heap is seen.
+fn told_at(plan: Plan, sight: Sight) -> bool
+    ensures { result ≡ told_at plan.entry sight }
+{
+    fails_at(plan, sight) || (!plan.quiet && !sight.is_seen())
+}
+
 /// Returns how a run stands at its last step.
 fn outcome_of(
     alloc: Global,
@@ -144,15 +158,14 @@ fn outcome_of(
     let machine = execution.machine();
     let has_errors = finds(alloc, scenario, machine, &shown(plan.count))?;
     let sight = sight_in(plan, machine);
-    let heap_fails = plan.requires_heap && sight.is_unseen();
     Ok(Outcome {
         step: scenario.step(),
         status: machine.status(),
         idles: machine.is_idle(scenario.setup()),
         has_errors,
         lost: execution.refused(),
-        heap_fails,
-        heap_told: heap_fails || (!plan.quiet && !sight.is_seen()),
+        heap_fails: fails_at(plan, sight),
+        heap_told: told_at(plan, sight),
     })
 }
 
@@ -268,7 +281,7 @@ pub(crate) fn execute<'a, R: Read, W: Write, L: Write>(
     log: &mut L,
 ) -> ExecEnd<'a>
     requires marks { scenario.old.marks ≡ [] }
-    requires empty { plan.entry.waits ≡ true → scenario.old.setup.input ≡ [] }
+    requires empty { plan.waits ≡ true → scenario.old.setup.input ≡ [] }
     ensures { (opened : Option (Option (List ℕ))) → Executes plan.entry scenario.old
         (pipes (R.remaining reader.old) (W.contents writer.old) (L.contents log.old) opened)
         (pipes (R.remaining reader.new) (W.contents writer.new) (L.contents log.new) opened) result }

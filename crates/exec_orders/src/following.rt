@@ -91,7 +91,7 @@ fn open_and_execute<'a, R: Read, W: Write, L: Log>(
     log: &mut L,
 ) -> ExecEnd<'a>
     requires marks { scenario.old.marks ≡ [] }
-    requires empty { plan.entry.waits ≡ true → scenario.old.setup.input ≡ [] }
+    requires empty { plan.waits ≡ true → scenario.old.setup.input ≡ [] }
     requires unopened { L.place log.old ≡ None }
     ensures { WithScenario (λ place logged. (opened : L) × (L.place opened ≡ Some place) × (L.contents opened ≡ logged))
         plan.entry scenario.old

@@ -4,6 +4,7 @@ use Rattle.guest_machine.specs.Streams.{is_idle}
 use Rattle.guest_machine.specs.declared.machine.Machine.{Machine}
 use Rattle.scenario.specs.Scenario.{chosen_state}
 use Rattle.executions.specs.Executions.{machine_of, refused_at, state_at}
+use Rattle.exec_orders.specs.Executed.{fails_at, told_at}
 use Rattle.exec_orders.proofs.Runs.{chosen-is}
 use Rattle.exec_orders.proofs.Stages.{findings-of}
 use Rattle.exec_orders.proofs.executing.outcome_of.Goals as goal
@@ -23,6 +24,6 @@ returns c =
           _ refl
           refl refl c.shown.ensures (c.in_ok-has_errors.ensures shown);
       lost = c.refused.ensures ∙ c.requires.at.refused ∙ ap (refused_at sc) c.requires.last;
-      heap_fails = ?;
-      heap_told = ?;
+      heap_fails = c.fails_at.ensures ∙ ap (fails_at c.args.plan) (c.sight_in-sight.ensures sc shown);
+      heap_told = c.told_at.ensures ∙ ap (told_at c.args.plan) (c.sight_in-sight.ensures sc shown);
     }

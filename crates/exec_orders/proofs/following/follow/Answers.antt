@@ -1,10 +1,10 @@
-use Rattle.std.proofs.Common.{◌≡◌, ◌∙◌, ap, inl, inr, refl, subst, sym, List, ℕ}
+use Rattle.std.proofs.Common.{◌≡◌, ◌∙◌, ap, inl, inr, refl, subst, Some, Option, List, ℕ}
 use Rattle.ends.proofs.EndSteps.{same-error}
 use Rattle.ends.specs.declared.ends.End.TheVariants.{Image as Refused}
 use Rattle.ends.specs.declared.exec_ends.ExecEnd.TheVariants.{Early}
 use Rattle.file_heaps.specs.FileHeaps.{known_of, unknown_names}
 use Rattle.guest_elf.specs.Defined.{defined_in}
-use Rattle.exec_orders.specs.Executed.{WithScenario, names_in}
+use Rattle.exec_orders.specs.Executed.{Opening, WithScenario, names_in, pipes}
 use Rattle.exec_orders.specs.declared.executing.Plan.{Plan}
 use Rattle.exec_orders.proofs.Stages.{no-file, no-image, plan-is, untouched, waits-same, with-program}
 use Rattle.exec_orders.proofs.following.follow.Goals as goal
@@ -14,7 +14,7 @@ returns-in_err-show-clause-err g c =
     same-error c.from_residual.result c.in_err-show.field-0.0 _ c.from_residual.ensures.1 (λ names. inl (
       c.in_err-show.ensures.err,
       untouched (g.R.Read.remaining c.args.reader.now) (g.W.Write.contents c.args.writer.now)
-          (g.L.Write.contents c.args.log.now) (g.L.Log.place c.args.log.now) c.requires,
+          (g.L.Write.contents c.args.log.now) (g.L.Log.place c.args.log.now) c.requires.unopened,
     ))
 
 pub returns-in_err-profile-clause-err : goal.returns-in_err-profile-clause-err
@@ -30,7 +30,7 @@ returns-in_err-profile-clause-err g c =
         refl,
         inl c.in_err-profile.ensures.err,
         untouched (g.R.Read.remaining c.args.reader.now) (g.W.Write.contents c.args.writer.now)
-            (g.L.Write.contents c.args.log.now) (g.L.Log.place c.args.log.now) c.requires,
+            (g.L.Write.contents c.args.log.now) (g.L.Log.place c.args.log.now) c.requires.unopened,
       ),
     ))
 
@@ -48,7 +48,7 @@ returns-in_err-file-clause-err g c =
         no-file (g.F.Files.gives c.args.files.now) c.args.order.now.profile c.args.order.now.file.now
             c.in_ok-profile.profile c.in_err-file.field-0.0 c.in_ok-profile.ensures.ok c.in_err-file.ensures.err,
         untouched (g.R.Read.remaining c.args.reader.now) (g.W.Write.contents c.args.writer.now)
-            (g.L.Write.contents c.args.log.now) (g.L.Log.place c.args.log.now) c.requires,
+            (g.L.Write.contents c.args.log.now) (g.L.Log.place c.args.log.now) c.requires.unopened,
       ),
     ))
 
@@ -69,7 +69,7 @@ returns-in_err-image-clause-err g c =
             c.in_ok-file.ensures.ok c.deref.ensures.value c.in_err-image.ensures.refused
             c.in_err-image.ensures.least,
         untouched (g.R.Read.remaining c.args.reader.now) (g.W.Write.contents c.args.writer.now)
-            (g.L.Write.contents c.args.log.now) (g.L.Log.place c.args.log.now) c.requires,
+            (g.L.Write.contents c.args.log.now) (g.L.Log.place c.args.log.now) c.requires.unopened,
       ),
     ))
 
@@ -82,22 +82,26 @@ returns-in_default-clause-err g c = λ names. inr (
   inr (inl (
     refl,
     untouched (g.R.Read.remaining c.args.reader.now) (g.W.Write.contents c.args.writer.now)
-        (g.L.Write.contents c.args.log.now) (g.L.Log.place c.args.log.now) c.requires,
+        (g.L.Write.contents c.args.log.now) (g.L.Log.place c.args.log.now) c.requires.unopened,
   )),
 )
 
 pub returns-in_err-scenario-clause-err : goal.returns-in_err-scenario-clause-err
 returns-in_err-scenario-clause-err g c =
+    let same = pipes (g.R.Read.remaining c.args.reader.now) (g.W.Write.contents c.args.writer.now)
+    (g.L.Write.contents c.args.log.now) (g.L.Log.place c.args.log.now) in
     same-error c.from_residual-in_err-scenario.result c.in_err-scenario.field-0.0 _
     c.from_residual-in_err-scenario.ensures.1
-    (λ names. with-program (g.F.Files.gives c.args.files.now) _ c.args.order.now c.args.asked.now c.in_ok-show.show
-    c.in_ok-show.choices c.in_ok-profile.profile c.in_ok-file.file.items c.deref.result.now c.in_ok-image.image _ _
+    (λ names. with-program (g.F.Files.gives c.args.files.now)
+    (λ place logged. (opened : g.row.L.Denot) × (g.L.Log.place opened ≡ Some place)
+    × (g.L.Write.contents opened ≡ logged)) c.args.order.now c.args.asked.now c.in_ok-show.show
+    c.in_ok-show.choices c.in_ok-profile.profile c.in_ok-file.file.items c.deref.result.now c.in_ok-image.image same same
     c.in_err-scenario.field-0.0 names c.in_ok-show.ensures.ok c.in_ok-profile.ensures.ok c.in_ok-file.ensures.ok
     c.deref.ensures.value c.in_ok-image.ensures.image
     (inl (
       c.in_err-scenario.ensures.err,
       untouched (g.R.Read.remaining c.args.reader.now) (g.W.Write.contents c.args.writer.now)
-          (g.L.Write.contents c.args.log.now) (g.L.Log.place c.args.log.now) c.requires,
+          (g.L.Write.contents c.args.log.now) (g.L.Log.place c.args.log.now) c.requires.unopened,
     )))
 
 pub returns-clause-ok : goal.returns-clause-ok
@@ -110,15 +114,22 @@ returns-clause-ok g c =
     let names : c.in-Ok.heap.names.items ≡ unknown_names symbols except = c.in-Ok.ensures.names
     ∙ ap (λ bytes. unknown_names (defined_in bytes) c.names_in.result.now) read
     ∙ ap (unknown_names symbols) c.names_in.ensures in
-    with-program (g.F.Files.gives c.args.files.now) _ c.args.order.now c.args.asked.now c.in_ok-show.show
-    c.in_ok-show.choices c.in_ok-profile.profile c.in_ok-file.file.items c.deref.result.now c.in_ok-image.image _ _
-    c.open_and_execute-end.result _ c.in_ok-show.ensures.ok c.in_ok-profile.ensures.ok c.in_ok-file.ensures.ok
-    c.deref.ensures.value c.in_ok-image.ensures.image
+    let opens : Opening = λ place logged. (opened : g.row.L.Denot) × (g.L.Log.place opened ≡ Some place)
+    × (g.L.Write.contents opened ≡ logged) in
+    let old = pipes (g.R.Read.remaining c.args.reader.now) (g.W.Write.contents c.args.writer.now)
+    (g.L.Write.contents c.args.log.now) (g.L.Log.place c.args.log.now) in
+    let new = pipes (g.R.Read.remaining c.open_and_execute-end.new.reader)
+    (g.W.Write.contents c.open_and_execute-end.new.writer) (g.L.Write.contents c.open_and_execute-end.new.log)
+    (g.L.Log.place c.open_and_execute-end.new.log) in
+    with-program (g.F.Files.gives c.args.files.now) opens c.args.order.now c.args.asked.now c.in_ok-show.show
+    c.in_ok-show.choices c.in_ok-profile.profile c.in_ok-file.file.items c.deref.result.now c.in_ok-image.image old new
+    c.open_and_execute-end.result c.in-Ok.heap.names.items c.in_ok-show.ensures.ok c.in_ok-profile.ensures.ok
+    c.in_ok-file.ensures.ok c.deref.ensures.value c.in_ok-image.ensures.image
     (inr (
       c.in_ok-scenario.scenario,
       c.in_ok-scenario.ensures.ok,
       names,
-      subst (λ (plan : Plan). WithScenario _ plan c.in_ok-scenario.scenario _ _ c.open_and_execute-end.result)
+      subst (λ (plan : Plan). WithScenario opens plan c.in_ok-scenario.scenario old new c.open_and_execute-end.result)
           (plan-is c.args.order.now c.args.asked.now c.in_ok-show.show c.in_ok-show.choices c.is_none-waits.result
           c.in-Ok.heap.known symbols c.in_ok-show.ensures.ok
           (waits-same c.is_none-waits.result c.args.order.now.input c.is_none-waits.ensures) known)

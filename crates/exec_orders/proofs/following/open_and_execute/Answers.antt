@@ -6,7 +6,7 @@ pub returns : goal.returns
 returns g c =
     inr (
       g.L.Write.contents c.open.new.self,
-      (c.open.new.self, ?, refl),
+      (c.open.new.self, c.open.ensures.opened c.if-not-open.false, refl),
       c.open.ensures.contents,
       c.execute.ensures (Some (path_of c.args.plan.place)),
     )
