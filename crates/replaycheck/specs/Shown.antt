@@ -5,8 +5,8 @@ use Rattle.clap.specs.declared.error.kind.ErrorKind.{ErrorKind}
 use Rattle.clap.specs.declared.error.kind.ErrorKind.TheVariants.{DisplayHelp, DisplayVersion, OutOfMemory}
 use Rattle.ends.specs.declared.ends.End.{End}
 use Rattle.ends.specs.declared.ends.End.TheVariants.{Done, CannotWrite, Usage, NoMemory}
-use Rattle.replaycheck.specs.declared.main.Opened.{Opened}
-use Rattle.replaycheck.specs.declared.main.Opened.TheVariants.{Nothing, StandardError, Named}
+use Rattle.replaycheck.specs.declared.Opened.{Opened}
+use Rattle.replaycheck.specs.declared.Opened.TheVariants.{Nothing, StandardError, Named}
 
 -- by the kind of the parser's result, and whether its text was printed: help and the version are done, or can't be
 -- written; everything else, except that memory runs out, is a fault of the command line
