@@ -36,6 +36,12 @@ SOURCES = {
     "rests": f"{SAY} csrr a0, mcycle; again: j again",
     "hangs": f"{SAY} again: nop; j again",
     "idles": f"{SAY} again: j again",
+    # What an emulator ends with a signal, or prints elsewhere, and passes here.
+    "writes-code": f"{SAY} li t0, {ENTRY}; sw zero, 0(t0); {END}",
+    "says-on-2": f"{SAY} li a0, 2; li a7, 64; ecall; {END}",
+    "writes-much": f"li s0, 3; li a7, 64; li a0, 1; li a1, {DATA}; li a2, 2047; add a2, a2, a2; add a2, a2, s0; ecall; {END}",
+    "calls-unknown": f"{SAY} li a7, 66; ecall; {END}",
+    "recurses": f"{SAY} again: addi sp, sp, -256; sw ra, 0(sp); jal ra, again",
     "rests-badly": f"{SAY} sw zero, 0(zero); again: j again",
     "loud": f"li s0, 17; again: li a7, 64; li a0, 1; li a1, {DATA}; li a2, 2048; li a3, 2048; add a2, a2, a3; ecall; addi s0, s0, -1; "
             f"bne s0, zero, again; {END}",

@@ -216,6 +216,14 @@ OPTIONS = [
     Row("badly quoted options of the environment", ["says.elf"], 125, "", ["REPLAYCHECK_OPTS: No closing quotation\n"],
         more={"REPLAYCHECK_OPTS": "'-q"}),
 ]
+# What the manual says that passes here and fails elsewhere.
+ELSEWHERE = [
+    Row("a write to code passes", [*QUIET, "writes-code.elf"], 0),
+    Row("descriptor 2 comes out on standard output", [*QUIET, "says-on-2.elf"], 0, "hi\nhi\n"),
+    Row("one write moves 4,096 bytes", [*QUIET, "writes-much.elf"], 0, "hi\n" + "\0" * 4093),
+    Row("a call that isn't known has no line", [*QUIET, "calls-unknown.elf"], 0),
+    Row("endless recursion runs to the last step", [*QUIET, "--step=5000", "recurses.elf"], 124, said=["still running at step 5000\n"]),
+]
 BEFORE = [
     Row("an emulator before the file", [*QUIET, "/usr/bin/qemu-riscv32", "writes-badly.elf"], 9, said=["Invalid write"]),
     Row("an emulator's options", [*QUIET, "qemu-riscv32", "-cpu", "rv32", "says.elf"], 125, "",
@@ -237,4 +245,4 @@ BEFORE = [
         ["replaycheck exec: cannot read none.elf: No such file or directory\n"]),
 ]
 PATHS = [(QUIET, "quiet"), ([*QUIET, "--tool=memcheck"], "by Python")]
-ROWS = [*(row for path in PATHS for row in [*statuses(*path), *heaps(*path), *regions(*path)]), *OPTIONS, *PUBLISHED, *BEFORE]
+ROWS = [*(row for path in PATHS for row in [*statuses(*path), *heaps(*path), *regions(*path)]), *OPTIONS, *ELSEWHERE, *PUBLISHED, *BEFORE]
