@@ -129,12 +129,12 @@ const QUIET: Case = Case {
     report: b"",
 };
 
-/// Whether the place that is open is the one that a case asks for; none is where it can't be opened.
+/// Whether the place that is open is the one that a case asks for. None is where `exec` fails before the run.
 fn is_place(opened: &Option<Option<String>>, case: &Case) -> bool {
     match (opened, case.asked.report) {
         (Some(Some(path)), Some(asked)) => path.as_str() == asked,
         (Some(None), None) => true,
-        (None, _) => !case.rooms.opens,
+        (None, _) => case.status == 125,
         _ => false,
     }
 }
