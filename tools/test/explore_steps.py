@@ -121,7 +121,8 @@ def test_parts(tests):
     for count in (1, 2, 6):
         (tests.room / "logged").write_text("")
         out = tests.run([*words, f"--parts={count}", "--table=-"], REPLAYCHECK=str(log))[1]
-        calls = (tests.room / "logged").read_text().splitlines()
+        # But for the question whether the heap is seen.
+        calls = [it for it in (tests.room / "logged").read_text().splitlines() if not it.startswith("exec ")]
         tests.check(f"step of parts: {count}", out.encode() != whole)
         others = [it for it in calls if not it.startswith(f"sweep --step={step} ")]
         tests.check(f"step of parts: {count}, one look", len(calls) != count + 1 or len(others) != 1 or not others[0].startswith("look "))

@@ -14,6 +14,8 @@ class Child:
     """A process that `endings.end_children` can end. What it says on standard error goes to a file, so that it never waits for a reader."""
 
     stdin = stdout = stderr = None
+    # Whether this process has killed it outright.
+    is_killed = False
 
     def __init__(self, words, pipes, lends):
         """Starts it with three descriptors for its standard streams. Those that it is lent keep their numbers."""
@@ -21,7 +23,7 @@ class Child:
             os.set_inheritable(number, True)
         actions = [(os.POSIX_SPAWN_DUP2, number, place) for place, number in enumerate(pipes)]
         reset = [signal.SIGPIPE, signal.SIGXFSZ]
-        self.status, self.is_killed = None, False
+        self.status = None
         self.pid = os.posix_spawnp(words[0], words, os.environ, file_actions=actions, setsigdef=reset)
 
     def terminate(self):

@@ -95,8 +95,8 @@ returns-in_err-scenario-clause-err g c =
     (λ names. with-program (g.F.Files.gives c.args.files.now)
     (λ place logged. (opened : g.row.L.Denot) × (g.L.Log.place opened ≡ Some place)
     × (g.L.Write.contents opened ≡ logged)) c.args.order.now c.args.asked.now c.in_ok-show.show
-    c.in_ok-show.choices c.in_ok-profile.profile c.in_ok-file.file.items c.deref.result.now c.in_ok-image.image same same
-    c.in_err-scenario.field-0.0 names c.in_ok-show.ensures.ok c.in_ok-profile.ensures.ok c.in_ok-file.ensures.ok
+    c.in_ok-show.choices c.in_ok-profile.profile c.in_ok-file.file.items c.deref.result.now c.in_ok-image.image same
+    same c.in_err-scenario.field-0.0 names c.in_ok-show.ensures.ok c.in_ok-profile.ensures.ok c.in_ok-file.ensures.ok
     c.deref.ensures.value c.in_ok-image.ensures.image
     (inl (
       c.in_err-scenario.ensures.err,
