@@ -160,6 +160,8 @@ OPTIONS = [
         said=["of signal 5 (SIGTRAP)", "certify: clean to step"]),
     Row("-v says it with regions", ["-q", "-v", *REGIONS, "--input=hi.txt", "placed.elf"], 7, "",
         ["==  Address 0x90000018 is", "certify: not clean: first use at step 2"]),
+    Row("-v says it of the patched run", ["-q", "-v", "--input=hi.txt", "--patch=0x00010018=0x00002283", "says.elf"], 3,
+        said=["Invalid read of size 4", "certify: not clean: first use at step 6: "]),
     Row("the last --heap-region holds", [*QUIET, "--heap-region=0x30000000", *REGIONS, "placed.elf"], 9, "", ["Address 0x90000018 is"]),
     Row("the last --isa holds", ["-q", "--isa=rv32im", "--isa=rv32imc", "half.elf"], 133, said=["of signal 5 (SIGTRAP)"]),
     Row("-v says what certify says", ["-q", "-v", "reads.elf"], 0, "abc", ["certify: not asked: the run read standard input"], b"abc"),
