@@ -8,6 +8,7 @@ from typing import Dict, Iterable, Iterator, List, Optional, Set, Tuple
 
 from replaycheck.adopting.instructions import may_jump
 from replaycheck.endings import Fault
+from replaycheck.line_table import LineTable  # before a child runs: a signal within an import can get lost
 from replaycheck.places import Place, Places
 
 from .code import Code, Instruction
@@ -80,7 +81,8 @@ class Covered:
         self.by_name: Dict[str, SourceFile] = {}
         self.code, self.executed, self.paths = code, sides.all(), places.paths
         self.outer, self.begins, self.unnamed = None, {it.value for it in code.elf.functions}, []
-        self.blocks, self.table, self.placeless = blocks_of(code, self.executed), places.table, 0
+        self.table: LineTable = places.table
+        self.blocks, self.placeless = blocks_of(code, self.executed), 0
         for some in in_parts(code.instructions(list(self.executed)), AT_ONCE):
             places.learn(hexadecimal(it.address) for it in some)
             for it in some:
