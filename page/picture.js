@@ -24,8 +24,8 @@ const within = (at, count) => Math.max(0, Math.min(count - 1, at));
 
 export class Picture {
   // `make` makes an edit: a kind, a place and a value; `otherRun` tells which run the picture is of, where another one is shown; `ends`
-  // gives where the bytes begin and end, in pixels from the left, if there is this number of them and they are in one row; `pointed` takes the
-  // byte that one points at.
+  // gives where the bytes begin and end, in pixels from the left, if there is this number of them and they are in one row; `pointed` takes
+  // the byte that one points at.
   constructor({ make, otherRun, ends, pointed }) {
     Object.assign(this, { make, otherRun, ends, pointed, canvas: $('picture') });
     this.legend = new Legend({ make, changed: () => this.draw() });

@@ -47,7 +47,8 @@ export class Registers {
   update(number) {
     const { value, undef } = this.seen.registers[number], button = this.buttons[number];
     const isChanged = this.changed.has(number), isPicked = number === this.picked;
-    const known = undef ? `, undefined bits ${hexWord(undef)}` : '', since = isChanged ? `, changed since step ${grouped(this.step - 1)}` : '';
+    const known = undef ? `, undefined bits ${hexWord(undef)}` : '';
+    const since = isChanged ? `, changed since step ${grouped(this.step - 1)}` : '';
     const told = `${REGISTERS[number]}: ${hexWord(value)}${known}${since}`;
     if (button.title !== told) {
       Object.assign(button, { title: told, ariaLabel: told });

@@ -15,7 +15,8 @@ import { View } from './view.js';
 const MOST_ROWS = [12, 7], LEAST_ROWS = 3;  // rows of one run, and of each of two
 const ZOOM = 2, PAGE = 0.8;  // what a key or a button zooms by; the part of the steps in view by which a key pages
 const LOOK_AFTER = 150;  // milliseconds after which a stretch that comes into view is read
-const HINT = matchMedia('(pointer: coarse)').matches ? 'Tap a call or a mark: it is named, and its step is shown. Two fingers zoom, one moves.'
+const HINT = matchMedia('(pointer: coarse)').matches
+  ? 'Tap a call or a mark: it is named, and its step is shown. Two fingers zoom, one moves.'
   : 'Point, or press arrow keys; a click or Enter goes to the step. Ctrl and the wheel zoom, a drag moves.';
 const NAMES = ['unedited', 'edited'];
 const DARK = matchMedia('(prefers-color-scheme: dark)');
@@ -181,7 +182,8 @@ export class Strip {
     this.top = Math.max(0, Math.min(this.deepest + 1 - this.rows, this.top));
     const tall = heightOf(count, this.rows);
     if (canvas.style.height !== `${tall}px`) canvas.style.height = `${tall}px`;
-    drawing.begin({ wide: canvas.getBoundingClientRect().width, tall, view, rows: this.rows, top: Math.round(this.top), isDark: DARK.matches });
+    const wide = canvas.getBoundingClientRect().width;
+    drawing.begin({ wide, tall, view, rows: this.rows, top: Math.round(this.top), isDark: DARK.matches });
     runs.forEach((it, i) => drawing.run(i, it, count > 1 ? NAMES[i] : ''));
     drawing.axis();
     if (this.parting && this.parting.step !== null) drawing.line(this.parting.step, 'open', [5, 3]);

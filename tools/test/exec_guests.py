@@ -36,12 +36,32 @@ SOURCES = {
     "rests": f"{SAY} csrr a0, mcycle; again: j again",
     "hangs": f"{SAY} again: nop; j again",
     "idles": f"{SAY} again: j again",
-    # What an emulator ends with a signal, or prints elsewhere, and passes here.
+    # What an emulator ends with a signal, and passes here.
     "writes-code": f"{SAY} li t0, {ENTRY}; sw zero, 0(t0); {END}",
     "says-on-2": f"{SAY} li a0, 2; li a7, 64; ecall; {END}",
+    # A line on 2 that isn't ended, and an error after it.
+    "says-half-on-2": f"{SAY} li a0, 2; li a2, 2; li a7, 64; ecall; sw zero, 0(zero); {END}",
+    "hangs-after-half": f"{SAY} li a0, 2; li a2, 2; li a7, 64; ecall; again: nop; j again",
+    "says-in-turn": "".join(f"li a7, 64; li a0, {it}; li a1, {DATA}; li a2, {long}; ecall;"
+                            for it, long in ((1, 3), (2, 2), (1, 1), (2, 3))) + END,
+    # 4,097 bytes by one call; all that may be accessed, by a count of 2^32 - 1; and as much of the input.
     "writes-much": f"li s0, 3; li a7, 64; li a0, 1; li a1, {DATA}; li a2, 2047; add a2, a2, a2; add a2, a2, s0; ecall; {END}",
+    "writes-all": f"li a7, 64; li a0, 1; li a1, {DATA}; li a2, -1; ecall; {END}",
+    "reads-all": f"li a7, 63; li a0, 0; li a1, {DATA}; li a2, -1; ecall; mv a2, a0; li a7, 64; li a0, 1; ecall; {END}",
+    # A buffer of which only four bytes may be accessed.
+    "writes-past": f"li a7, 64; li a0, 1; li a1, {ENTRY + 0x1FFC}; li a2, -1; ecall; {END}",
     "calls-unknown": f"{SAY} li a7, 66; ecall; {END}",
+    "calls-unknowns": f"{SAY} li a7, 66; ecall; li a7, 222; ecall; li a7, 66; ecall; {END}",
+    # The stack pointer is put below the stack's region: by 16 MiB, by 64 and by 64 MiB and a page; by 16 MiB with undefined bits; and by
+    # 1 MiB below a region from 0x70000000 on.
+    "falls": "lui sp, 0x7e000; again: addi a0, a0, 1; j again",
+    "falls-just": "lui sp, 0x7b000; again: addi a0, a0, 1; j again",
+    "falls-far": "lui sp, 0x7afff; again: addi a0, a0, 1; j again",
+    "falls-undefined": "addi sp, sp, -64; lw t0, 0(sp); lui sp, 0x7e000; or sp, sp, t0; again: addi a0, a0, 1; j again",
+    "falls-elsewhere": "lui sp, 0x6ff00; again: addi a0, a0, 1; j again",
     "recurses": f"{SAY} again: addi sp, sp, -256; sw ra, 0(sp); jal ra, again",
+    # Its stack is in its own memory, and grows below the usual region's begin.
+    "own-stack": f"{SAY} li sp, {DATA + 0x400}; again: nop; j again",
     "rests-badly": f"{SAY} sw zero, 0(zero); again: j again",
     "loud": f"li s0, 17; again: li a7, 64; li a0, 1; li a1, {DATA}; li a2, 2048; li a3, 2048; add a2, a2, a3; ecall; addi s0, s0, -1; "
             f"bne s0, zero, again; {END}",

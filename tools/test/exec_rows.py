@@ -20,6 +20,9 @@ class Row(NamedTuple):
     more: dict[str, str] = {}
 
 
+LOUD = "hi\n" + "\0" * 4093
+
+
 def statuses(first: list[str], kind: str) -> list[Row]:
     """Statuses, by the quiet path without Python and by the one with it."""
     return [
@@ -52,7 +55,42 @@ def statuses(first: list[str], kind: str) -> list[Row]:
         Row(f"{kind}: it may idle", [*first, "--idle-exitcode=0", "idles.elf"], 0),
         Row(f"{kind}: input", [*first, "reads.elf"], 0, "abc", given=b"abc"),
         Row(f"{kind}: input by --input", [*first, "--input", "hi.txt", "says-and-reads.elf"], 0, "hi\nhi\n"),
-        Row(f"{kind}: too much output", [*first, "loud.elf"], 123, ("hi\n" + "\0" * 4093) * 16, ["writes refused: 1\n"]),
+        Row(f"{kind}: much output", [*first, "loud.elf"], 0, LOUD * 17),
+        Row(f"{kind}: too much output", [*first, "--most-output=65536", "loud.elf"], 123, LOUD * 16,
+            ["65536 bytes of output are all there is room for (--most-output); writes refused: 1\n"]),
+        Row(f"{kind}: no room at all", [*first, "--most-output", "0", "says.elf"], 123, "", ["replaycheck exec: 0 bytes of output are"]),
+        Row(f"{kind}: a number of bytes that isn't one", [*first, "--most-output=-1", "says.elf"], 125, "", ["--most-output"]),
+        Row(f"{kind}: no byte moved", [*first, "--most-moved=0", "says.elf"], 125, "", ["--most-moved"]),
+        Row(f"{kind}: one byte a call", [*first, "--most-moved=1", "says.elf"], 0, "h"),
+        Row(f"{kind}: standard error", [*first, "says-on-2.elf"], 0, said=["hi\n"]),
+        Row(f"{kind}: both in turn", [*first, "says-in-turn.elf"], 0, "hi\nh", ["hihi\n"]),
+        Row(f"{kind}: the log begins a line", [*first, "says-half-on-2.elf"], 9, said=["hi\n==", "Invalid write"]),
+        Row(f"{kind}: and so does what is said of a hang", [*first, "--step=5000", "hangs-after-half.elf"], 124,
+            said=["hi\nreplaycheck exec: still running"]),
+        Row(f"{kind}: a log in a file leaves it", [*first, "--report=half.report", "says-half-on-2.elf"], 9, said=["hi"]),
+        Row(f"{kind}: one write moves all", [*first, "writes-much.elf"], 0, "hi\n" + "\0" * 4094),
+        Row(f"{kind}: one write of 2^32 - 1 bytes", [*first, "writes-all.elf"], 0, "hi\n" + "\0" * 7165),
+        Row(f"{kind}: one read of 2^32 - 1 bytes", [*first, "reads-all.elf"], 0, "x" * 5000, given=b"x" * 5000),
+        Row(f"{kind}: the first 4,096 are moved in any case", [*first, "writes-past.elf"], 9, "\0" * 4096,
+            ["Syscall param write(buf) points to unaddressable byte(s)"]),
+        Row(f"{kind}: an unknown call", [*first, "calls-unknown.elf"], 0, said=["replaycheck: call 66 isn't known (1 time)\n"]),
+        Row(f"{kind}: unknown calls", [*first, "calls-unknowns.elf"], 0,
+            said=["replaycheck: call 66 isn't known (2 times)\nreplaycheck: call 222 isn't known (1 time)\n"]),
+        Row(f"{kind}: endless recursion", [*first, "recurses.elf"], 139,
+            said=["replaycheck exec: Stack overflow in thread #1: can't grow stack to 0x"]),
+        Row(f"{kind}: too much memory", [*first, "--memory-limit=1", "recurses.elf"], 122,
+            said=["replaycheck exec: more than 1 MiB of memory are needed at step 65536 (--memory-limit)\n"]),
+        Row(f"{kind}: no limit of memory", [*first, "--memory-limit=0", "recurses.elf"], 139, said=["Stack overflow"]),
+        Row(f"{kind}: a stack pointer below", [*first, "--step=140000", "falls.elf"], 139, "", ["can't grow stack to 0x7e000000\n"]),
+        Row(f"{kind}: one step before it is looked at", [*first, "--step=65535", "falls.elf"], 124, "", ["at step 65535\n"]),
+        Row(f"{kind}: a stack pointer 64 MiB below", [*first, "--step=140000", "falls-just.elf"], 139, "", ["stack to 0x7b000000\n"]),
+        Row(f"{kind}: one further below", [*first, "--step=140000", "falls-far.elf"], 124, "", ["at step 140000\n"]),
+        Row(f"{kind}: one with undefined bits", [*first, "--step=140000", "falls-undefined.elf"], 124, "", ["at step 140000\n"]),
+        Row(f"{kind}: one in the heap's region", [*first, "--step=140000", "--stack-region=0x70000000..0x70100000",
+            "--heap-region=0x50000000", "falls-elsewhere.elf"], 124, "", ["at step 140000\n"]),
+        Row(f"{kind}: the same below another heap", [*first, "--step=140000", "--stack-region=0x70000000..0x70100000",
+            "--heap-region=0x20000000", "falls-elsewhere.elf"], 139, "", ["stack to 0x6ff00000\n"]),
+        Row(f"{kind}: a stack of its own", [*first, "--step=200000", "own-stack.elf"], 124, said=["still running at step 200000\n"]),
         Row(f"{kind}: no such file", [*first, "none.elf"], 127, "",
             ["cannot read none.elf\n", "replaycheck exec: none.elf: No such file or directory\n"]),
         Row(f"{kind}: no program", [*first, "hi.txt"], 126, "", ["image refused 20\n", "replaycheck exec: hi.txt: no ELF file\n"]),
@@ -115,14 +153,15 @@ def published(name: str, rows: list[tuple[str, list[str], int, list[str]]]) -> l
             for label, words, status, said in rows]
 
 
-OUTPUT = {"loud.elf": ("hi\n" + "\0" * 4093) * 16}
+OUTPUT = {"loud.elf": LOUD * 16}
 JUNIT, SARIF, FAILED = 'tests="1" failures="{}" errors="{}" skipped="0"', '"executionSuccessful": {}, "exitCode": {}', "exit status 3"
 CASE = ['name="exit status {0}">\n', '<failure type="Status" message="exit status {0}{1}">exit status {0}{1}</failure>']
 IDLE, UNLISTED = ["--step=5000", "--idle-exitcode={}", "idles.elf"], ["--show-leak-kinds=none", "leaks.elf"]
 PUBLISHED = [
     *published("junit", [
         ("a failed test", ["fails.elf"], 3, [JUNIT.format(1, 0), *(it.format(3, "") for it in CASE)]),
-        ("lost output", ["loud.elf"], 123, [JUNIT.format(1, 0), *(it.format(123, ": output was lost") for it in CASE)]),
+        ("lost output", ["--most-output=65536", "loud.elf"], 123,
+         [JUNIT.format(1, 0), *(it.format(123, ": output was lost") for it in CASE)]),
         ("a rest that passes", [*IDLE[:1], IDLE[1].format(0), IDLE[2]], 0, [JUNIT.format(0, 0), 'name="no error and no leak"/>']),
         ("a rest that fails", [*IDLE[:1], IDLE[1].format(3), IDLE[2]], 3, [JUNIT.format(1, 0), CASE[0].format(3)]),
         ("it hangs", ["--step=5000", "hangs.elf"], 124, [JUNIT.format(0, 1), '<error type="Running"']),
@@ -221,10 +260,8 @@ OPTIONS = [
 # What the manual says that passes here and fails elsewhere.
 ELSEWHERE = [
     Row("a write to code passes", [*QUIET, "writes-code.elf"], 0),
-    Row("descriptor 2 comes out on standard output", [*QUIET, "says-on-2.elf"], 0, "hi\nhi\n"),
-    Row("one write moves 4,096 bytes", [*QUIET, "writes-much.elf"], 0, "hi\n" + "\0" * 4093),
-    Row("a call that isn't known has no line", [*QUIET, "calls-unknown.elf"], 0),
-    Row("endless recursion runs to the last step", [*QUIET, "--step=5000", "recurses.elf"], 124, said=["still running at step 5000\n"]),
+    Row("a call that isn't known", [*QUIET, "calls-unknown.elf"], 0, said=["replaycheck: call 66 isn't known (1 time)\n"]),
+    Row("bytes that may not be accessed are written", ["-q", "writes-past.elf"], 0, "\0" * 4096, ["Syscall param write(buf)"]),
 ]
 BEFORE = [
     Row("an emulator before the file", [*QUIET, "/usr/bin/qemu-riscv32", "writes-badly.elf"], 9, said=["Invalid write"]),

@@ -153,7 +153,8 @@ def regions_kept(bench):
 
 # What is typed in the fields, and what is said of it: of the heap, and of the stack.
 WRONG = [
-    ("no multiple", "0x90000100", "", "“0x90000100” isn’t where a heap can begin: that is a multiple of 0x10000000 from 0x10000000 to 0xd"),
+    ("no multiple", "0x90000100", "",
+     "“0x90000100” isn’t where a heap can begin: that is a multiple of 0x10000000 from 0x10000000 to 0xd"),
     ("too high", "0xe0000000", "", "“0xe0000000” isn’t where a heap"), ("zero", "0", "", "“0” isn’t where a heap"),
     ("no number", "<b>x</b>", "", "“<b>x</b>” isn’t where a heap"),
     ("one end", "", "0x3fc81000", "“0x3fc81000” isn’t where a stack can be: that is A..B, multiples of 4096 at least 65536 apart."),

@@ -24,9 +24,8 @@ const FUNCTIONS: [Function; 4] = [Function::Malloc, Function::Free, Function::Ca
 const NO_SUCH_CALL: u32 = 38u32.wrapping_neg();
 const NO_ROOM: u32 = 28u32.wrapping_neg();
 const BAD_DESCRIPTOR: u32 = 9u32.wrapping_neg();
-/// The most bytes that one call moves, and that a program writes in all.
-const MOST_MOVED: u32 = 4096;
-const MOST_WRITTEN: u32 = 65536;
+/// How many bytes a call moves even if they may not be accessed.
+const ALWAYS_MOVED: u32 = 4096;
 
 impl Machine {
     fn argument(&self, r: u32) -> u32 {
@@ -69,9 +68,11 @@ impl Machine {
         false
     }
 
-    /// How many bytes a call may move.
+    /// How many bytes a call may move: those beyond the first 4,096 only up to the first that may not be accessed.
     fn moved(&self) -> u32 {
-        self.argument(A2).min(MOST_MOVED)
+        let (start, asked) = (self.argument(A1), self.argument(A2).min(self.limits.moved));
+        let is_bad = |i: &u32| self.memory.load::<1>(start.wrapping_add(*i)).bad.is_some();
+        (0..asked).find(is_bad).unwrap_or(asked).max(asked.min(ALWAYS_MOVED))
     }
 
     /// How many bytes `read` gives, by its count and by what is left of the input.
@@ -81,7 +82,7 @@ impl Machine {
 
     /// Whether there is room for so many bytes of output.
     fn has_room(&self, count: u32) -> bool {
-        self.output + count <= MOST_WRITTEN
+        self.output + u64::from(count) <= self.limits.output
     }
 
     /// What ECALL does with memory if it is `read` of the input, or a `write` that finds room: where, and with how many bytes.
@@ -135,7 +136,12 @@ impl Machine {
             let wrong = if loaded.bad.is_some() { Wrong::Inaccessible } else { Wrong::Undefined };
             self.raise_at(Kind::Parameter("write(buf)", wrong), addr);
         }
-        self.output += count;
+        if self.said.is_some() {
+            let bytes: Vec<u8> = self.buffer().map(|addr| self.memory.load::<1>(addr).value as u8).collect();
+            let descriptor = self.argument(A0) as usize;
+            self.said.iter_mut().for_each(|said| said[descriptor - 1].extend(&bytes));
+        }
+        self.output += u64::from(count);
         self.answer(count);
     }
 

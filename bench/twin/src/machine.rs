@@ -9,7 +9,7 @@ use crate::heap::Heap;
 use crate::isa::{HALF, Isa, WORD};
 use crate::looks::Access;
 use crate::memory::{Loaded, Memory, RangeKind};
-use crate::regions::Regions;
+use crate::regions::{Limits, Regions};
 use crate::short::{expand, is_long};
 use crate::stack::Stack;
 use std::collections::BTreeMap;
@@ -52,8 +52,11 @@ pub struct Machine {
     pub input: Rc<[u8]>,
     /// How many bytes of the input it has read.
     pub position: usize,
-    /// How many bytes it has written.
-    pub output: u32,
+    /// How many bytes it has written, and those to descriptors 1 and 2, where they are kept.
+    pub output: u64,
+    pub said: Option<[Vec<u8>; 2]>,
+    /// How many bytes its calls move.
+    pub limits: Limits,
     /// How many heap calls it has made.
     pub heap_calls: u64,
     /// Where wanted, the bytes that steps read and write beside taking words, in the order of the accesses: the first and how many.
@@ -223,6 +226,8 @@ impl Machine {
             input,
             position: 0,
             output: 0,
+            said: None,
+            limits: image.regions.limits,
             heap_calls: 0,
             accesses: None,
             reserved: None,
@@ -248,7 +253,8 @@ impl Machine {
         self.stack_pointers = other.stack_pointers;
         self.heap.clone_from(&other.heap);
         self.errors.clone_from(&other.errors);
-        (self.position, self.output) = (other.position, other.output);
+        (self.position, self.output, self.limits) = (other.position, other.output, other.limits);
+        self.said.clone_from(&other.said);
         (self.isa, self.reserved, self.steps) = (other.isa, other.reserved, other.steps);
         self.controls.clone_from(&other.controls);
     }

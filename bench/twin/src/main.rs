@@ -92,6 +92,9 @@ fn main() {
         (3 | 4, None, Some(steps)) if words[0] == "summary" => {
             with_files(&setup, &words[2..], |image, input| summarize(setup.isa, steps, image, input));
         }
+        (3 | 4, None, Some(steps)) if words[0] == "streams" => {
+            with_files(&setup, &words[2..], |image, input| tell_streams(setup.isa, steps, &image, input));
+        }
         (3 | 4, None, Some(steps)) if words[0] == "errors" => {
             with_files(&setup, &words[2..], |image, input| tell(setup.isa, steps, &image, input));
         }
@@ -102,10 +105,11 @@ fn main() {
         },
         _ => println!(
             "usage: twin STEPS | twin STEPS MEMORY FILE | twin looks MEMORY FILE | twin clean STEPS MEMORY FILE \
-             | twin session PROGRAM [INPUT] | twin summary STEPS PROGRAM [INPUT] | twin errors STEPS PROGRAM [INPUT] | twin halves \
+             | twin session PROGRAM [INPUT] | twin summary STEPS PROGRAM [INPUT] | twin errors STEPS PROGRAM [INPUT] \
+             | twin streams STEPS PROGRAM [INPUT] | twin halves \
              | twin sweep PROGRAM --at A..B --faults LIST [--code-range LO..HI] [--pairs skip] \
              [--step N] [--input F] [--supp F] [--with-output] [--part I/N]; each with [--isa rv32im|rv32imc|rv32imac] \
-             [--heap-region BEGIN] [--stack-region A..B]"
+             [--heap-region BEGIN] [--stack-region A..B] [--most-moved N] [--most-output N|none]"
         ),
     }
 }
@@ -137,7 +141,9 @@ fn take_setup(words: &mut Vec<String>) -> Result<Setup, String> {
     let isa = take(words, "isa")?.map_or(Some(Isa::Rv32im), |name| Isa::of(&name));
     let isa = isa.ok_or("--isa is rv32im, rv32imc or rv32imac")?;
     let [heap, stack] = regions::OPTIONS.map(|name| take(words, name));
-    Ok(Setup { isa, regions: Regions::of(heap?.as_deref(), stack?.as_deref())? })
+    let [moved, output] = regions::LIMITS.map(|name| take(words, name));
+    let regions = Regions::of(heap?.as_deref(), stack?.as_deref())?.limited(moved?.as_deref(), output?.as_deref())?;
+    Ok(Setup { isa, regions })
 }
 
 /// Writes the table of a sweep, and answers the exit status.
@@ -202,6 +208,18 @@ fn tell(isa: Isa, steps: u64, image: &Image, input: Vec<u8>) {
     for ((kind, pc), (count, address)) in machine.errors.by_place() {
         let address = address.map_or("-".to_string(), |address| format!("{address:#010x}"));
         println!("{pc:#010x} {count} {address} {}", kind.text());
+    }
+}
+
+/// Runs a program for a number of steps, and prints the state, how much it has read and written, and of each descriptor how many bytes, and
+/// their sum.
+fn tell_streams(isa: Isa, steps: u64, image: &Image, input: Vec<u8>) {
+    let mut machine = Machine::of(isa, image, &BTreeMap::new(), input.into());
+    machine.said = Some([Vec::new(), Vec::new()]);
+    make(&mut machine, steps);
+    println!("{:?} {:#010x} {} {}", machine.status, machine.pc, machine.position, machine.output);
+    for said in machine.said.iter().flatten() {
+        println!("{} {}", said.len(), hash::sha256(said));
     }
 }
 

@@ -1,4 +1,5 @@
-//! Where the heap and the stack of a machine are: in the usual places, or where `--heap-region` and `--stack-region` put them.
+//! Where the heap and the stack of a machine are: in the usual places, or where `--heap-region` and `--stack-region` put them. And how many
+//! bytes its calls move: as usual, or as `--most-moved` and `--most-output` say.
 
 use std::ops::Range;
 
@@ -14,17 +15,29 @@ const USUAL_STACK: Range<u64> = 0x7F00_0000..0x8000_0000;
 
 /// The options by which they are said, without `--`.
 pub const OPTIONS: [&str; 2] = ["heap-region", "stack-region"];
+pub const LIMITS: [&str; 2] = ["most-moved", "most-output"];
 
-/// The addresses of each. None of one is of the other.
+/// The most bytes that one call moves, and that a program writes in all.
+#[derive(Clone, Copy, Debug, PartialEq, Eq)]
+pub struct Limits {
+    pub moved: u32,
+    pub output: u64,
+}
+
+const USUAL_LIMITS: Limits = Limits { moved: 4096, output: 65_536 };
+const MOST_MOVED: u64 = 0x7FFF_F000;
+
+/// The addresses of each, none of one of which is of the other, and the limits of calls.
 #[derive(Clone, Debug, PartialEq, Eq)]
 pub struct Regions {
     pub heap: Range<u64>,
     pub stack: Range<u64>,
+    pub limits: Limits,
 }
 
 impl Default for Regions {
     fn default() -> Regions {
-        Regions { heap: heap_from(USUAL_HEAP), stack: USUAL_STACK }
+        Regions { heap: heap_from(USUAL_HEAP), stack: USUAL_STACK, limits: USUAL_LIMITS }
     }
 }
 
@@ -81,6 +94,24 @@ impl Regions {
         Ok(regions)
     }
 
+    /// The same with limits, by the values of their options.
+    ///
+    /// # Errors
+    ///
+    /// The line on the first value at fault.
+    pub fn limited(mut self, moved: Option<&str>, output: Option<&str>) -> Result<Regions, String> {
+        if let Some(text) = moved {
+            let found = number(text).filter(|it| (1..=MOST_MOVED).contains(it));
+            self.limits.moved = found.ok_or(format!("not a number from 1 to 2147479552: --most-moved {text}"))? as u32;
+        }
+        if let Some(text) = output {
+            let found = if text == "none" { Some(u64::MAX) } else { number(text) };
+            let fault = format!("not a number up to 4294967295, and not none: --most-output {text}");
+            self.limits.output = found.ok_or(fault)?;
+        }
+        Ok(self)
+    }
+
     /// The lines that the head of a table has for those that aren't the usual ones.
     pub fn lines(&self) -> String {
         let usual = Regions::default();
@@ -91,7 +122,17 @@ impl Regions {
         } else {
             format!("stack-region {:#010x}..{:#010x}\n", stack.start, stack.end)
         };
-        heap + &stack
+        let moved = if self.limits.moved == USUAL_LIMITS.moved {
+            String::new()
+        } else {
+            format!("most-moved {}\n", self.limits.moved)
+        };
+        let output = match self.limits.output {
+            number if number == USUAL_LIMITS.output => String::new(),
+            u64::MAX => "most-output none\n".to_string(),
+            number => format!("most-output {number}\n"),
+        };
+        heap + &stack + &moved + &output
     }
 
     /// Whether the stack may be inside of a segment.

@@ -8,8 +8,9 @@ ghost use Rattle.run_values.specs.declared.alteration.Alteration.{Alteration as 
 ghost use Rattle.checkpoints.specs.Effects.{EffectShows, IsOfSetup, LeadsTo, Run, code_effect, written_by};
 ghost use Rattle.checkpoints.specs.FirstEffects.{IsBelowFirst};
 ghost use Rattle.checkpoints.specs.Forks.{IsLastUnshown, IsForkFor, ShowsEdited, WritesWhole, IsStepOf, IsForkOf};
-ghost use Rattle.checkpoints.specs.Trails.{is_short, loaded_of, last_held, IsRightFor};
+ghost use Rattle.checkpoints.specs.Trails.{is_short, loaded_of, last_held, meter_of, IsRightFor};
 ghost use Rattle.checkpoints.specs.Words.{IsCodeIn};
+ghost use Rattle.checkpoints.specs.Work.{next_held, reached, steps_made};
 ghost use Rattle.instructions.specs.Codes.{len_of};
 ghost use Rattle.instructions.specs.declared.code.Code.{Code as CodeOf};
 ghost use Rattle.checkpoints.specs.declared.effect.Effect.{Effect as EffectOf};
@@ -113,6 +114,8 @@ impl Trail {
         ensures right { (start : State) → IsRightFor self.old start setup.now marks.now → IsRightFor self.new start setup.now marks.now }
         ensures fork { IfOk result (λ fork. (start : State) → IsRightFor self.old start setup.now marks.now
             → IsForkFor (Effect.Input offset) (record { start = start; setup = setup.now; marks = marks.now }) last fork) }
+        ensures held { OnOk result (last_held self.new ≡ reached (last_held self.old) (next_held last)) }
+        ensures meter { OnOk result (meter_of self.new ≡ min (meter_of self.old + steps_made (last_held self.old) (next_held last)) u64.MAX) }
         ensures short { is_short self.new ≡ is_short self.old }
         ensures loaded { loaded_of self.new ≡ loaded_of self.old }
     {
@@ -135,6 +138,8 @@ impl Trail {
         ensures step { IfOk result (λ fork. fork.step ≤ last) }
         ensures fork { IfOk result (λ fork. (start : State) → IsRightFor self.old start setup.now marks.now
             → IsForkFor effect (record { start = start; setup = setup.now; marks = marks.now }) last fork) }
+        ensures held { OnOk result (last_held self.new ≡ reached (last_held self.old) (next_held last)) }
+        ensures meter { OnOk result (meter_of self.new ≡ min (meter_of self.old + steps_made (last_held self.old) (next_held last)) u64.MAX) }
         ensures short { is_short self.new ≡ is_short self.old }
         ensures loaded { loaded_of self.new ≡ loaded_of self.old }
     {
@@ -161,6 +166,8 @@ impl Trail {
         ensures right { (start : State) → IsRightFor self.old start setup.now marks.now → IsRightFor self.new start setup.now marks.now }
         ensures fork { IfOk result (λ fork. (code : CodeOf) (start : State) → len_of code ≡ len → IsRightFor self.old start setup.now marks.now
             → IsForkFor (code_effect isa marks.now addr code) (record { start = start; setup = setup.now; marks = marks.now }) last fork) }
+        ensures held { OnOk result (last_held self.new ≡ reached (last_held self.old) (next_held last)) }
+        ensures meter { OnOk result (meter_of self.new ≡ min (meter_of self.old + steps_made (last_held self.old) (next_held last)) u64.MAX) }
         ensures short { is_short self.new ≡ is_short self.old }
         ensures loaded { loaded_of self.new ≡ loaded_of self.old }
     {
@@ -184,6 +191,8 @@ impl Trail {
         ensures step { IfOk result (λ fork. fork.step ≡ step) }
         ensures fork { IfOk result (λ fork. (start : State) → IsRightFor self.old start setup.now marks.now
             → IsForkFor (Effect.After step) (record { start = start; setup = setup.now; marks = marks.now }) last fork) }
+        ensures held { OnOk result (last_held self.new ≡ reached (last_held self.old) (next_held step)) }
+        ensures meter { OnOk result (meter_of self.new ≡ min (meter_of self.old + steps_made (last_held self.old) (next_held step)) u64.MAX) }
         ensures short { is_short self.new ≡ is_short self.old }
         ensures loaded { loaded_of self.new ≡ loaded_of self.old }
     {

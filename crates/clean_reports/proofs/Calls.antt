@@ -21,15 +21,16 @@ use Rattle.guest_machine.specs.Errors.{here, parameter_errors, buffer_errors, bu
 use Rattle.guest_machine.specs.Effects.{Effect, raising, moved_to, exited, stored_core, no_bytes}
 use Rattle.guest_machine.specs.Calls.{argument, answered, parameters_of, tested_from}
 use Rattle.guest_machine.specs.Calls.{errors_from, failure, ebadf, enospc, enosys, read_call}
-use Rattle.guest_machine.specs.Calls.{moved_len, is_output, output_room, bytes_taken, write_call}
-use Rattle.guest_machine.specs.Calls.{most_moved, appends}
+use Rattle.guest_machine.specs.Calls.{moved_from_start, moved_len, has_room, is_output, bytes_taken, write_call}
+use Rattle.guest_machine.specs.Calls.{appends}
+use Rattle.guest_machine.proofs.Moving.{moved-small}
 use Rattle.guest_machine.specs.Exec.{taken_from, read_uses, write_uses}
 use Rattle.clean_reports.specs.Agreement.{AreBytes, MemoriesAgree}
 use Rattle.clean_reports.specs.Uses.{NoUse, is_use}
 use Rattle.clean_reports.proofs.Values.{known-agrees}
 use Rattle.clean_reports.proofs.Memory.{good-from, good-byte, stored-agrees}
 use Rattle.clean_reports.proofs.Registers.{Held, HeldAgree, held-of, swap, set-in, set-in-agrees, IsKnown, AreKnown}
-use Rattle.clean_reports.proofs.Registers.{same-argument, other-known}
+use Rattle.clean_reports.proofs.Registers.{same-argument, other-known, register-agrees}
 use Rattle.clean_reports.proofs.Registers.{others-known}
 use Rattle.clean_reports.proofs.Registers.{left-none, right-none, known-by, no-errors, tested-same, all-known}
 use Rattle.clean_reports.proofs.Registers.{all-tested}
@@ -97,10 +98,11 @@ read-by now next es fd buffer len n given =
     })
     (answer-by now next es (failure ebadf))
 
-abbrev write-by : Core → ℕ → List Event → ℕ → ℕ → ℕ → ℕ → (ℕ → ℕ) → Effect
-write-by now next es fd buffer len written taken =
+-- with whether there is room
+abbrev write-by : Core → ℕ → List Event → ℕ → ℕ → ℕ → Bool → (ℕ → ℕ) → Effect
+write-by now next es fd buffer len fits taken =
     cond (is_output fd)
-    (cond (nat_le (written + len) output_room)
+    (cond fits
     (record {
       core = moved_to (answered now len) next;
       raised = es ++ buffer_errors now WriteBuffer true buffer len;
@@ -123,9 +125,8 @@ write-cases now next p q buffer len taken =
     (answer-by now next [] (failure enospc)))
     (answer-by now next [] (failure ebadf))
 
-abbrev write-span : ℕ → ℕ → ℕ → ℕ → Option Span
-write-span fd buffer len written =
-    cond (is_output fd && nat_le (written + len) output_room) (Some (span_at buffer len)) None
+abbrev write-span : ℕ → ℕ → ℕ → Bool → Option Span
+write-span fd buffer len fits = cond (is_output fd && fits) (Some (span_at buffer len)) None
 
 pub read-first : (c : Core) (next n : ℕ) (given : List ℕ) → NoUse (read_call c next n given).raised
     → NoUse (test-errors c read-parameters)
@@ -148,7 +149,7 @@ read-first c next n given none = go (argument c 10 == 0) none
 pub write-first : (c : Core) (next written : ℕ) (taken : ℕ → ℕ) → NoUse (write_call c next written taken).raised
     → NoUse (test-errors c write-parameters)
 unfolding write_call parameters_of
-write-first c next written taken none = go (is_output (argument c 10)) (nat_le (written + moved_len c) output_room) none
+write-first c next written taken none = go (is_output (argument c 10)) (has_room c written) none
   where
     go : (b d : Bool) → NoUse (cond b (cond d
         (record {
@@ -250,7 +251,8 @@ module _ (c : Core) (qs : Held) (a : HeldAgree (held-of c) qs) (f g : ℕ → �
       let z = same-argument c qs a 12 known.1.1.1.0 in
       carried-along f g _ _ _ _ _ _ _ _ refl (λ i. cond (x i == 0) (Some (span_at (y i) n)) None)
       (λ i. read-by (sym now i) next (sym es i) (argument c 10) (argument c 11) (moved_len c) n given)
-      (λ i. read-by (sym now' i) next (sym es' i) (x i) (y i) (min (z i) most_moved) n given)
+      (λ i. read-by (sym now' i) next (sym es' i) (x i) (y i)
+      (moved_from_start c.shadow (y i) (min (z i) c.limits.most_moved)) n given)
       (reads-by (argument c 10) (argument c 11) (moved_len c) n given small bytes)
 
   -- write --
@@ -263,13 +265,13 @@ module _ (c : Core) (qs : Held) (a : HeldAgree (held-of c) qs) (f g : ℕ → �
       go i true e = good-byte c.shadow f g m (above buffer i) (good-from c.shadow buffer len good i (ltb-true i len e))
       go i false e = refl
 
-  writes-by : (fd buffer len written : ℕ) → len < 2 ^ 32
-      → NoUse (write-by c next [] fd buffer len written (taken_from f (write-span fd buffer len written))).raised
+  writes-by : (fd buffer len : ℕ) (fits : Bool) → len < 2 ^ 32
+      → NoUse (write-by c next [] fd buffer len fits (taken_from f (write-span fd buffer len fits))).raised
       → EffectsAgree f g None None
-      (write-by c next [] fd buffer len written (taken_from f (write-span fd buffer len written)))
-      (write-by (swap c qs) next [] fd buffer len written (taken_from g (write-span fd buffer len written)))
+      (write-by c next [] fd buffer len fits (taken_from f (write-span fd buffer len fits)))
+      (write-by (swap c qs) next [] fd buffer len fits (taken_from g (write-span fd buffer len fits)))
   unfolding set_register
-  writes-by fd buffer len written small none = go (is_output fd) (nat_le (written + len) output_room) none
+  writes-by fd buffer len fits small none = go (is_output fd) fits none
     where
       go : (p q : Bool)
           → NoUse
@@ -304,16 +306,21 @@ module _ (c : Core) (qs : Held) (a : HeldAgree (held-of c) qs) (f g : ℕ → �
       let x = same-argument c qs a 10 known.1.0 in
       let y = same-argument c qs a 11 known.1.1.0 in
       let z = same-argument c qs a 12 known.1.1.1.0 in
-      let few : moved_len c < 2 ^ 32 = omega arith in
+      let few : moved_len c < 2 ^ 32 = moved-small c (register-agrees c qs a 12).one in
+      let moved : moved_len c ≡ moved_len (swap c qs) =
+      λ i. moved_from_start c.shadow (y i) (min (z i) c.limits.most_moved) in
+      let fits : has_room c written ≡ has_room (swap c qs) written =
+      λ i. nat_le (written + moved i) c.limits.most_output in
       let quiet' =
       subst (λ (e : Effect). NoUse e.raised) (λ i. write-by (now i) next (es i) (argument c 10) (argument c 11)
-      (moved_len c) written (taken_from f (write-span (argument c 10) (argument c 11) (moved_len c) written))) none in
+      (moved_len c) (has_room c written)
+      (taken_from f (write-span (argument c 10) (argument c 11) (moved_len c) (has_room c written)))) none in
       carried-along f g _ _ _ _ _ _ _ _ refl refl
-      (λ i. write-by (sym now i) next (sym es i) (argument c 10) (argument c 11) (moved_len c) written
-      (taken_from f (write-span (argument c 10) (argument c 11) (moved_len c) written)))
-      (λ i. write-by (sym now' i) next (sym es' i) (x i) (y i) (min (z i) most_moved) written
-      (taken_from g (write-span (x i) (y i) (min (z i) most_moved) written)))
-      (writes-by (argument c 10) (argument c 11) (moved_len c) written few quiet')
+      (λ i. write-by (sym now i) next (sym es i) (argument c 10) (argument c 11) (moved_len c) (has_room c written)
+      (taken_from f (write-span (argument c 10) (argument c 11) (moved_len c) (has_room c written))))
+      (λ i. write-by (sym now' i) next (sym es' i) (x i) (y i) (moved i) (fits i)
+      (taken_from g (write-span (x i) (y i) (moved i) (fits i))))
+      (writes-by (argument c 10) (argument c 11) (moved_len c) (has_room c written) few quiet')
 
   -- exit, and a number that is no call --
 

@@ -49,7 +49,7 @@ use Rattle.guest_machine.specs.StackPointer.{stack_ruled, stack_moved, framed, r
 use Rattle.guest_machine.specs.StackPointer.{largest_frame}
 use Rattle.guest_machine.specs.Calls.{argument, answered, tested_from, call_of, call_at, read_call, write_call}
 use Rattle.guest_machine.specs.Calls.{parameters_of}
-use Rattle.guest_machine.specs.Calls.{is_output, output_room, moved_len, heap_parameters, failure, ebadf, enospc}
+use Rattle.guest_machine.specs.Calls.{is_output, has_room, moved_len, heap_parameters, failure, ebadf, enospc}
 use Rattle.guest_machine.specs.Calls.{enosys}
 use Rattle.guest_machine.specs.Calls.{bytes_taken}
 use Rattle.guest_machine.specs.Errors.{buffer_errors}
@@ -424,7 +424,7 @@ module _ (b : Bool) (c : Core) (h : Stands b c) (next : ℕ) (terms : Terms) (gi
 
   writes : StandsAt 64
   unfolding call_effect write_call parameters_of
-  writes = on b c _ (go (is_output (argument c 10)) (nat_le (terms.written + moved_len c) output_room)) h
+  writes = on b c _ (go (is_output (argument c 10)) (has_room c terms.written)) h
     where
       go : (t u : Bool) → LeavesHeap c (cond t (cond u
           (record {

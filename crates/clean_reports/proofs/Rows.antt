@@ -39,7 +39,8 @@ use Rattle.run_values.specs.declared.span.Span.{Span}
 use Rattle.run_values.specs.declared.status.Stop.TheVariants.{Illegal, Break}
 use Rattle.guest_machine.specs.State.{Core}
 use Rattle.guest_machine.specs.Effects.{Effect}
-use Rattle.guest_machine.specs.Calls.{argument, call_at, call_of, is_heap, moved_len, most_moved, parameters_of}
+use Rattle.guest_machine.specs.Calls.{argument, call_at, call_of, is_heap, moved_from_start, moved_len, parameters_of}
+use Rattle.guest_machine.proofs.Moving.{moved-small}
 use Rattle.guest_machine.specs.Calls.{heap_parameters}
 use Rattle.guest_machine.specs.Exec.{Terms, intake_of, left_at, given_at, taken_from, terms_of}
 use Rattle.guest_machine.specs.Exec.{calls_heap, row_asks, call_asks, row_uses, call_uses, row_effect, call_effect}
@@ -48,7 +49,7 @@ use Rattle.clean_reports.specs.Agreement.{AreBytes, MemoriesAgree}
 use Rattle.clean_reports.specs.Uses.{NoUse}
 use Rattle.clean_reports.specs.Heap.{BlocksAreOpen}
 use Rattle.clean_reports.specs.Disturbed.{HasBytes}
-use Rattle.clean_reports.proofs.Registers.{Held, HeldAgree, held-of, swap, IsKnown, same-argument}
+use Rattle.clean_reports.proofs.Registers.{Held, HeldAgree, held-of, swap, IsKnown, register-agrees, same-argument}
 use Rattle.clean_reports.proofs.Effects.{EffectsAgree, moves, halts, computes, computes-with, uppers, adds}
 use Rattle.clean_reports.proofs.Effects.{jumps, jumps-to, branches, loads, stores}
 use Rattle.clean_reports.proofs.Atomics.{atomics-agree}
@@ -215,16 +216,17 @@ module _ (c : Core) (qs : Held) (a : HeldAgree (held-of c) qs) (f g : ℕ → �
       (call-leaves (swap c qs) k g)
 
   few-given : (b : Bool) → (intake_of (cond b (Some (moved_len c)) None) (left_at position setup)).count < 2 ^ 32
-  unfolding moved_len
-  few-given true = omega arith
+  few-given true = let small = moved-small c (register-agrees c qs a 12).one in omega arith
   few-given false = omega arith
 
   read-terms : HasKnown c read-parameters → call-terms c 63 ≡ call-terms (swap c qs) 63
   unfolding call_asks moved_len
   read-terms known =
       let x = same-argument c qs a 10 known.1.0 in
+      let y = same-argument c qs a 11 known.1.1.0 in
       let z = same-argument c qs a 12 known.1.1.1.0 in
-      λ i. terms_of false (cond (x i == 0) (Some (min (z i) most_moved)) None) position written setup
+      λ i. terms_of false (cond (x i == 0)
+      (Some (moved_from_start c.shadow (y i) (min (z i) c.limits.most_moved))) None) position written setup
 
   read-agrees : NoUse (call-leaves c 63 f).raised → IsKnown c 17 × CallsAgree 63 63
   unfolding call_effect call_uses call_asks parameters_of

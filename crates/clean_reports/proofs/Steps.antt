@@ -209,6 +209,7 @@ module _ (setup : Setup) (s : State) (qs : Held) (g : ℕ → ℕ) (bytes : HasB
         blocks = ap (λ (k : Core). k.blocks) (sym x.core);
         isa = ap (λ (k : Core). k.isa) (sym x.core);
         stack = ap (λ (k : Core). k.stack) (sym x.core);
+        limits = ap (λ (k : Core). k.limits) (sym x.core);
         reserved = ap (λ (k : Core). k.reserved) (sym x.core);
         controls = subst (λ (k : Core). ControlsAgree
             (after s setup deed).core.controls k.controls) (sym x.core) x.agree.controls;
@@ -249,6 +250,7 @@ step-agrees setup bytes s t opened d none =
         blocks = d.blocks i;
         isa = d.isa i;
         stack = d.stack i;
+        limits = d.limits i;
         reserved = d.reserved i;
         controls = t.core.controls;
         steps = d.steps i;

@@ -53,6 +53,7 @@ pub record StatesAgree (s t : State) : Type 0 where
   pub blocks : s.core.blocks ≡ t.core.blocks
   pub isa : s.core.isa ≡ t.core.isa
   pub stack : s.core.stack ≡ t.core.stack
+  pub limits : s.core.limits ≡ t.core.limits
   pub reserved : s.core.reserved ≡ t.core.reserved
   pub controls : ControlsAgree s.core.controls t.core.controls
   pub steps : s.core.steps ≡ t.core.steps

@@ -60,6 +60,10 @@ stack_option = default_option (codes "stack-region") (codes "0x7f000000..0x80000
 abbrev pub with_profile : App → App
 with_profile app = with_rule (with_rule (with_rule app isa_option) heap_option) stack_option
 
+-- `--most-moved` and `--most-output`, where the usual ones are those that aren't given
+abbrev pub with_limits : App → App
+with_limits app = with_rule (with_rule app (option (codes "most-moved"))) (option (codes "most-output"))
+
 -- a command on a program with an input: its file and options
 abbrev pub input_command : Text → App
 input_command name =
@@ -93,11 +97,11 @@ with_session = with_subcommand with_run (program_command (codes "session")).top
 
 -- with `look`
 abbrev pub with_look : App
-with_look = with_subcommand with_session (program_command (codes "look")).top
+with_look = with_subcommand with_session (with_limits (program_command (codes "look"))).top
 
 -- with `tries`
 abbrev pub with_tries : App
-with_tries = with_subcommand with_look (program_command (codes "tries")).top
+with_tries = with_subcommand with_look (with_limits (program_command (codes "tries"))).top
 
 -- a flag
 abbrev pub output_flag : Rule
@@ -110,7 +114,8 @@ sides_flag = record (new_rule (codes "sides")) { long = Some (codes "sides"); ac
 -- whole
 abbrev pub sweep_of_bytes : App
 sweep_of_bytes =
-    with_rule (with_rule (with_rule (program_command (codes "sweep")) step_option) (option (codes "bytes")))
+    with_rule (with_rule (with_rule (with_limits (program_command (codes "sweep"))) step_option)
+    (option (codes "bytes")))
     (default_option (codes "values") (codes "all"))
 
 abbrev pub sweep_of_words : App
@@ -137,7 +142,7 @@ with_sweep = with_subcommand with_tries sweep_command.top
 -- matters whether a step was given
 abbrev pub certify_command : App
 certify_command =
-    with_rule (input_command (codes "certify")) (number_option (codes "step") 0 greatest_step)
+    with_rule (with_limits (input_command (codes "certify"))) (number_option (codes "step") 0 greatest_step)
 
 -- with `certify`
 abbrev pub with_certify : App
@@ -156,13 +161,21 @@ abbrev pub quiet_flag : Rule
 quiet_flag =
     record (new_rule (codes "quiet")) { long = Some (codes "quiet"); short = Some 113; action = Some SetTrue }
 
--- `exec`, by its options for the run, for the report, and for the exit status
+-- `exec` with as much as Linux moves by one call (read(2) and write(2): at most 0x7ffff000 bytes), and no limit of
+-- output
+abbrev pub exec_limits : App
+exec_limits =
+    with_rule (with_rule (program_command (codes "exec")) (default_option (codes "most-moved") (codes "2147479552")))
+    (default_option (codes "most-output") (codes "none"))
+
+-- by its options for the run, for the report, and for the exit status
 abbrev pub exec_runs : App
 exec_runs =
-    with_rule (with_rule (with_rule (with_rule (program_command (codes "exec"))
+    with_rule (with_rule (with_rule (with_rule (with_rule exec_limits
     (default_number (codes "step") 0 greatest_run (codes "1000000000"))) (option (codes "patch")))
     (default_number (codes "redzone") 0 4096 (codes "16")))
-    (default_number (codes "queue") 0 1000000000 (codes "20000000"))
+    (default_number (codes "queue") 0 1000000000 (codes "20000000")))
+    (default_number (codes "memory-limit") 0 1048576 (codes "1024"))
 
 abbrev pub exec_reports : App
 exec_reports =
@@ -170,20 +183,20 @@ exec_reports =
     (default_number (codes "callers") 1 24 (codes "12")))
     (default_option (codes "show") (codes "definite,possible"))) quiet_flag
 
+-- a flag under its long name
+abbrev pub flag : Text → Rule
+flag name = record (new_rule name) { long = Some name; action = Some SetTrue }
+
 abbrev pub exec_statuses : App
 exec_statuses =
     with_rule (with_rule (with_rule exec_reports (number_option (codes "error-exitcode") 1 255))
     (default_option (codes "count") (codes "definite,possible"))) (number_option (codes "idle-exitcode") 0 255)
 
--- a flag under its long name
-abbrev pub flag : Text → Rule
-flag name = record (new_rule name) { long = Some name; action = Some SetTrue }
-
--- and by those for the heap
+-- and by those for the heap, and for a line of the program that isn't ended
 abbrev pub exec_command : App
 exec_command =
-    with_rule (with_rule (with_rule exec_statuses (flag (codes "require-heap"))) (flag (codes "no-require-heap")))
-    (option (codes "not-heap"))
+    with_rule (with_rule (with_rule (with_rule exec_statuses (flag (codes "require-heap")))
+    (flag (codes "no-require-heap"))) (option (codes "not-heap"))) (flag (codes "end-line"))
 
 -- the command line: `run`, `session`, `look`, `tries`, `sweep`, `certify` and `exec`
 abbrev pub command_line : App
@@ -242,6 +255,8 @@ pub record IsExecOf (rows : List Row) (asked : ExecWords) : Type 0 where
   pub require_heap : IsFlagOf (codes "require-heap") rows asked.require_heap
   pub no_require_heap : IsFlagOf (codes "no-require-heap") rows asked.no_require_heap
   pub not_heap : text_of asked.not_heap ≡ first_of (codes "not-heap") rows
+  pub memory_limit : IsNumberOf (codes "memory-limit") rows asked.memory_limit
+  pub end_line : IsFlagOf (codes "end-line") rows asked.end_line
 
 -- the command of a name, of what was found for its arguments
 abbrev pub IsTaskOf : Text → List Row → Task → Type 0
@@ -262,6 +277,8 @@ pub record IsProfileOf (rows : List Row) (asked : ProfileWords) : Type 0 where
   pub isa : Some asked.isa.now ≡ first_of (codes "isa") rows
   pub heap : Some asked.heap.now ≡ first_of (codes "heap-region") rows
   pub stack : Some asked.stack.now ≡ first_of (codes "stack-region") rows
+  pub most_moved : text_of asked.most_moved ≡ first_of (codes "most-moved") rows
+  pub most_output : text_of asked.most_output ≡ first_of (codes "most-output") rows
 
 -- the order of what was found for a command's arguments
 pub record IsOrderOf (name : Text) (rows : List Row) (order : Order) : Type 0 where

@@ -2,7 +2,7 @@
 ghost use Rattle.std.specs.Prelude.{◌≡◌, IfErr, IfOk, IfSome, IsSomeAnd, false, map, string_bytes, true};
 ghost use Rattle.clap.specs.Words.{FailsBy, app_of, fault_of, found_of, kind_of, rows_of, rule_of, subcommand_rows_of, takes};
 ghost use Rattle.clap.specs.declared.builder.command.Command.TheViews.{out-Command};
-ghost use Rattle.command_line.specs.Orders.{IsOrderFor, IsOrderOf, IsProfileOf, IsStepOf, IsSweepOf, IsTaskOf, certify_command, command_line, default_option, file_argument, heap_option, input_command, isa_option, option, output_flag, program_command, run_command, stack_option, step_option, sides_flag, sweep_command, sweep_of_bytes, sweep_of_flags, sweep_of_steps, sweep_of_words, with_certify, with_look, with_profile, with_run, with_session, with_sweep, with_tries};
+ghost use Rattle.command_line.specs.Orders.{IsOrderFor, IsOrderOf, IsProfileOf, IsStepOf, IsSweepOf, IsTaskOf, certify_command, command_line, default_option, file_argument, heap_option, input_command, isa_option, option, output_flag, program_command, run_command, stack_option, step_option, sides_flag, sweep_command, sweep_of_bytes, sweep_of_flags, sweep_of_steps, sweep_of_words, with_certify, with_limits, with_look, with_profile, with_run, with_session, with_sweep, with_tries};
 
 use crate::exec::{exec_command, exec_of, number_in, number_option};
 use crate::help::{
@@ -92,6 +92,18 @@ fn with_profile<'a>(alloc: Global, command: Command<'a>) -> Result<Command<'a>, 
     command.arg(stack_option(alloc))
 }
 
+/// A command, with the options for how many bytes calls move.
+fn with_limits<'a>(alloc: Global, command: Command<'a>) -> Result<Command<'a>, AllocError>
+    ensures shape { IfOk result (λ longer. app_of longer ≡ with_limits (app_of command.entry)) }
+    ensures globals { IfOk result (λ longer. (out-Command longer).has_globals ≡ (out-Command command.entry).has_globals) }
+{
+    let moved = "The most bytes that one read or write moves: 1 to 2147479552; 4096 without it";
+    let command = command.arg(option(alloc, "most-moved", "N", moved))?;
+    let output =
+        "The most bytes that the program can write in all, or none for no limit; 65536 without it";
+    command.arg(option(alloc, "most-output", "N", output))
+}
+
 /// What the help says of an input, unless a command has another one without it.
 const INPUT: &str = "A file with the bytes that the program can read; none without it";
 
@@ -172,6 +184,7 @@ fn with_look<'a>(alloc: Global) -> Result<Command<'a>, AllocError>
     ensures { IfOk result (λ command. app_of command ≡ with_look) }
 {
     let look = program_command(alloc, "look", LOOK, AFTER_LOOK, INPUT)?;
+    let look = with_limits(alloc, look)?;
     with_session(alloc)?.subcommand(look)
 }
 
@@ -180,6 +193,7 @@ fn with_tries<'a>(alloc: Global) -> Result<Command<'a>, AllocError>
     ensures { IfOk result (λ command. app_of command ≡ with_tries) }
 {
     let tries = program_command(alloc, "tries", TRIES, AFTER_TRIES, INPUT)?;
+    let tries = with_limits(alloc, tries)?;
     with_look(alloc)?.subcommand(tries)
 }
 
@@ -211,6 +225,7 @@ fn sweep_of_bytes<'a>(alloc: Global) -> Result<Command<'a>, AllocError>
     ensures globals { IfOk result (λ command. (out-Command command).has_globals ≡ false) }
 {
     let command = program_command(alloc, "sweep", SWEEP, AFTER_SWEEP, INPUT)?;
+    let command = with_limits(alloc, command)?;
     let command = command.arg(step_argument(alloc))?;
     let bytes = "Bytes A to B of the input; A.. up to its last one; A alone";
     let command = command.arg(option(alloc, "bytes", "A..B", bytes))?;
@@ -276,6 +291,7 @@ fn certify_command<'a>(alloc: Global) -> Result<Command<'a>, AllocError>
     ensures globals { IfOk result (λ command. (out-Command command).has_globals ≡ false) }
 {
     let command = input_command(alloc, "certify", CERTIFY, AFTER_CERTIFY, INPUT)?;
+    let command = with_limits(alloc, command)?;
     let step = "The step to certify the run up to, from 0 to 4194304: 4194304 without it";
     command.arg(number_option(alloc, "step", 0, MOST_STEPS, step))
 }
@@ -370,6 +386,8 @@ fn profile_of<'a>(chosen: &ArgMatches<'a>) -> Option<ProfileWords<'a>>
         isa: chosen.get_str("isa")?,
         heap: chosen.get_str("heap-region")?,
         stack: chosen.get_str("stack-region")?,
+        most_moved: chosen.get_str("most-moved"),
+        most_output: chosen.get_str("most-output"),
     })
 }
 

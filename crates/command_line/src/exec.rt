@@ -2,7 +2,7 @@
 ghost use Rattle.std.specs.Prelude.{◌≡◌, IfOk, IfSome, false};
 ghost use Rattle.clap.specs.Words.{app_of, found_of, rows_of, rule_of};
 ghost use Rattle.clap.specs.declared.builder.command.Command.TheViews.{out-Command};
-ghost use Rattle.command_line.specs.Orders.{default_number, exec_command, exec_reports, exec_runs, exec_statuses, flag, number_option, quiet_flag, IsExecOf, IsNumberIn, IsNumberOf};
+ghost use Rattle.command_line.specs.Orders.{default_number, exec_command, exec_limits, exec_reports, exec_runs, exec_statuses, flag, number_option, quiet_flag, IsExecOf, IsNumberIn, IsNumberOf};
 
 use crate::arguments::{default_option, option, program_command, step_of};
 use crate::help::{AFTER_EXEC, EXEC};
@@ -55,13 +55,25 @@ fn quiet_flag<'a>(alloc: Global) -> Arg<'a>
         .help("Reports only errors, listed leaks and stops")
 }
 
+/// `exec` with its options for how many bytes calls move.
+fn exec_limits<'a>(alloc: Global) -> Result<Command<'a>, AllocError>
+    ensures shape { IfOk result (λ command. app_of command ≡ exec_limits) }
+    ensures globals { IfOk result (λ command. (out-Command command).has_globals ≡ false) }
+{
+    let input = "A file with the bytes that the program can read, in place of standard input";
+    let command = program_command(alloc, "exec", EXEC, AFTER_EXEC, input)?;
+    let moved = "The most bytes that one read or write moves: 1 to 2147479552";
+    let command = command.arg(default_option(alloc, "most-moved", "N", "2147479552", moved))?;
+    let output = "The most bytes that the program can write in all, or none for no limit";
+    command.arg(default_option(alloc, "most-output", "N", "none", output))
+}
+
 /// `exec` with its options for the run.
 fn exec_runs<'a>(alloc: Global) -> Result<Command<'a>, AllocError>
     ensures shape { IfOk result (λ command. app_of command ≡ exec_runs) }
     ensures globals { IfOk result (λ command. (out-Command command).has_globals ≡ false) }
 {
-    let input = "A file with the bytes that the program can read, in place of standard input";
-    let command = program_command(alloc, "exec", EXEC, AFTER_EXEC, input)?;
+    let command = exec_limits(alloc)?;
     let step = "The last step, up to 4294967295";
     let step = default_number(alloc, "step", 0, u32::MAX, "1000000000", step);
     let command = command.arg(step)?;
@@ -71,7 +83,9 @@ fn exec_runs<'a>(alloc: Global) -> Result<Command<'a>, AllocError>
     let command = command.arg(default_number(alloc, "redzone", 0, 4096, "16", redzone))?;
     let queue = "Bytes of freed blocks that aren't used again yet: up to 1000000000";
     let queue = default_number(alloc, "queue", 0, 1_000_000_000, "20000000", queue);
-    command.arg(queue)
+    let memory = "The MiB of memory above which the run ends: up to 1048576; 0 for no limit";
+    let memory = default_number(alloc, "memory-limit", 0, 1_048_576, "1024", memory);
+    command.arg(queue)?.arg(memory)
 }
 
 /// And those for the report.
@@ -124,7 +138,9 @@ pub(crate) fn exec_command<'a>(alloc: Global) -> Result<Command<'a>, AllocError>
     let unrequired = "Doesn't fail for that, with --error-exitcode";
     let command = command.arg(flag(alloc, "no-require-heap", unrequired))?;
     let not_heap = "Functions that aren't a heap's, whatever their names are";
-    command.arg(option(alloc, "not-heap", "NAME,..", not_heap))
+    let command = command.arg(option(alloc, "not-heap", "NAME,..", not_heap))?;
+    let ended = "Ends the program's last line on standard error before a report in a file";
+    command.arg(flag(alloc, "end-line", ended))
 }
 
 /// The number of an option, of what was found for the arguments.
@@ -163,5 +179,7 @@ pub(crate) fn exec_of<'a>(chosen: &ArgMatches<'a>) -> Option<ExecWords<'a>>
         require_heap: chosen.get_flag("require-heap"),
         no_require_heap: chosen.get_flag("no-require-heap"),
         not_heap: chosen.get_str("not-heap"),
+        memory_limit: number_of("memory-limit", chosen)?,
+        end_line: chosen.get_flag("end-line"),
     })
 }

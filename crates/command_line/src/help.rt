@@ -307,9 +307,20 @@ Example:
 
 /// What ends the help of `exec`.
 pub(crate) const AFTER_EXEC: &str = "\
-The program's output goes to standard output as it is written, the report at the last step to
-standard error. Without --input the program reads standard input, which is only read when the
-program asks for more than it has.
+What the program writes to descriptor 1 goes to standard output as it is written, what it writes to
+descriptor 2 to standard error. The report at the last step follows there. A line names each call
+that isn't known, whose result is -ENOSYS. Without --input the program reads standard input, which is
+only read when the program asks for more than it has.
+
+A read or a write moves as many bytes as it asks for, but those after its first 4096 only up to the
+first that may not be accessed. Other commands move at most 4096 and have room for 65536 bytes of
+output; with --most-moved and --most-output they repeat a run of `exec`. Where that matters, a line
+says how, unless --quiet is given.
+
+Every 65536 steps x2 is looked at: where it is at most 64 MiB below the stack's region, but in no
+loaded range and not in the heap's region, the stack has overflowed, and the run ends there. It also
+ends where it needs more memory than --memory-limit: 5 kB for each page of the guest that was written,
+and 1.5 kB for each block of the heap.
 
 Errors of the heap can't be found if the file has no symbols and the run calls no heap, or if blocks
 come from functions that aren't mapped to malloc. With --error-exitcode that is a failure, of which
@@ -325,9 +336,11 @@ Exit status:
   N    of --error-exitcode, when it exits or rests in a jump to itself, and has errors or leaks that
        count, or errors of its heap can't be found
   132, 133, 135, 139
-       it stopped: illegal instruction, EBREAK, misaligned address, jump to no memory
+       it stopped: illegal instruction, EBREAK, misaligned address, jump to no memory; 139 also
+       where the stack overflows
   124  it still runs at the last step; N of --idle-exitcode if it rests in a jump to itself
-  123  it would be 0, but a write found no room: a program has 65536 bytes of output
+  123  it would be 0, but a write found no room in the bytes of --most-output
+  122  it needs more memory than --memory-limit
   125  a fault of the command line, out of memory, or the output or report can't be written
   126  the program, the suppressions, the input or a patch is refused; with --require-heap and
        without --error-exitcode, errors of the heap can't be found

@@ -24,6 +24,10 @@ pub struct ProfileWords<'a> {
     pub heap: &'a str,
     /// Where the stack's region begins and ends.
     pub stack: &'a str,
+    /// The greatest number of bytes that one call moves, or none for the usual one.
+    pub most_moved: Option<&'a str>,
+    /// The greatest number of bytes of output, or none for the usual one.
+    pub most_output: Option<&'a str>,
 }
 
 /// A command on a program.
@@ -105,4 +109,8 @@ pub struct ExecWords<'a> {
     pub no_require_heap: bool,
     /// Names of functions that aren't a heap's, with commas.
     pub not_heap: Option<&'a str>,
+    /// The MiB of memory above which a run is ended; 0 for no limit.
+    pub memory_limit: u32,
+    /// Whether the last line on standard error is ended before a report that goes elsewhere.
+    pub end_line: bool,
 }

@@ -6,6 +6,7 @@ use crate::words::{COPIES, USUAL_PROFILE, WRITES};
 use command_line::{ExecWords, Order, ProfileWords, Task};
 use ends::tell_exec;
 use exec_orders::{Log, exec_order};
+use executions::Streams;
 use fake_streams::{Room, Script};
 use guest_programs::program;
 use std::alloc::{AllocError, Global};
@@ -69,8 +70,42 @@ const FREES: [u32; 7] = [
     0x0000_0013,
 ];
 
+/// Writes `a` to descriptor 1, `b` to 2, `c` to 1 and `c` to 2, and exits with status 0. The first write to 2 is in step 9.
+const BOTH: [u32; 18] = [
+    0x0000_0597,
+    0x0445_8593,
+    0x0010_0613,
+    0x0400_0893,
+    0x0010_0513,
+    0x0000_0073,
+    0x0015_8593,
+    0x0020_0513,
+    0x0000_0073,
+    0x0015_8593,
+    0x0010_0513,
+    0x0000_0073,
+    0x0020_0513,
+    0x0000_0073,
+    0x05D0_0893,
+    0x0000_0513,
+    0x0000_0073,
+    0x2163_6261,
+];
+
+/// Makes call 500 twice and call 501 once, and exits with status 0.
+const UNKNOWN: [u32; 8] = [
+    0x1F40_0893,
+    0x0000_0073,
+    0x0000_0073,
+    0x1F50_0893,
+    0x0000_0073,
+    0x05D0_0893,
+    0x0000_0513,
+    0x0000_0073,
+];
+
 /// The arguments of `exec` that ask for nothing but a quiet report at step 1000.
-const PLAIN: ExecWords<'static> = ExecWords {
+pub(crate) const PLAIN: ExecWords<'static> = ExecWords {
     step: 1000,
     patches: None,
     report: None,
@@ -85,39 +120,47 @@ const PLAIN: ExecWords<'static> = ExecWords {
     require_heap: false,
     no_require_heap: true,
     not_heap: None,
+    memory_limit: 1024,
+    end_line: false,
 };
 
-/// What there is room for: the bytes of output and of a report that are taken, and whether the report's file can be opened.
+/// What there is room for: the bytes of output, of standard error and of a report that are taken, and whether the report's file can be
+/// opened.
 #[derive(Clone, Copy)]
-struct Rooms {
+pub(crate) struct Rooms {
     output: usize,
+    error: usize,
     report: usize,
     opens: bool,
 }
 
 const ENOUGH: Rooms = Rooms {
     output: 1 << 20,
+    error: 1 << 20,
     report: 1 << 20,
     opens: true,
 };
 
 /// A label; a program's words, what its file is read for, its arguments, standard input and the rooms; the exit status, the output,
-/// and the front of the report.
+/// what standard error is given by the run, what is said after it, if that is compared, and the fronts of the report and of what is said.
 #[derive(Clone, Copy)]
-struct Case {
-    label: &'static str,
-    words: &'static [u32],
-    profile: ProfileWords<'static>,
-    asked: ExecWords<'static>,
-    input: &'static [u8],
-    rooms: Rooms,
-    status: u8,
-    output: &'static [u8],
-    report: &'static [u8],
+pub(crate) struct Case {
+    pub(crate) label: &'static str,
+    pub(crate) words: &'static [u32],
+    pub(crate) profile: ProfileWords<'static>,
+    pub(crate) asked: ExecWords<'static>,
+    pub(crate) input: &'static [u8],
+    pub(crate) rooms: Rooms,
+    pub(crate) status: u8,
+    pub(crate) output: &'static [u8],
+    pub(crate) error: &'static [u8],
+    pub(crate) told: Option<&'static [u8]>,
+    pub(crate) report: &'static [u8],
+    pub(crate) said: &'static [u8],
 }
 
 /// A case of a program that is run with no input, with the usual arguments and enough room, and ends with 0 and nothing written.
-const QUIET: Case = Case {
+pub(crate) const QUIET: Case = Case {
     label: "",
     words: &WRITES,
     profile: USUAL_PROFILE,
@@ -126,7 +169,10 @@ const QUIET: Case = Case {
     rooms: ENOUGH,
     status: 0,
     output: b"",
+    error: b"",
+    told: None,
     report: b"",
+    said: b"",
 };
 
 /// Whether the place that is open is the one that a case asks for. None is where `exec` fails before the run.
@@ -136,6 +182,14 @@ fn is_place(opened: &Option<Option<String>>, case: &Case) -> bool {
         (Some(None), None) => true,
         (None, _) => case.status == 125,
         _ => false,
+    }
+}
+
+/// Whether a text is the one that is asked for, if one is.
+fn is_told(said: &[u8], told: Option<&[u8]>) -> bool {
+    match told {
+        Some(told) => said == told,
+        None => true,
     }
 }
 
@@ -153,7 +207,10 @@ fn comes_out(alloc: Global, file: &[u8], case: &Case) -> bool {
         rules: b"",
     };
     let mut reader = Script::new(case.input);
-    let mut writer = Room::new(alloc, case.rooms.output);
+    let mut streams = Streams {
+        out: Room::new(alloc, case.rooms.output),
+        err: Room::new(alloc, case.rooms.error),
+    };
     let mut log = Paper {
         room: Room::new(alloc, case.rooms.report),
         opens: case.rooms.opens,
@@ -166,22 +223,132 @@ fn comes_out(alloc: Global, file: &[u8], case: &Case) -> bool {
         &case.asked,
         &shelf,
         &mut reader,
-        &mut writer,
+        &mut streams,
         &mut log,
     );
-    let status = tell_exec(&done, &mut Room::new(alloc, 1 << 20));
+    let mut said = Room::new(alloc, 1 << 20);
+    let status = tell_exec(&done, &mut said);
     is_place(&log.opened, case)
         && status == case.status
-        && writer.taken.as_slice() == case.output
+        && streams.out.taken.as_slice() == case.output
+        && streams.err.taken.as_slice() == case.error
+        && is_told(said.taken.as_slice(), case.told)
+        && said.taken.starts_with(case.said)
         && log.room.taken.starts_with(case.report)
         && log.room.taken.is_empty() == case.report.is_empty()
 }
 
 /// Whether a case comes out so.
-fn is_executed(alloc: Global, case: &Case) -> Result<bool, AllocError> {
+pub(crate) fn is_executed(alloc: Global, case: &Case) -> Result<bool, AllocError> {
     let file = program(alloc, case.words)?;
     Ok(comes_out(alloc, &file, case))
 }
+
+/// Cases of both descriptors and of calls that aren't known.
+const STREAMS: [Case; 9] = [
+    Case {
+        label: "each descriptor has its stream",
+        words: &BOTH,
+        output: b"ac",
+        error: b"bc",
+        told: Some(b""),
+        ..QUIET
+    },
+    Case {
+        label: "standard output that can't be written in the middle",
+        words: &BOTH,
+        rooms: Rooms {
+            output: 1,
+            ..ENOUGH
+        },
+        status: 125,
+        output: b"a",
+        error: b"b",
+        told: Some(b"replaycheck: cannot write\n"),
+        ..QUIET
+    },
+    Case {
+        label: "standard error that can't be written in the middle",
+        words: &BOTH,
+        rooms: Rooms { error: 1, ..ENOUGH },
+        status: 125,
+        output: b"ac",
+        error: b"b",
+        told: Some(b"replaycheck: cannot write\n"),
+        ..QUIET
+    },
+    Case {
+        label: "a report after an open line",
+        words: &BOTH,
+        asked: ExecWords {
+            quiet: false,
+            ..PLAIN
+        },
+        output: b"ac",
+        error: b"bc\n",
+        report: b"step 1000\nstate exited 0\n",
+        ..QUIET
+    },
+    Case {
+        label: "a report in a file after an open line",
+        words: &BOTH,
+        asked: ExecWords {
+            report: Some("log"),
+            quiet: false,
+            ..PLAIN
+        },
+        output: b"ac",
+        error: b"bc",
+        report: b"step 1000\nstate exited 0\n",
+        ..QUIET
+    },
+    Case {
+        label: "an open line that is ended before a report in a file",
+        words: &BOTH,
+        asked: ExecWords {
+            report: Some("log"),
+            quiet: false,
+            end_line: true,
+            ..PLAIN
+        },
+        output: b"ac",
+        error: b"bc\n",
+        report: b"step 1000\nstate exited 0\n",
+        ..QUIET
+    },
+    Case {
+        label: "a line of exec after an open line",
+        words: &BOTH,
+        asked: ExecWords { step: 10, ..PLAIN },
+        status: 124,
+        output: b"a",
+        error: b"b",
+        told: Some(b"\nreplaycheck exec: still running at step 10\n"),
+        ..QUIET
+    },
+    Case {
+        label: "a line of exec after a report that ended an open line",
+        words: &BOTH,
+        asked: ExecWords {
+            step: 10,
+            quiet: false,
+            ..PLAIN
+        },
+        status: 124,
+        output: b"a",
+        error: b"b\n",
+        report: b"step 10\nstate running ",
+        ..QUIET
+    },
+    Case {
+        label: "calls that aren't known",
+        words: &UNKNOWN,
+        told: Some(
+            b"replaycheck: call 500 isn't known (2 times)\nreplaycheck: call 501 isn't known (1 time)\n",
+        ),
+        ..QUIET
+    },
+];
 
 const RUNS: [Case; 12] = [
     Case {
@@ -301,6 +468,17 @@ const RUNS: [Case; 12] = [
 #[test]
 fn programs_are_executed(rt: HostRuntime) {
     for case in &RUNS {
+        assert!(rt;
+            matches!(is_executed(rt.alloc(), case), Ok(true)),
+            "{}",
+            case.label
+        );
+    }
+}
+
+#[test]
+fn descriptors_have_streams_of_their_own(rt: HostRuntime) {
+    for case in &STREAMS {
         assert!(rt;
             matches!(is_executed(rt.alloc(), case), Ok(true)),
             "{}",

@@ -12,6 +12,8 @@ mod exec_cases;
 #[cfg(test)]
 mod orders;
 #[cfg(test)]
+mod overflow_cases;
+#[cfg(test)]
 mod programs;
 #[cfg(test)]
 mod shelf;

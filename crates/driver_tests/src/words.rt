@@ -7,6 +7,8 @@ pub(crate) const USUAL_PROFILE: ProfileWords<'static> = ProfileWords {
     isa: "rv32im",
     heap: "0x40000000",
     stack: "0x7f000000..0x80000000",
+    most_moved: None,
+    most_output: None,
 };
 
 /// Writes `ok!` and a newline, and exits with status 7.

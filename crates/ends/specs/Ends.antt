@@ -9,7 +9,7 @@ use Rattle.ends.specs.declared.ends.End.{End}
 use Rattle.ends.specs.declared.ends.End.TheVariants.{Done, CannotRead, CannotReadInput, CannotWrite, Usage, NotText}
 use Rattle.ends.specs.declared.ends.End.TheVariants.{BadText, Lone, BytesRefused, WordsRefused, StepsRefused, Image}
 use Rattle.ends.specs.declared.ends.End.TheVariants.{BadIsa, BadHeapRegion, BadStackRegion, RegionsOverlap}
-use Rattle.ends.specs.declared.ends.End.TheVariants.{Suppressions}
+use Rattle.ends.specs.declared.ends.End.TheVariants.{BadMostMoved, BadMostOutput, Suppressions}
 use Rattle.ends.specs.declared.ends.End.TheVariants.{SuppressionsTooLong, InputTooLarge, NoMemory, NotClean}
 use Rattle.ends.specs.declared.ends.SweepOption.{SweepOption}
 use Rattle.ends.specs.declared.ends.SweepOption.TheVariants as Sweep
@@ -34,6 +34,8 @@ status_of (BadIsa name) = 2
 status_of (BadHeapRegion text) = 2
 status_of (BadStackRegion text) = 2
 status_of (RegionsOverlap heap stack) = 2
+status_of (BadMostMoved text) = 2
+status_of (BadMostOutput text) = 2
 status_of (BadText option text) = 2
 status_of (Lone option) = 2
 status_of BytesRefused = 3
@@ -101,6 +103,10 @@ line_of (BadHeapRegion text) =
 line_of (BadStackRegion text) =
     line_with (codes "replaycheck: not A..B, multiples of 4096 at least 65536 apart: --stack-region ") text.now
 line_of (RegionsOverlap heap stack) = overlap_line heap.now stack.now
+line_of (BadMostMoved text) =
+    line_with (codes "replaycheck: not a number from 1 to 2147479552: --most-moved ") text.now
+line_of (BadMostOutput text) =
+    line_with (codes "replaycheck: not a number up to 4294967295, and not none: --most-output ") text.now
 line_of (BadText option text) = line_with (complaint option) text.now
 line_of (Lone option) = line_with (lone_text option) []
 line_of BytesRefused = line_with (codes "replaycheck: bytes refused 3") []

@@ -1,10 +1,12 @@
 -- How `exec` ends. Its exit status is that of the program that it runs; in other cases one that a shell, env(1) or
 -- timeout(1) has.
 use Rattle.std.specs.Prelude.{ℕ, ◌+◌, ◌%◌, ◌==◌, ◌&&◌, ◌||◌, Bool, true, false, if◌then◌else◌, List, [], ◌++◌, Option}
-use Rattle.std.specs.Prelude.{Some, None}
+use Rattle.std.specs.Prelude.{◌∷◌, Some, None, is_some, not}
 use Rattle.std.specs.Prelude.{codes, decimal, length, nat_lt}
+use Rattle.std.specs.List.{flat_map}
 use denote.Ref.{Bor}
 use Rattle.guest_elf.specs.declared.fault.ElfFault.TheVariants.{Memory}
+use Rattle.guest_elf.specs.declared.profile.StreamLimits.{StreamLimits}
 use Rattle.run_values.specs.declared.status.Status.{Status}
 use Rattle.run_values.specs.declared.status.Status.TheVariants.{Running, Exited, Stopped}
 use Rattle.run_values.specs.declared.status.Stop.{Stop}
@@ -16,9 +18,14 @@ use Rattle.ends.specs.declared.ends.End.TheVariants.{SuppressionsTooLong, InputT
 use Rattle.ends.specs.declared.exec_ends.ExecEnd.{ExecEnd}
 use Rattle.ends.specs.declared.exec_ends.ExecEnd.TheVariants.{Early, BadPatch, PatchRefused, BadKinds, ReportInPlace}
 use Rattle.ends.specs.declared.exec_ends.ExecEnd.TheVariants.{NoReport, Ran}
+use Rattle.ends.specs.declared.ended.Ended.{Ended}
+use Rattle.ends.specs.declared.ended.Ended.TheVariants.{AtLast, Overflow, OverLimit}
 use Rattle.ends.specs.declared.exec_ends.Outcome.{Outcome}
 use Rattle.ends.specs.declared.exec_ends.Codes.{Codes}
+use Rattle.ends.specs.declared.exec_ends.ExecDone.{ExecDone}
+use Rattle.report_lines.specs.Text.{address_text}
 use Rattle.suppressions.specs.declared.fault.SuppFault.TheVariants as Supp
+use Rattle.unknown_calls.specs.declared.UnknownCall.{UnknownCall}
 
 -- ---- a run
 
@@ -52,6 +59,17 @@ standing_status codes outcome Running =
 standing_status codes outcome (Exited code) = judged_status codes.errors outcome code
 standing_status codes outcome (Stopped stop) = stop_status stop
 
+-- a run that is ended because its memory runs over a limit has this status
+abbrev pub over_status : ℕ
+over_status = 122
+
+-- a run that is ended where its stack overflows has the status of a jump to no memory, since an emulator has SIGSEGV
+-- there; whatever statuses were chosen
+abbrev pub ended_status : Codes → Outcome → Ended → ℕ
+ended_status codes outcome AtLast = standing_status codes outcome outcome.status
+ended_status codes outcome (Overflow pointer) = stop_status Jump
+ended_status codes outcome (OverLimit most) = over_status
+
 -- a run that would end with 0 though output was lost ends with this
 abbrev pub lost_status : ℕ
 lost_status = 123
@@ -61,7 +79,7 @@ unless_lost lost status = if (status == 0) && nat_lt 0 lost then lost_status els
 
 -- the exit status of a run, of which the system keeps eight bits (exit(3))
 abbrev pub run_status : Codes → Outcome → ℕ
-run_status codes outcome = unless_lost outcome.lost (standing_status codes outcome outcome.status % 256)
+run_status codes outcome = unless_lost outcome.lost (ended_status codes outcome outcome.ended % 256)
 
 -- ---- all ends
 
@@ -99,11 +117,10 @@ resting_line step =
     "replaycheck exec: in a jump to itself (--idle-exitcode=0 passes that, as a failed assert that loops) at step ")
     (decimal step)
 
-abbrev pub lost_line : ℕ → List ℕ
-lost_line lost =
-    line_with
-    (codes "replaycheck exec: 65536 bytes of output are all there is room for; writes refused: ")
-    (decimal lost)
+abbrev pub lost_line : StreamLimits → ℕ → List ℕ
+lost_line limits lost =
+    codes "replaycheck exec: " ++ decimal limits.most_output
+    ++ line_with (codes " bytes of output are all there is room for (--most-output); writes refused: ") (decimal lost)
 
 abbrev pub going_lines : Option ℕ → Bool → ℕ → List ℕ
 going_lines (Some chosen) true step = []
@@ -114,9 +131,41 @@ abbrev pub standing_lines : Option ℕ → Outcome → Status → List ℕ
 standing_lines idle outcome Running = going_lines idle outcome.idles outcome.step
 standing_lines idle outcome _ = []
 
+-- or why it is ended: where the stack overflows, in Valgrind's words with the stack pointer; or that it needs more
+-- memory than the limit, in MiB, and at which step
+abbrev pub overflow_line : ℕ → List ℕ
+overflow_line pointer =
+    line_with (codes "replaycheck exec: Stack overflow in thread #1: can't grow stack to ") (address_text pointer)
+
+abbrev pub needed_line : ℕ → List ℕ
+needed_line step =
+    codes " MiB of memory are needed at step " ++ decimal step ++ line_with (codes " (--memory-limit)") []
+
+abbrev pub over_line : ℕ → ℕ → List ℕ
+over_line most step = codes "replaycheck exec: more than " ++ decimal most ++ needed_line step
+
+abbrev pub ended_lines : Option ℕ → Outcome → Ended → List ℕ
+ended_lines idle outcome AtLast = standing_lines idle outcome outcome.status
+ended_lines idle outcome (Overflow pointer) = overflow_line pointer
+ended_lines idle outcome (OverLimit most) = over_line most outcome.step
+
+-- how many bytes there is room for: 2^64 - 1 is no limit
+abbrev pub most_text : ℕ → List ℕ
+most_text most = if most == 18446744073709551615 then codes "none" else decimal most
+
+-- with which options another command repeats a run in which it matters how many bytes calls move
+abbrev pub limits_line : StreamLimits → List ℕ
+limits_line limits =
+    codes "replaycheck exec: other commands repeat this run with --most-moved " ++ decimal limits.most_moved
+    ++ line_with (codes " --most-output ") (most_text limits.most_output)
+
+unfoldable pub stream_lines : Outcome → List ℕ
+stream_lines outcome =
+    (if nat_lt 0 outcome.lost then lost_line outcome.limits outcome.lost else [])
+    ++ (if outcome.limits_told then limits_line outcome.limits else [])
+
 abbrev pub run_lines : Codes → Outcome → List ℕ
-run_lines codes outcome =
-    standing_lines codes.idle outcome outcome.status ++ (if nat_lt 0 outcome.lost then lost_line outcome.lost else [])
+run_lines codes outcome = ended_lines codes.idle outcome outcome.ended ++ stream_lines outcome
 
 -- what is said of a heap whose errors can't be found, or of other functions that may give blocks: their names; or that
 -- there are no names
@@ -147,3 +196,44 @@ exec_lines (Ran codes outcome) = run_lines codes outcome
 abbrev pub heap_lines : ExecEnd → List ℕ → List ℕ → List ℕ
 heap_lines (Ran codes outcome) file names = if outcome.heap_told then heap_line file names else []
 heap_lines end file names = []
+
+-- which calls of a run aren't known, and how often each was made
+abbrev pub times_word : ℕ → List ℕ
+times_word times = if times == 1 then codes " time)" else codes " times)"
+
+abbrev pub call_line : UnknownCall → List ℕ
+call_line call =
+    codes "replaycheck: call " ++ (decimal call.number ++ codes " isn't known ("
+    ++ line_with (decimal call.times) (times_word call.times))
+
+abbrev pub unknown_lines : ExecEnd → List UnknownCall → List ℕ
+unknown_lines (Ran codes outcome) calls = flat_map call_line calls
+unknown_lines end calls = []
+
+-- ---- on lines of their own
+
+-- is something said of a run that hasn't ended?
+abbrev pub says_standing : Option ℕ → Outcome → Status → Bool
+says_standing idle outcome Running = not (outcome.idles && is_some idle)
+says_standing idle outcome _ = false
+
+abbrev pub says_ended : Option ℕ → Outcome → Ended → Bool
+says_ended idle outcome AtLast = says_standing idle outcome outcome.status
+says_ended idle outcome _ = true
+
+-- is something said of a run?
+abbrev pub says_run : Codes → Outcome → List UnknownCall → Bool
+says_run codes outcome calls =
+    says_ended codes.idle outcome outcome.ended || nat_lt 0 outcome.lost || outcome.limits_told || outcome.heap_told
+    || nat_lt 0 (length calls)
+
+-- a newline, if something is said and the program's last line on standard error is open
+abbrev pub line_end : ExecEnd → List UnknownCall → List ℕ
+line_end (Ran codes outcome) calls = if outcome.is_open && says_run codes outcome calls then 10 ∷ [] else []
+line_end end calls = []
+
+-- what is said of an end on standard error
+abbrev pub done_lines : ExecDone → List ℕ
+done_lines done =
+    line_end done.end done.unknown.items ++ (exec_lines done.end
+    ++ (heap_lines done.end done.file.now done.names.items ++ unknown_lines done.end done.unknown.items))

@@ -99,6 +99,10 @@ pub enum End<'a> {
     BadStackRegion(&'a str),
     /// The two regions have an address in common.
     RegionsOverlap { heap: &'a str, stack: &'a str },
+    /// One call can't move as many bytes.
+    BadMostMoved(&'a str),
+    /// A number of bytes of output is none.
+    BadMostOutput(&'a str),
     /// The text of an option of a sweep is no range, list or part.
     BadText { option: SweepOption, text: &'a str },
     /// An option of a sweep needs another one.
@@ -169,6 +173,7 @@ pub fn tell<W: Write>(end: &End, writer: &mut W) -> u8
         End::Done => 0,
         End::CannotRead(_) | End::CannotReadInput | End::CannotWrite => 1,
         End::BadHeapRegion(_) | End::BadStackRegion(_) | End::RegionsOverlap { .. } => 2,
+        End::BadMostMoved(_) | End::BadMostOutput(_) => 2,
         End::Usage | End::NotText | End::BadIsa(_) | End::BadText { .. } | End::Lone(_) => 2,
         End::Image(ElfFault::Memory) | End::Suppressions(SuppFault::Memory) | End::NoMemory => 4,
         End::Image(_)
@@ -252,6 +257,14 @@ fn pieces_of<'a>(end: End<'a>, digits: &'a mut Buffer) -> Option<(&'a str, &'a [
         ),
         End::BadStackRegion(text) => (
             "replaycheck: not A..B, multiples of 4096 at least 65536 apart: --stack-region ",
+            text.as_bytes(),
+        ),
+        End::BadMostMoved(text) => (
+            "replaycheck: not a number from 1 to 2147479552: --most-moved ",
+            text.as_bytes(),
+        ),
+        End::BadMostOutput(text) => (
+            "replaycheck: not a number up to 4294967295, and not none: --most-output ",
             text.as_bytes(),
         ),
         End::BadText { option, text } => (option.complaint(), text.as_bytes()),

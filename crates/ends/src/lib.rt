@@ -4,12 +4,17 @@
 //! [`SweepOption`] is an option whose text is read; the line names it if the text can't be read. A [`LoneOption`] is one that needs another
 //! one. Faults become ends by `From`.
 //!
-//! The definitions are in `specs/Ends`.
+//! How `exec` ends is an [`ExecEnd`], of which [`tell_exec`] writes the lines and returns the status. [`Ended`] says why its run ended where it did.
+//!
+//! The definitions are in `specs/Ends` and `specs/ExecEnds`.
 #![tactic(auto)]
 
+mod addresses;
+mod ended;
 mod ends;
 mod exec_ends;
 mod lines;
 
+pub use ended::Ended;
 pub use ends::{End, LoneOption, SweepOption, tell};
 pub use exec_ends::{Codes, ExecDone, ExecEnd, Outcome, tell_exec, tell_for};

@@ -26,6 +26,9 @@ use Rattle.run_values.specs.declared.alteration.Alteration.{Alteration}
 use Rattle.scenario.specs.Edits.{IsTaken, row}
 use Rattle.scenario.specs.Scenario.{Scenario}
 use Rattle.suppressions.specs.Rules.{Rule}
+use Rattle.executions.specs.Executions.{Held}
+use Rattle.executions.proofs.Steps.{gives-none}
+use Rattle.unknown_calls.specs.declared.UnknownCall.{UnknownCall}
 use Rattle.exec_orders.specs.Executed.{Executed, IsChoice, IsUntouched, Opening, Pipes, WithImage}
 use Rattle.exec_orders.specs.Executed.{names_in, pipes, plan_for, waits_for}
 use Rattle.exec_orders.specs.declared.executing.Plan.{Plan}
@@ -44,9 +47,10 @@ use Rattle.exec_orders.specs.Prepared.{NoPatch, patch_in}
 use Rattle.exec_orders.specs.Prepared.{patch_of, patch_with}
 use Rattle.text_parts.specs.Parts.{parts}
 
-pub untouched : (left held logged : Option (List ℕ)) (opened : Option (Option (List ℕ))) → opened ≡ None
+pub untouched : (left : Option (List ℕ)) (held : Held) (logged : Option (List ℕ)) (opened : Option (Option (List ℕ)))
+    → opened ≡ None
     → IsUntouched (pipes left held logged opened) (pipes left held logged opened)
-untouched left held logged opened none = (Consumes-nil left, Appends-nil held, Appends-nil logged, none)
+untouched left held logged opened none = (Consumes-nil left, gives-none held, Appends-nil logged, none)
 
 -- ---- results
 
@@ -183,6 +187,8 @@ plan-with waits choices known place = record {
   count = choices.count;
   quiet = choices.quiet;
   requires_heap = choices.requires_heap;
+  limit = choices.limit;
+  end_line = choices.end_line;
   known = known;
   place = place;
 }
@@ -197,6 +203,8 @@ plan-is order asked kinds choices waits known symbols choice same is = λ i. rec
   count = choices.count;
   quiet = choice.quiet i;
   requires_heap = choice.requires_heap i;
+  limit = choice.limit i;
+  end_line = choice.end_line i;
   known = is i;
   place = asked.report;
 }
@@ -204,12 +212,13 @@ plan-is order asked kinds choices waits known symbols choice same is = λ i. rec
 -- with its options judged, and its program read
 pub with-program : (gives : Giving) (opens : Opening) (order : Order) (asked : ExecWords) (show : LeakKinds)
     (choices : Choices) (profile : Profile) (front bytes : List ℕ) (image : Image) (old new : Pipes)
-    (end : ExecEnd) (names : List ℕ)
+    (end : ExecEnd) (names : List ℕ) (unknown : List UnknownCall)
     → IsChoice asked show choices → IsProfileNamed order.profile profile
     → IsFront gives order.file.now most_judged front → bytes ≡ front → IsImageFor profile bytes image
-    → WithImage gives opens order asked show choices.count image (defined_in front) old new end names
-    → Executed gives opens order asked old new end names
-with-program gives opens order asked show choices profile front bytes image old new end names choice named read same
+    → WithImage gives opens order asked show choices.count image (defined_in front) old new end names unknown
+    → Executed gives opens order asked old new end names unknown
+with-program gives opens order asked show choices profile front bytes image old new end names unknown choice named read
+    same
     is h =
     inr (
       show,

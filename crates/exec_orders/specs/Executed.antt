@@ -1,6 +1,6 @@
 -- What becomes of `exec`: its options are judged, then its files, then the run is made, and then its report is written.
 use Rattle.std.specs.Prelude.{◌≡◌, ◌≤◌, ◌<◌, ◌⊎◌, ◌||◌, ◌&&◌, not, nat_lt, ℕ, Bool, true, false, List, [], Option, Some}
-use Rattle.std.specs.Prelude.{None, is_none, is_some, length, option_map, take}
+use Rattle.std.specs.Prelude.{◌∷◌, ◌++◌, None, if◌then◌else◌, is_none, is_some, length, option_map, take}
 use Rattle.std.specs.Str.{bytes_eq}
 use denote.Ref.{Bor}
 use Rattle.std.specs.Io.KnownBytes.{Appends, Consumes}
@@ -11,11 +11,13 @@ use Rattle.ends.specs.declared.ends.End.{End}
 use Rattle.ends.specs.declared.ends.End.TheVariants.{CannotWrite, NoMemory}
 use Rattle.executions.specs.declared.fault.ExecutionFault.{ExecutionFault}
 use Rattle.executions.specs.declared.fault.ExecutionFault.TheVariants as Fault
+use Rattle.ends.specs.declared.ended.Ended.{Ended}
 use Rattle.ends.specs.declared.exec_ends.Codes.{Codes}
 use Rattle.ends.specs.declared.exec_ends.ExecEnd.{ExecEnd}
 use Rattle.ends.specs.declared.exec_ends.ExecEnd.TheVariants.{BadKinds, Early, NoReport, Ran, ReportInPlace}
 use Rattle.ends.specs.declared.exec_ends.Outcome.{Outcome}
-use Rattle.executions.specs.Executions.{refused_at, state_at, step_of, IsAt, StopsAt}
+use Rattle.executions.specs.Executions.{calls_at, is_open_at, needs_at, refused_at, state_at, step_of, written_at}
+use Rattle.executions.specs.Executions.{Gives, Held, IsAt, Wrote, WroteFront}
 use Rattle.executions.specs.declared.execution.Execution.{Execution}
 use Rattle.exec_orders.specs.declared.executing.Choices.{Choices}
 use Rattle.exec_orders.specs.declared.executing.Plan.{Plan}
@@ -23,31 +25,34 @@ use Rattle.file_heaps.specs.FileHeaps.{is_seen, is_unseen, known_of, sight_of, u
 use Rattle.file_heaps.specs.declared.heap.Sight.{Sight}
 use Rattle.guest_elf.specs.Defined.{SymbolContent, defined_in}
 use Rattle.guest_elf.specs.File.{IsImageFor}
+use Rattle.guest_elf.specs.Images.{profile_of}
 use Rattle.guest_elf.specs.declared.profile.Profile.{Profile}
 use Rattle.guest_elf.specs.declared.image.Image.{Image}
 use Rattle.command_line.specs.declared.order.ProfileWords.{ProfileWords}
-use Rattle.guest_machine.specs.Streams.{is_idle, sees_end}
+use Rattle.guest_machine.specs.Streams.{is_idle}
 use Rattle.program_files.specs.Files.{Giving, HasStream, IsFront, NoImage, NoStream, most_judged}
 use Rattle.program_files.specs.Profiles.{IsProfileNamed}
 use Rattle.replay_report.specs.Findings.{HasFindings}
 use Rattle.run_values.specs.declared.status.Status.{Status}
 use Rattle.run_values.specs.declared.status.Status.TheVariants.{Stopped}
 use Rattle.scenario.specs.Edits.{shown, with_input}
-use Rattle.scenario.specs.Scenario.{Scenario, chosen_state, IsReportOf}
+use Rattle.scenario.specs.Scenario.{Scenario, at_step, chosen_state, IsReportOf}
 use Rattle.suppressions.specs.Words.{leak_kinds}
 use Rattle.suppressions.specs.declared.leak_kinds.LeakKinds.{LeakKinds}
+use Rattle.unknown_calls.specs.declared.UnknownCall.{UnknownCall}
+use Rattle.exec_orders.specs.Overflows.{AsksAt, ComesTo, EndsAt}
 use Rattle.exec_orders.specs.Prepared.{Makes, MakesNone}
 
--- what standard input still has, and what standard output and the report's file were given, where they tell it; and the
--- place of the report that is open, if one is: the path of a file, or standard error
+-- what standard input still has, and what standard output, standard error and the report's file were given, where they
+-- tell it; and the place of the report that is open, if one is: the path of a file, or standard error
 pub record Pipes : Type 0 where
   pub left : Option (List ℕ)
-  pub held : Option (List ℕ)
+  pub held : Held
   pub logged : Option (List ℕ)
   pub opened : Option (Option (List ℕ))
 
 abbrev pub pipes :
-    Option (List ℕ) → Option (List ℕ) → Option (List ℕ) → Option (Option (List ℕ)) → Pipes
+    Option (List ℕ) → Held → Option (List ℕ) → Option (Option (List ℕ)) → Pipes
 pipes left held logged opened = record { left = left; held = held; logged = logged; opened = opened }
 
 -- ---- a run
@@ -67,16 +72,25 @@ fails_at plan sight = plan.requires_heap && is_unseen sight
 abbrev pub told_at : Plan → Sight → Bool
 told_at plan sight = fails_at plan sight || (not plan.quiet && not (is_seen sight))
 
--- how a run stands at its last step
-pub record IsOutcome (sc : Scenario) (plan : Plan) (outcome : Outcome) : Type 0 where
+-- that it matters how many bytes calls move is said, too, unless only errors are asked for
+abbrev pub limits_told : Plan → Bool → Bool
+limits_told plan matters = matters && not plan.quiet
+
+-- how a run stands at its last step, which it ends at for a reason, where its last line on standard error is still open
+-- or isn't
+pub record IsOutcome (sc : Scenario) (why : Ended) (plan : Plan) (left : Bool) (outcome : Outcome) : Type 0 where
   pub step : outcome.step ≡ sc.step
+  pub ended : outcome.ended ≡ why
   pub status : outcome.status ≡ (chosen_state sc).core.status
   pub idles : outcome.idles ≡ is_idle (chosen_state sc) sc.setup
   pub has_errors :
       HasFindings (chosen_state sc) sc.image sc.rules sc.options.callers (shown plan.count) outcome.has_errors
   pub lost : outcome.lost ≡ refused_at sc sc.step
+  pub limits : outcome.limits ≡ (profile_of sc.image).limits
+  pub limits_told : outcome.limits_told ≡ limits_told plan (needs_at sc sc.step)
   pub heap_fails : outcome.heap_fails ≡ fails_at plan (sight_in plan sc)
   pub heap_told : outcome.heap_told ≡ told_at plan (sight_in plan sc)
+  pub is_open : outcome.is_open ≡ left
 
 -- has the program stopped?
 abbrev pub is_stopped : Status → Bool
@@ -95,21 +109,9 @@ abbrev pub IsTold : Bool → Scenario → List ℕ → Type 0
 IsTold quiet sc text =
     (((quiet ≡ false) ⊎ Tells sc true) × IsReportOf sc text) ⊎ ((quiet ≡ true) × Tells sc false × (text ≡ []))
 
--- it was written, or a front of it
-abbrev pub WritesReport : Bool → Scenario → Option (List ℕ) → Option (List ℕ) → Type 0
-WritesReport quiet sc old new = (text : List ℕ) × IsTold quiet sc text × Appends old new text
-
-abbrev pub CutsReport : Bool → Scenario → Option (List ℕ) → Option (List ℕ) → Type 0
-CutsReport quiet sc old new =
-    (text : List ℕ) × (sent : ℕ) × IsTold quiet sc text × (sent ≤ length text) × Appends old new (take sent text)
-
--- the whole output of the program was written, or a front of it
-abbrev pub WritesOutput : Scenario → Option (List ℕ) → Option (List ℕ) → Type 0
-WritesOutput sc old new = Appends old new (chosen_state sc).output
-
-abbrev pub CutsOutput : Scenario → Option (List ℕ) → Option (List ℕ) → Type 0
-CutsOutput sc old new =
-    (sent : ℕ) × (sent ≤ length (chosen_state sc).output) × Appends old new (take sent (chosen_state sc).output)
+-- nothing of the output was written, or what was written before some step and a front of what that step writes
+abbrev pub CutsOutput : Scenario → Held → Held → Type 0
+CutsOutput sc old new = Gives old new [] [] ⊎ WroteFront sc 0 old new
 
 -- where a report goes: the path of a file, or standard error
 abbrev pub Place : Type 0
@@ -118,14 +120,32 @@ Place = Option (Bor (List ℕ))
 abbrev pub path_of : Place → Option (List ℕ)
 path_of place = option_map (λ path. path.now) place
 
--- with the output written: the report was written to its place, and the end says how the run stands; or that failed; or
--- memory ran out
-abbrev pub Finishes : Plan → Scenario → Option (List ℕ) → Option (List ℕ) → ExecEnd → Type 0
-Finishes plan sc old new (Ran chosen outcome) =
-    (chosen ≡ plan.codes) × IsOutcome sc plan outcome × WritesReport plan.quiet sc old new
-Finishes plan sc old new (NoReport failed) = (failed ≡ plan.place) × CutsReport plan.quiet sc old new
-Finishes plan sc old new (Early NoMemory) = Appends old new []
-Finishes plan sc old new end = ⊥
+-- is the program's last line on standard error ended before a report? If it is open, and the report has text and goes
+-- to standard error; or if that is asked for
+abbrev pub ends_line : Plan → Bool → List ℕ → Bool
+ends_line plan is_open text = is_open && nat_lt 0 (length text) && (is_none plan.place || plan.end_line)
+
+-- what is written on standard error before the report
+abbrev pub before_report : Plan → Scenario → List ℕ → List ℕ
+before_report plan sc text = if ends_line plan (is_open_at sc sc.step) text then 10 ∷ [] else []
+
+-- is the program's last line on standard error still open after the report?
+abbrev pub left_open : Plan → Scenario → List ℕ → Bool
+left_open plan sc text = is_open_at sc sc.step && not (ends_line plan (is_open_at sc sc.step) text)
+
+-- with the output written, and a line end after it on standard error: the report was written to its place, and the end
+-- says how the run stands; or that failed, after a front of it; or memory ran out
+abbrev pub Finishes : Plan → Scenario → Ended → List ℕ → Option (List ℕ) → Option (List ℕ) → ExecEnd → Type 0
+Finishes plan sc ended line old new (Ran chosen outcome) =
+    (chosen ≡ plan.codes) × (text : List ℕ) × IsTold plan.quiet sc text × IsOutcome sc ended plan
+    (left_open plan sc text) outcome
+    × (line ≡ before_report plan sc text) × Appends old new text
+Finishes plan sc ended line old new (NoReport failed) =
+    (failed ≡ plan.place) × (text : List ℕ) × (sent : ℕ) × IsTold plan.quiet sc text × (sent ≤ length text)
+    × (line ≡ before_report plan sc text) × Appends old new (take sent text)
+Finishes plan sc ended line old new (Early NoMemory) = (line ≡ []) × Appends old new []
+Finishes plan sc ended line old new (Early CannotWrite) = (sent : ℕ) × (line ≡ take sent (10 ∷ [])) × Appends old new []
+Finishes plan sc ended line old new end = ⊥
 
 -- how a fault of an execution ends it
 abbrev pub end_of_fault : ExecutionFault → End
@@ -140,18 +160,18 @@ IsFault end = (end ≡ Early CannotWrite) ⊎ (end ≡ Early NoMemory)
 
 -- a step of the run asks for more of the input than there is
 abbrev pub AsksForMore : Scenario → Type 0
-AsksForMore sc = (n : ℕ) × (n < sc.step) × (sees_end (state_at sc n) sc.setup ≡ true)
+AsksForMore sc = (n : ℕ) × AsksAt sc n
 
--- it is as it was given, and a run with an empty one that may wait for more never asks for more; or the run asks for
--- more, and it is all of standard input
-abbrev pub HasInputOf : Bool → Option (List ℕ) → Option (List ℕ) → Scenario → Scenario → Type 0
-HasInputOf waits left rest sc done =
-    ((done ≡ sc) × Consumes left rest [] × (waits ≡ true → (chosen_state sc).end_seen ≡ false))
+-- it is as it was given, and a run with an empty one that may wait for more never asks for more before the step that it
+-- ends at; or the run asks for more, and it is all of standard input
+abbrev pub HasInputOf : Bool → Option (List ℕ) → Option (List ℕ) → Scenario → ℕ → Scenario → Type 0
+HasInputOf waits left rest sc n done =
+    ((done ≡ sc) × Consumes left rest [] × (waits ≡ true → (state_at sc n).end_seen ≡ false))
     ⊎ ((waits ≡ true) × AsksForMore sc × (input : List ℕ) × HasStream left input × (done ≡ with_input sc input))
 
 -- the run ends early: its output can't be written, or memory runs out, or standard input, of which it asks for more,
 -- can't be read
-abbrev pub Cuts : Bool → Scenario → Option (List ℕ) → Option (List ℕ) → Option (List ℕ) → ExecEnd → Type 0
+abbrev pub Cuts : Bool → Scenario → Option (List ℕ) → Held → Held → ExecEnd → Type 0
 Cuts waits sc left old new end =
     (IsFault end × CutsOutput sc old new)
     ⊎ ((waits ≡ true) × AsksForMore sc × (input : List ℕ) × HasStream left input × IsFault end
@@ -160,35 +180,46 @@ Cuts waits sc left old new end =
 
 -- ---- a run
 
--- the run of a scenario is made: its output is written, and then its report; or it ends early, and no report is written
-abbrev pub Executes : Plan → Scenario → Pipes → Pipes → ExecEnd → Type 0
-Executes plan sc old new end =
-    ((done : Scenario) × HasInputOf plan.waits old.left new.left sc done × WritesOutput done old.held new.held
-    × Finishes plan done old.logged new.logged end)
+-- the run of a scenario is made up to a step that it ends at: its output is written, and then the report of that
+-- step, and its calls that aren't known are counted; or it ends early, and no report is written
+abbrev pub Executes : Plan → Scenario → Pipes → Pipes → ExecEnd → List UnknownCall → Type 0
+Executes plan sc old new end unknown =
+    ((done : Scenario) × (n : ℕ) × (ended : Ended) × (line : List ℕ) × HasInputOf plan.waits old.left new.left sc n done
+    × EndsAt done plan.limit n ended × Gives old.held new.held (written_at done 1 n) (written_at done 2 n ++ line)
+    × Finishes plan (at_step done n) ended line old.logged new.logged end × (unknown ≡ calls_at done n))
     ⊎ (Cuts plan.waits sc old.left old.held new.held end × Appends old.logged new.logged [])
 
--- an execution has come to a step at which it stops: what was written is the output up to there
-pub record HasRun (waits : Bool) (sc : Scenario) (old new : Option (List ℕ)) (e : Execution) : Type 0 where
+-- an execution has come to a run's end, or waits: what was written is the output up to there
+pub record HasRun
+    (waits : Bool) (limit : ℕ) (sc : Scenario) (old new : Held) (e : Execution) (ended : Option Ended) : Type 0 where
   pub at : IsAt e sc
-  pub stops : StopsAt sc waits (step_of e)
+  pub comes : ComesTo sc waits limit (step_of e) ended
   pub unseen : waits ≡ true → (state_at sc (step_of e)).end_seen ≡ false
-  pub output : Appends old new (state_at sc (step_of e)).output
+  pub output : Gives old new (written_at sc 1 (step_of e)) (written_at sc 2 (step_of e))
 
--- and one with its input to the last step
-pub record HasRunAll (waits : Bool) (sc done : Scenario) (left rest old new : Option (List ℕ)) (e : Execution) : Type 0
-  where
-    pub input : HasInputOf waits left rest sc done
-    pub at : IsAt e done
-    pub last : step_of e ≡ done.step
-    pub output : WritesOutput done old new
-    pub marks : done.marks ≡ []
+-- one that goes on has come to a run's end: what was written is the output since
+abbrev pub HasRest : ℕ → Scenario → ℕ → Held → Held → Execution → Ended → Type 0
+HasRest limit sc from old new e ended =
+    IsAt e sc × EndsAt sc limit (step_of e) ended × Wrote sc from (step_of e) old new
+
+-- and one with its input has, whose step is chosen
+pub record HasRunAll
+    (waits : Bool) (limit : ℕ) (sc last : Scenario) (left rest : Option (List ℕ)) (old new : Held) (e : Execution)
+    (ended : Ended) : Type 0 where
+  pub done : Scenario
+  pub chosen : last ≡ at_step done (step_of e)
+  pub input : HasInputOf waits left rest sc (step_of e) done
+  pub at : IsAt e last
+  pub ends : EndsAt done limit (step_of e) ended
+  pub output : Gives old new (written_at done 1 (step_of e)) (written_at done 2 (step_of e))
+  pub marks : last.marks ≡ []
 
 -- ---- all of it
 
 -- nothing was read or written, and no place for the report was opened
 abbrev pub IsUntouched : Pipes → Pipes → Type 0
 IsUntouched old new =
-    Consumes old.left new.left [] × Appends old.held new.held [] × Appends old.logged new.logged []
+    Consumes old.left new.left [] × Gives old.held new.held [] [] × Appends old.logged new.logged []
     × (new.opened ≡ None)
 
 -- a list of leak kinds is none
@@ -231,6 +262,8 @@ plan_for order asked count symbols = record {
   count = count;
   quiet = asked.quiet;
   requires_heap = requires_heap asked;
+  end_line = asked.end_line;
+  limit = asked.memory_limit;
   known = known_of symbols (names_in asked.not_heap);
   place = asked.report;
 }
@@ -240,11 +273,11 @@ abbrev pub Opening : Type 1
 Opening = Option (List ℕ) → Option (List ℕ) → Type 0
 
 -- with a scenario: the place of the report is opened, and then the run made
-abbrev pub WithScenario : Opening → Plan → Scenario → Pipes → Pipes → ExecEnd → Type 0
-WithScenario opens plan sc old new end =
+abbrev pub WithScenario : Opening → Plan → Scenario → Pipes → Pipes → ExecEnd → List UnknownCall → Type 0
+WithScenario opens plan sc old new end unknown =
     ((end ≡ NoReport plan.place) × IsUntouched old new)
     ⊎ ((logged : Option (List ℕ)) × opens (path_of plan.place) logged × Appends old.logged logged []
-    × Executes plan sc (pipes old.left old.held logged (Some (path_of plan.place))) new end)
+    × Executes plan sc (pipes old.left old.held logged (Some (path_of plan.place))) new end unknown)
 
 -- what the options choose, or why they choose nothing: they are judged in this order
 pub record IsChoice (asked : ExecWords) (kinds : LeakKinds) (choices : Choices) : Type 0 where
@@ -253,6 +286,8 @@ pub record IsChoice (asked : ExecWords) (kinds : LeakKinds) (choices : Choices) 
   pub codes : choices.codes ≡ codes_of asked
   pub quiet : choices.quiet ≡ asked.quiet
   pub requires_heap : choices.requires_heap ≡ requires_heap asked
+  pub end_line : choices.end_line ≡ asked.end_line
+  pub limit : choices.limit ≡ asked.memory_limit
 
 abbrev pub NoChoice : Order → ExecWords → ExecEnd → Type 0
 NoChoice order asked end =
@@ -271,30 +306,34 @@ HasProgram gives words path image symbols =
 -- known
 abbrev pub WithImage :
     Giving → Opening → Order → ExecWords → LeakKinds → LeakKinds → Image → List SymbolContent → Pipes → Pipes → ExecEnd
-    → List ℕ → Type 0
-WithImage gives opens order asked show count image symbols old new end names =
+    → List ℕ → List UnknownCall → Type 0
+WithImage gives opens order asked show count image symbols old new end names unknown =
     (MakesNone gives order asked show image end × IsUntouched old new)
     ⊎ ((sc : Scenario) × Makes gives order asked show image sc
     × (names ≡ unknown_names symbols (names_in asked.not_heap))
-    × WithScenario opens (plan_for order asked count symbols) sc old new end)
+    × WithScenario opens (plan_for order asked count symbols) sc old new end unknown)
 
 abbrev pub WithProgram :
-    Giving → Opening → Order → ExecWords → LeakKinds → LeakKinds → Pipes → Pipes → ExecEnd → List ℕ → Type 0
-WithProgram gives opens order asked show count old new end names =
+    Giving → Opening → Order → ExecWords → LeakKinds → LeakKinds → Pipes → Pipes → ExecEnd → List ℕ
+    → List UnknownCall → Type 0
+WithProgram gives opens order asked show count old new end names unknown =
     (image : Image) × (symbols : List SymbolContent) × HasProgram gives order.profile order.file.now image symbols
-    × WithImage gives opens order asked show count image symbols old new end names
+    × WithImage gives opens order asked show count image symbols old new end names unknown
 
 -- with options that are none that end it: the program's file is read for the instruction set that the order names
 abbrev pub WithKinds :
-    Giving → Opening → Order → ExecWords → LeakKinds → LeakKinds → Pipes → Pipes → ExecEnd → List ℕ → Type 0
-WithKinds gives opens order asked show count old new end names =
+    Giving → Opening → Order → ExecWords → LeakKinds → LeakKinds → Pipes → Pipes → ExecEnd → List ℕ
+    → List UnknownCall → Type 0
+WithKinds gives opens order asked show count old new end names unknown =
     ((why : End) × (end ≡ Early why) × NoImage gives order.profile order.file.now why × IsUntouched old new)
     ⊎ ((end ≡ Early NoMemory) × IsUntouched old new)
-    ⊎ WithProgram gives opens order asked show count old new end names
+    ⊎ WithProgram gives opens order asked show count old new end names unknown
 
 -- an order for `exec` was carried out
-abbrev pub Executed : Giving → Opening → Order → ExecWords → Pipes → Pipes → ExecEnd → List ℕ → Type 0
-Executed gives opens order asked old new end names =
+abbrev pub Executed : Giving → Opening → Order → ExecWords → Pipes → Pipes → ExecEnd → List ℕ
+    → List UnknownCall → Type 0
+Executed gives opens order asked old new end names unknown =
     (NoChoice order asked end × IsUntouched old new)
     ⊎ ((show : LeakKinds) × (count : LeakKinds) × (leak_kinds asked.show.now ≡ Some show)
-    × (leak_kinds asked.count.now ≡ Some count) × WithKinds gives opens order asked show count old new end names)
+    × (leak_kinds asked.count.now ≡ Some count) × WithKinds gives opens order asked show count old new end names
+    unknown)

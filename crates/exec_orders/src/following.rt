@@ -1,12 +1,15 @@
 //! An order for `exec` is followed: options and files are judged, and then the run is made.
 ghost use Rattle.std.specs.Prelude.{◌≡◌, ℕ, List, [], Option, None, Some, Bool, true, IfErr, IfOk, is_some, option_map};
+ghost use Rattle.executions.specs.Executions.{held};
+ghost use Rattle.unknown_calls.specs.declared.UnknownCall.{UnknownCall};
 ghost use Rattle.exec_orders.specs.Executed.{Executed, IsChoice, NoChoice, WithScenario, is_path, is_read, names_in, pipes, requires_heap};
 
-use crate::executing::{Choices, Plan, execute};
+use crate::executing::{Choices, Finished, Plan, execute};
 use crate::log::Log;
 use crate::preparing::{kinds_of, prepare};
 use command_line::{ExecWords, Order};
 use ends::{Codes, End, ExecDone, ExecEnd};
+use executions::Streams;
 use file_heaps::FileHeap;
 use guest_elf::read_for;
 use program_files::{Files, MOST_READ, profile_named, read_front};
@@ -70,6 +73,8 @@ fn choices_of<'a>(
     };
     let quiet = asked.quiet;
     let requires_heap = requires_heap(asked);
+    let end_line = asked.end_line;
+    let limit = asked.memory_limit;
     Ok((
         show,
         Choices {
@@ -77,52 +82,60 @@ fn choices_of<'a>(
             count,
             quiet,
             requires_heap,
+            end_line,
+            limit,
         },
     ))
 }
 
 /// Opens the place of the report, and makes the run of a scenario.
-fn open_and_execute<'a, R: Read, W: Write, L: Log>(
+fn open_and_execute<'a, R: Read, O: Write, E: Write, L: Log>(
     alloc: Global,
     scenario: &mut Scenario,
     plan: Plan<'a>,
     reader: &mut R,
-    writer: &mut W,
+    streams: &mut Streams<O, E>,
     log: &mut L,
-) -> ExecEnd<'a>
+) -> Finished<'a>
     requires marks { scenario.old.marks ≡ [] }
     requires empty { plan.waits ≡ true → scenario.old.setup.input ≡ [] }
     requires unopened { L.place log.old ≡ None }
     ensures { WithScenario (λ place logged. (opened : L) × (L.place opened ≡ Some place) × (L.contents opened ≡ logged))
         plan.entry scenario.old
-        (pipes (R.remaining reader.old) (W.contents writer.old) (L.contents log.old) (L.place log.old))
-        (pipes (R.remaining reader.new) (W.contents writer.new) (L.contents log.new) (L.place log.new)) result }
+        (pipes (R.remaining reader.old) (held (O.contents streams.old.out) (E.contents streams.old.err)) (L.contents log.old) (L.place log.old))
+        (pipes (R.remaining reader.new) (held (O.contents streams.new.out) (E.contents streams.new.err)) (L.contents log.new) (L.place log.new))
+        result.end result.unknown.items }
 {
     if !log.open(plan.place) {
-        return ExecEnd::NoReport(plan.place);
+        return Finished {
+            end: ExecEnd::NoReport(plan.place),
+            unknown: Vec::new(alloc),
+        };
     }
-    execute(alloc, scenario, plan, reader, writer, log)
+    execute(alloc, scenario, plan, reader, streams, log)
 }
 
 /// Follows an order for `exec`: its options are judged, then its files, each before the next is read, and the run is made.
-fn follow<'a, F: Files, R: Read, W: Write, L: Log>(
+fn follow<'a, F: Files, R: Read, O: Write, E: Write, L: Log>(
     alloc: Global,
     order: &Order<'a>,
     asked: &ExecWords<'a>,
     files: &F,
     reader: &mut R,
-    writer: &mut W,
+    streams: &mut Streams<O, E>,
     log: &mut L,
-) -> Result<(ExecEnd<'a>, Vec<u8>), ExecEnd<'a>>
+) -> Result<ExecDone<'a>, ExecEnd<'a>>
     requires unopened { L.place log.old ≡ None }
-    ensures ok { IfOk result (λ r. Executed (F.gives files.now)
+    ensures ok { IfOk result (λ done. Executed (F.gives files.now)
         (λ place logged. (opened : L) × (L.place opened ≡ Some place) × (L.contents opened ≡ logged)) order.now asked.now
-        (pipes (R.remaining reader.old) (W.contents writer.old) (L.contents log.old) (L.place log.old))
-        (pipes (R.remaining reader.new) (W.contents writer.new) (L.contents log.new) (L.place log.new)) r.0 r.1.items) }
-    ensures err { IfErr result (λ end. (names : List ℕ) → Executed (F.gives files.now)
+        (pipes (R.remaining reader.old) (held (O.contents streams.old.out) (E.contents streams.old.err)) (L.contents log.old) (L.place log.old))
+        (pipes (R.remaining reader.new) (held (O.contents streams.new.out) (E.contents streams.new.err)) (L.contents log.new) (L.place log.new))
+        done.end done.names.items done.unknown.items) }
+    ensures file { IfOk result (λ done. done.file ≡ order.now.file) }
+    ensures err { IfErr result (λ end. (names : List ℕ) (unknown : List UnknownCall) → Executed (F.gives files.now)
         (λ place logged. (opened : L) × (L.place opened ≡ Some place) × (L.contents opened ≡ logged)) order.now asked.now
-        (pipes (R.remaining reader.old) (W.contents writer.old) (L.contents log.old) (L.place log.old))
-        (pipes (R.remaining reader.new) (W.contents writer.new) (L.contents log.new) (L.place log.new)) end names) }
+        (pipes (R.remaining reader.old) (held (O.contents streams.old.out) (E.contents streams.old.err)) (L.contents log.old) (L.place log.old))
+        (pipes (R.remaining reader.new) (held (O.contents streams.new.out) (E.contents streams.new.err)) (L.contents log.new) (L.place log.new)) end names unknown) }
 {
     let (show, choices) = choices_of(order, asked)?;
     let profile = profile_named(order.profile)?;
@@ -139,41 +152,45 @@ fn follow<'a, F: Files, R: Read, W: Write, L: Log>(
         count: choices.count,
         quiet: choices.quiet,
         requires_heap: choices.requires_heap,
+        end_line: choices.end_line,
+        limit: choices.limit,
         known: heap.known,
         place: asked.report,
     };
-    let end = open_and_execute(alloc, &mut scenario, plan, reader, writer, log);
-    Ok((end, heap.names))
+    let ended = open_and_execute(alloc, &mut scenario, plan, reader, streams, log);
+    Ok(ExecDone {
+        end: ended.end,
+        file: order.file,
+        names: heap.names,
+        unknown: ended.unknown,
+    })
 }
 
 /// Follows an order for `exec`, and returns how the program ends.
-pub fn exec_order<'a, F: Files, R: Read, W: Write, L: Log>(
+pub fn exec_order<'a, F: Files, R: Read, O: Write, E: Write, L: Log>(
     alloc: Global,
     order: &Order<'a>,
     asked: &ExecWords<'a>,
     files: &F,
     reader: &mut R,
-    writer: &mut W,
+    streams: &mut Streams<O, E>,
     log: &mut L,
 ) -> ExecDone<'a>
     requires unopened { L.place log.old ≡ None }
     ensures done { Executed (F.gives files.now)
         (λ place logged. (opened : L) × (L.place opened ≡ Some place) × (L.contents opened ≡ logged)) order.now asked.now
-        (pipes (R.remaining reader.old) (W.contents writer.old) (L.contents log.old) (L.place log.old))
-        (pipes (R.remaining reader.new) (W.contents writer.new) (L.contents log.new) (L.place log.new))
-        result.end result.names.items }
+        (pipes (R.remaining reader.old) (held (O.contents streams.old.out) (E.contents streams.old.err)) (L.contents log.old) (L.place log.old))
+        (pipes (R.remaining reader.new) (held (O.contents streams.new.out) (E.contents streams.new.err)) (L.contents log.new) (L.place log.new))
+        result.end result.names.items result.unknown.items }
     ensures file { result.file.now ≡ order.now.file.now }
 {
-    match follow(alloc, order, asked, files, reader, writer, log) {
-        Ok((end, names)) => ExecDone {
-            end,
-            file: order.file,
-            names,
-        },
+    match follow(alloc, order, asked, files, reader, streams, log) {
+        Ok(done) => done,
         Err(end) => ExecDone {
             end,
             file: order.file,
             names: Vec::new(alloc),
+            unknown: Vec::new(alloc),
         },
     }
 }

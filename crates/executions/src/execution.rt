@@ -1,16 +1,22 @@
 //! An execution, and how it is run.
-ghost use Rattle.std.specs.Prelude.{◌≡◌, ◌+◌, ◌≤◌, ◌<◌, if◌then◌else◌};
+ghost use Rattle.std.specs.Prelude.{◌≡◌, ◌+◌, ◌≤◌, ◌<◌, ◌||◌, ◌⊎◌, if◌then◌else◌, None};
+ghost use Rattle.unknown_calls.specs.UnknownCalls.{Within};
 
 use crate::fault::ExecutionFault;
 use crate::speaking::speak;
-use guest_machine::Machine;
+use crate::streams::Streams;
 use guest_machine::laws::{only_calls_speak, stays_at_rest, writes_what_it_reads};
+use guest_machine::{Machine, Register, Span};
 use scenario::Scenario;
 use std::alloc::{AllocError, Global};
 use std::io::Write;
+use unknown_calls::{UnknownCall, meet};
 
 /// The most steps between two looks at whether the machine rests in a jump to itself.
 const AT_ONCE: u32 = 65_536;
+
+/// The register in which a `write` has its descriptor: a0.
+const DESCRIPTOR: u8 = 10;
 
 /// A run of a scenario, at a step.
 #[derive(Drop)]
@@ -19,7 +25,14 @@ pub struct Execution {
     at: u32,
     /// How many `write`s found no room.
     refused: u32,
+    /// Whether the last line that it wrote to standard error is open.
+    is_open: bool,
+    /// The calls that aren't known.
+    unknown: Vec<UnknownCall>,
+    /// Whether one of its calls would do something else by the usual limits.
+    needs_limits: bool,
     ghost few: { refused ≤ at },
+    ghost counts: { Within at unknown.items },
 }
 
 /// One more of a count, where a test holds.
@@ -30,13 +43,27 @@ fn counted(count: u32, more: bool) -> u32
     if more { count + 1 } else { count }
 }
 
+/// Whether one of two tests holds.
+fn either(one: bool, other: bool) -> bool
+    ensures { result ≡ (one || other) }
+{
+    one || other
+}
+
+/// Returns the range of the bytes that a step writes out: the one that it reads, if the output is longer after it.
+fn piece_range(before: u64, after: u64, reads: Option<Span>) -> Option<Span>
+    ensures { ((after ≡ before) × (result ≡ None)) ⊎ ((after ≡ before → ⊥) × (result ≡ reads)) }
+{
+    if after == before { None } else { reads }
+}
+
 impl Execution {
     ghost use Rattle.std.specs.Prelude.{◌≡◌, ◌+◌, ◌≤◌, ◌<◌, IfErr, IfOk, IsTrue, false};
     ghost use Rattle.guest_machine.specs.Streams.{Rests};
-    ghost use Rattle.executions.specs.Executions.{state_at, step_of, machine_of, refused_of, GoesOn, GoesOnSilently, IsAt, LeavesEnd, StopsAt, Wrote, WroteFront};
+    ghost use Rattle.executions.specs.Executions.{held, limited_of, state_at, step_of, machine_of, open_of, refused_of, unknown_of, GoesOn, GoesOnSilently, IsAt, LeavesEnd, StopsAt, Wrote, WroteFront};
 
     /// Returns the execution of a scenario at step 0.
-    pub fn begin(scenario: &Scenario) -> Result<Self, AllocError>
+    pub fn begin(alloc: Global, scenario: &Scenario) -> Result<Self, AllocError>
         ensures at { IfOk result (λ e. IsAt e scenario.now) }
         ensures first { IfOk result (λ e. step_of e ≡ 0) }
     {
@@ -44,6 +71,9 @@ impl Execution {
             machine: scenario.start()?,
             at: 0,
             refused: 0,
+            is_open: false,
+            unknown: Vec::new(alloc),
+            needs_limits: false,
         })
     }
 
@@ -68,6 +98,27 @@ impl Execution {
         self.refused
     }
 
+    /// Returns whether the last line that it wrote to standard error is open: whether its last byte is another one than a newline.
+    pub fn is_open(&self) -> bool
+        ensures { result ≡ open_of self.now }
+    {
+        self.is_open
+    }
+
+    /// Returns the calls that weren't known so far, of which the first ten numbers are kept.
+    pub fn into_unknown(self) -> Vec<UnknownCall>
+        ensures { result.items ≡ unknown_of self }
+    {
+        self.unknown
+    }
+
+    /// Returns whether a call so far would have done something else by the usual limits.
+    pub fn needs_limits(&self) -> bool
+        ensures { result ≡ limited_of self.now }
+    {
+        self.needs_limits
+    }
+
     /// Makes the steps before the next that may be an ECALL, or some of them, and none from the chosen step on.
     fn run_quietly(self, scenario: &Scenario) -> Result<Self, AllocError>
         requires at { IsAt self scenario.now }
@@ -79,6 +130,9 @@ impl Execution {
             machine,
             at,
             refused,
+            is_open,
+            unknown,
+            needs_limits,
         } = self;
         let steps = (scenario.step() - at).min(AT_ONCE);
         let (machine, made) = machine.run_quietly(scenario.setup(), steps)?;
@@ -86,6 +140,9 @@ impl Execution {
             machine,
             at: at + made,
             refused,
+            is_open,
+            unknown,
+            needs_limits,
         })
     }
 
@@ -103,57 +160,76 @@ impl Execution {
             machine,
             at,
             refused,
+            is_open,
+            unknown,
+            needs_limits,
         } = self;
         let last = scenario.step();
         Execution {
             machine: machine.rest_for(last - at),
             at: last,
             refused,
+            is_open,
+            unknown,
+            needs_limits,
         }
     }
 
-    /// Makes one step, and writes what it writes out.
-    fn step<W: Write>(
+    /// Makes one step, and writes what it writes to the stream of its descriptor.
+    fn step<O: Write, E: Write>(
         self,
         alloc: Global,
         scenario: &Scenario,
-        writer: &mut W,
+        streams: &mut Streams<O, E>,
     ) -> Result<Self, ExecutionFault>
         requires at { IsAt self scenario.now }
         requires before { step_of self < scenario.now.step }
         ensures on { IfOk result (λ e. IsAt e scenario.now) }
         ensures next { IfOk result (λ e. step_of e ≡ step_of self + 1) }
-        ensures ok { IfOk result (λ e. Wrote scenario.now (step_of self) (step_of e) (W.contents writer.old) (W.contents writer.new)) }
-        ensures err { IfErr result (λ fault. WroteFront scenario.now (step_of self) (W.contents writer.old) (W.contents writer.new)) }
+        ensures ok { IfOk result (λ e. Wrote scenario.now (step_of self) (step_of e)
+            (held (O.contents streams.old.out) (E.contents streams.old.err))
+            (held (O.contents streams.new.out) (E.contents streams.new.err))) }
+        ensures err { IfErr result (λ fault. WroteFront scenario.now (step_of self)
+            (held (O.contents streams.old.out) (E.contents streams.old.err))
+            (held (O.contents streams.new.out) (E.contents streams.new.err))) }
     {
         writes_what_it_reads();
         let Execution {
             machine,
             at,
             refused,
+            is_open,
+            unknown,
+            needs_limits,
         } = self;
         let _last = scenario.step();
+        let mut unknown = unknown;
+        meet(&mut unknown, machine.unknown_call(scenario.setup()))?;
         let refused = counted(refused, machine.refuses_write(scenario.setup()));
+        let needs_limits = either(needs_limits, machine.needs_limits(scenario.setup()));
         let written = machine.output_len();
+        let descriptor = machine.register(Register::new(DESCRIPTOR)).value;
         let (machine, touched) = machine.step_on(scenario.setup())?;
-        if machine.output_len() != written {
-            speak(alloc, machine.memory(), touched.reads, writer)?;
-        }
+        let range = piece_range(written, machine.output_len(), touched.reads);
+        let is_open = speak(alloc, machine.memory(), range, descriptor, is_open, streams)?;
         Ok(Execution {
             machine,
             at: at + 1,
             refused,
+            is_open,
+            unknown,
+            needs_limits,
         })
     }
 
     /// Makes steps up to and with the next that may be an ECALL. Returns whether it goes on: it doesn't before a step that asks for more input
     /// than there is, if it may wait for that.
-    fn turn<W: Write>(
+    fn turn<O: Write, E: Write>(
         self,
         alloc: Global,
         scenario: &Scenario,
         waits: bool,
-        writer: &mut W,
+        streams: &mut Streams<O, E>,
     ) -> Result<(Self, bool), ExecutionFault>
         requires at { IsAt self scenario.now }
         requires before { step_of self < scenario.now.step }
@@ -161,8 +237,12 @@ impl Execution {
         ensures next { IfOk result (λ r. IsTrue r.1 → step_of self < step_of r.0) }
         ensures stops { IfOk result (λ r. r.1 ≡ false → StopsAt scenario.now waits (step_of r.0)) }
         ensures unseen { IfOk result (λ r. LeavesEnd scenario.now waits (step_of self) (step_of r.0)) }
-        ensures ok { IfOk result (λ r. Wrote scenario.now (step_of self) (step_of r.0) (W.contents writer.old) (W.contents writer.new)) }
-        ensures err { IfErr result (λ fault. WroteFront scenario.now (step_of self) (W.contents writer.old) (W.contents writer.new)) }
+        ensures ok { IfOk result (λ r. Wrote scenario.now (step_of self) (step_of r.0)
+            (held (O.contents streams.old.out) (E.contents streams.old.err))
+            (held (O.contents streams.new.out) (E.contents streams.new.err))) }
+        ensures err { IfErr result (λ fault. WroteFront scenario.now (step_of self)
+            (held (O.contents streams.old.out) (E.contents streams.old.err))
+            (held (O.contents streams.new.out) (E.contents streams.new.err))) }
     {
         let quiet = self.run_quietly(scenario)?;
         if quiet.at == scenario.step() {
@@ -174,30 +254,35 @@ impl Execution {
         if waits && quiet.machine.sees_end(scenario.setup()) {
             return Ok((quiet, false));
         }
-        let next = quiet.step(alloc, scenario, writer)?;
+        let next = quiet.step(alloc, scenario, streams)?;
         Ok((next, true))
     }
 
-    /// Runs to the chosen step, and writes what the program writes out, each piece when it is made. One that `waits` stops before the first
-    /// step that asks for more input than there is. After a fault a front of the output was written.
-    pub fn run<W: Write>(
+    /// Runs to the chosen step, and writes what the program writes, each piece in its step to the stream of its descriptor. One that `waits`
+    /// stops before the first step that asks for more input than there is. After a fault all that was written before some step was given
+    /// to its stream, and a front of what that step writes.
+    pub fn run<O: Write, E: Write>(
         self,
         alloc: Global,
         scenario: &Scenario,
         waits: bool,
-        writer: &mut W,
+        streams: &mut Streams<O, E>,
     ) -> Result<Self, ExecutionFault>
         requires at { IsAt self scenario.now }
         requires within { step_of self ≤ scenario.now.step }
         ensures on { IfOk result (λ e. IsAt e scenario.now) }
         ensures stops { IfOk result (λ e. StopsAt scenario.now waits (step_of e)) }
         ensures unseen { IfOk result (λ e. LeavesEnd scenario.now waits (step_of self) (step_of e)) }
-        ensures ok { IfOk result (λ e. Wrote scenario.now (step_of self) (step_of e) (W.contents writer.old) (W.contents writer.new)) }
-        ensures err { IfErr result (λ fault. WroteFront scenario.now (step_of self) (W.contents writer.old) (W.contents writer.new)) }
+        ensures ok { IfOk result (λ e. Wrote scenario.now (step_of self) (step_of e)
+            (held (O.contents streams.old.out) (E.contents streams.old.err))
+            (held (O.contents streams.new.out) (E.contents streams.new.err))) }
+        ensures err { IfErr result (λ fault. WroteFront scenario.now (step_of self)
+            (held (O.contents streams.old.out) (E.contents streams.old.err))
+            (held (O.contents streams.new.out) (E.contents streams.new.err))) }
     {
         let mut execution = self;
         while execution.at < scenario.step() {
-            let (next, goes_on) = execution.turn(alloc, scenario, waits, writer)?;
+            let (next, goes_on) = execution.turn(alloc, scenario, waits, streams)?;
             execution = next;
             if !goes_on {
                 return Ok(execution);

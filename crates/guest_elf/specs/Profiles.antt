@@ -1,14 +1,18 @@
 -- What a file is read for, besides its own bytes: an instruction set (RISC-V Unprivileged ISA 20191213, chapter
--- 27, "ISA Extension Naming Conventions"), and the regions of heap and stack.
+-- 27, "ISA Extension Naming Conventions"), the regions of heap and stack, and how many bytes `read` and `write` move.
 use Rattle.std.specs.Prelude.{ℕ, ◌%◌, ◌==◌, Bool, true, false, not}
 use Rattle.guest_elf.specs.declared.profile.Isa.{Isa}
 use Rattle.guest_elf.specs.declared.profile.Isa.TheVariants.{Rv32im, Rv32imc, Rv32imac}
 use Rattle.guest_elf.specs.declared.profile.Profile.{Profile}
+use Rattle.guest_elf.specs.declared.profile.StreamLimits.{StreamLimits}
 use Rattle.memory_map.specs.Usual.{usual as usual_regions}
 
 -- where nothing is said of it
+abbrev pub usual_limits : StreamLimits
+usual_limits = record { most_moved = 4096; most_output = 65536 }
+
 abbrev pub usual : Profile
-usual = record { isa = Rv32im; regions = usual_regions }
+usual = record { isa = Rv32im; regions = usual_regions; limits = usual_limits }
 
 -- IALIGN in bytes: each instruction begins at a multiple of it (sections 1.5 and 16.1)
 unfoldable pub unit : Isa → ℕ

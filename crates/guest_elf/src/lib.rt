@@ -9,7 +9,7 @@
 //! |---|---|
 //! | [`read`] | the image of a file, or an [`ElfFault`] |
 //! | [`read_for`] | the same, with a profile other than the usual one |
-//! | [`Profile::USUAL`] | the profile of [`read`]: RV32IM, and the usual regions of heap and stack |
+//! | [`Profile::USUAL`] | the profile of [`read`]: RV32IM, the usual regions of heap and stack, and the usual [`StreamLimits`] |
 //! | [`Isa::aligns`] | whether an instruction may begin at an address |
 //! | [`Image::segments`] | the loaded segments, in the order of the file's program headers |
 //! | [`Image::entry`] | the address of the first instruction |
@@ -87,7 +87,7 @@ pub use fault::ElfFault;
 pub use hook::Hook;
 pub use image::Image;
 pub use laws::{pieces_stay_good, usual_whole};
-pub use profile::{Isa, Profile};
+pub use profile::{Isa, Profile, StreamLimits};
 pub use reading::{read, read_for};
 pub use segment::Segment;
 pub use segments::MOST_BYTES;

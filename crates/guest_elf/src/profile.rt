@@ -92,6 +92,23 @@ impl Isa {
     }
 }
 
+/// How many bytes the calls `read` and `write` of a program move.
+#[derive(Clone, Copy, PartialEq, Eq)]
+pub struct StreamLimits {
+    /// The greatest number of bytes that one call moves.
+    pub most_moved: u32,
+    /// The greatest number of bytes of output in all; with the greatest `u64`, which no run comes to, there is no limit.
+    pub most_output: u64,
+}
+
+impl StreamLimits {
+    /// The numbers where nothing is said of them.
+    pub const USUAL: StreamLimits = StreamLimits {
+        most_moved: 4096,
+        most_output: 65_536,
+    };
+}
+
 /// What a file is read for, besides the file's own bytes.
 #[derive(Clone, Copy, PartialEq, Eq)]
 pub struct Profile {
@@ -99,6 +116,8 @@ pub struct Profile {
     pub isa: Isa,
     /// Where the heap's region and the stack's lie.
     pub regions: Regions,
+    /// How many bytes its calls move.
+    pub limits: StreamLimits,
 }
 
 impl Profile {
@@ -106,5 +125,6 @@ impl Profile {
     pub const USUAL: Profile = Profile {
         isa: Isa::Rv32im,
         regions: Regions::USUAL,
+        limits: StreamLimits::USUAL,
     };
 }

@@ -31,7 +31,8 @@ pub struct Heap {
     live: Table,
     freed: Table,
     queue: Queue,
-    // The number of blocks that have left the queue, and the number that were freed.
+    // The number of blocks that were placed, of those that have left the queue, and of those that were freed.
+    placed: u64,
     first: u64,
     next: u64,
     // The sum of the sizes in the queue.
@@ -80,6 +81,7 @@ impl Heap {
             live,
             freed,
             queue,
+            placed: 0,
             first: 0,
             next: 0,
             held: 0,
@@ -106,6 +108,7 @@ impl Heap {
             live,
             freed,
             queue,
+            placed: self.placed,
             first: self.first,
             next: self.next,
             held: self.held,
@@ -134,6 +137,11 @@ impl Heap {
         ensures { result ≡ (blocks_of self.now).begin }
     {
         self.begin
+    }
+
+    /// Returns how many blocks are kept: live ones, and those of the queue. No contract says so: it is for limits of memory.
+    pub fn kept_blocks(&self) -> u64 {
+        self.placed.saturating_sub(self.first)
     }
 
     /// Does nothing. Its contract says that the kept blocks of a heap are apart.

@@ -17,7 +17,7 @@
 //! | [`Heap::block_near`] | returns the kept block whose interval holds an address, and where in it the address lies |
 //! | [`Heap::is_same`] | returns whether another heap has the same blocks |
 //! | [`Heap::share`] | returns a copy, which later changes of the original don't reach |
-//! | [`Heap::begin`] | returns the first address of the heap's region |
+//! | [`Heap::begin`], [`Heap::kept_blocks`] | return the first address of the heap's region, and how many blocks are kept |
 //! | [`Heap::in_region`], [`Heap::apart`] | do nothing; their contracts say what the laws require of a heap's blocks |
 //! | [`laws`] | do nothing; their contracts say what the functions of the definitions mean |
 //!

@@ -42,7 +42,7 @@ window-same f g a len fits same = fun_ext (λ i. go i (nat_lt i len) refl)
         let low : i < len = grind (arith, nat_tests) in
         ap g (flat a i len fits low) ∙ same i low ∙ ap f (sym (flat a i len fits low))
 
-first-same : (p q : ℕ → Bool) (k n : ℕ) → ((i : ℕ) → k ≤ i → i < k + n → q i ≡ p i)
+pub first-same : (p q : ℕ → Bool) (k n : ℕ) → ((i : ℕ) → k ≤ i → i < k + n → q i ≡ p i)
     → first_from q k n ≡ first_from p k n
 unfolding first_from
 first-same p q k zero same = refl

@@ -9,6 +9,7 @@ use Rattle.shadow_memory.specs.Shadows.{first_inaccessible}
 use Rattle.guest_elf.specs.declared.hook.Hook.{Hook}
 use Rattle.guest_elf.specs.declared.hook.Hook.TheVariants.{Malloc, Free, Calloc, Realloc}
 use Rattle.guest_elf.specs.declared.profile.Isa.{Isa}
+use Rattle.guest_elf.specs.declared.profile.StreamLimits.{StreamLimits}
 use Rattle.memory_map.specs.declared.regions.StackRegion.{StackRegion}
 use Rattle.guest_elf.specs.declared.profile.Isa.TheVariants.{Rv32im}
 use Rattle.guest_heap.specs.Steps.{place}
@@ -45,7 +46,7 @@ use Rattle.guest_machine.specs.Effects.{Effect, branch_tested, branched, followe
 use Rattle.guest_machine.specs.Effects.{moved_to, next_of, quiet, raising, results_in, stopped, stops, store, target}
 use Rattle.instructions.specs.declared.width.Width.TheVariants.{Word as Word4}
 use Rattle.guest_machine.specs.Calls.{answers, argument, call_at, call_tested, ebadf, enospc, failure, heap_parameters}
-use Rattle.guest_machine.specs.Calls.{is_output, moved_len, output_room, parameters_of, read_call, tested_from}
+use Rattle.guest_machine.specs.Calls.{has_room, is_output, parameters_of, read_call, tested_from}
 use Rattle.guest_machine.specs.Calls.{write_call}
 use Rattle.guest_machine.specs.HeapCalls.{Resizing, Allocates, Refuses, Frees, Keeps, Moves, block_at, freed, heap_work}
 use Rattle.guest_machine.specs.HeapCalls.{released_here, resized, resizing}
@@ -57,18 +58,19 @@ use Rattle.guest_machine.specs.Exec.{fetch_fault, fetched, half_at, word_at, wor
 use Rattle.guest_machine.specs.Exec.{called_here, deed_at, fetches, is_running, jump_fault, outcome}
 use Rattle.guest_machine.specs.Exec.{row_effect, unfetched}
 use Rattle.guest_machine.specs.declared.setup.Setup.{Setup}
-use Rattle.guest_machine.specs.Laws.{GoesByFours, IsByFours, KeepsIsa, KeepsRegions}
+use Rattle.guest_machine.specs.Laws.{GoesByFours, IsByFours, KeepsIsa, KeepsLimits, KeepsRegions}
 use Rattle.guest_machine.specs.declared.environment_call.EnvironmentCall.{EnvironmentCall}
 use Rattle.guest_machine.specs.declared.environment_call.EnvironmentCall.TheVariants.{Read, Write, Exit, ExitGroup}
 use Rattle.guest_machine.specs.declared.environment_call.EnvironmentCall.TheVariants.{Heap, Unknown}
 use Rattle.guest_machine.proofs.StreamLaw.{reads-in, writes-from}
 
--- what no step changes: the instruction set, the region of the stack, and where the heap's region begins
+-- what no step changes: the instruction set, the region of the stack, where the heap's region begins, and how many
+-- bytes calls move
 abbrev Fixed : Type 0
-Fixed = Isa × StackRegion × ℕ
+Fixed = Isa × StackRegion × ℕ × StreamLimits
 
 abbrev fixed : Core → Fixed
-fixed c = (c.isa, c.stack, c.blocks.begin)
+fixed c = (c.isa, c.stack, c.blocks.begin, c.limits)
 
 either : (b : Bool) (f : Fixed) (x y : Core) → fixed x ≡ f → fixed y ≡ f → fixed (cond b x y) ≡ f
 either true f x y h k = h
@@ -179,10 +181,10 @@ calls c next Read terms given taken =
     (answers c next Read (failure ebadf)) (call-tests c Read) (answer c next Read (failure ebadf))
 calls c next Write terms given taken =
     either-effect (is_output (argument c 10)) (fixed c)
-    (cond (nat_le (terms.written + moved_len c) output_room) (writes-from c next taken)
+    (cond (has_room c terms.written) (writes-from c next taken)
     (answers c next Write (failure enospc)))
     (answers c next Write (failure ebadf))
-    (either-effect (nat_le (terms.written + moved_len c) output_room) (fixed c) (writes-from c next taken)
+    (either-effect (has_room c terms.written) (fixed c) (writes-from c next taken)
     (answers c next Write (failure enospc)) (call-tests c Write) (answer c next Write (failure enospc)))
     (answer c next Write (failure ebadf))
 calls c next Exit terms given taken = call-tests c Exit
@@ -294,6 +296,9 @@ keeps-regions = record {
   stack = λ setup s. ap (λ (f : Fixed). f.1) (keeps-fixed setup s);
   heap = λ setup s. ap (λ (f : Fixed). f.2) (keeps-fixed setup s);
 }
+
+pub keeps-limits : KeepsLimits
+keeps-limits setup s = ap (λ (f : Fixed). f.3) (keeps-fixed setup s)
 
 -- ---- where an instruction may begin
 

@@ -24,3 +24,4 @@ pub mod Deeds
 pub mod IdleLaw
 pub mod StreamSteps
 pub mod FetchLaw
+pub mod Moving

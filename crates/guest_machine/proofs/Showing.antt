@@ -198,6 +198,7 @@ holds-poked m memory addr code b c zero s h =
             blocks = blocks_of m.heap;
             isa = m.isa;
             stack = m.stack;
+            limits = m.limits;
             reserved = m.reserved;
             controls = registers_in m.controls;
             steps = cond (has_controls m.isa) m.steps 0;

@@ -10,6 +10,7 @@ use Rattle.std.proofs.Math.Path.{fun_ext}
 use Rattle.definedness.specs.declared.Bits.{Bits}
 use Rattle.guest_elf.specs.declared.image.Image.{Image}
 use Rattle.guest_elf.specs.declared.profile.Isa.{Isa}
+use Rattle.guest_elf.specs.declared.profile.StreamLimits.{StreamLimits}
 use Rattle.guest_elf.specs.declared.segment.Segment.{Segment}
 use Rattle.guest_elf.specs.Images.{segments_of, entry_of, loaded_at, profile_of}
 use Rattle.shadow_memory.specs.Ranges.{written}
@@ -39,14 +40,15 @@ none-made false = refl
 
 pub holds-start : (alloc : Global) (image : Image) (fresh loaded memory : Memory) (groups : Groups)
     (frames : List Frame) (heap : Heap) (controls : ControlRegisters) (segments : List Segment) (pc : ℕ) (isa : Isa)
-    (stack : StackRegion) (from : ℕ) (zeros top : Bits)
+    (stack : StackRegion) (limits : StreamLimits) (from : ℕ) (zeros top : Bits)
     → bytes_in fresh ≡ (λ a. 0) → shadows_in fresh ≡ (λ a. shadow_of NoAccess)
     → bytes_in loaded ≡ loaded_bytes segments (bytes_in fresh)
     → shadows_in loaded ≡ loaded_shadows segments (shadows_in fresh)
     → bytes_in memory ≡ written (bytes_in loaded) from 16 (slice_index [])
     → shadows_in memory ≡ made_so (shadows_in loaded) from 16 Defined
     → segments ≡ segments_of image → pc ≡ entry_of image → isa ≡ (profile_of image).isa
-    → stack ≡ (profile_of image).regions.stack → from ≡ stack_start image → zeros ≡ known 0 → top ≡ known from
+    → stack ≡ (profile_of image).regions.stack → limits ≡ (profile_of image).limits → from ≡ stack_start image
+    → zeros ≡ known 0 → top ≡ known from
     → groups_of groups ≡ [] → frames ≡ [] → blocks_of heap ≡ no_blocks (profile_of image).regions.heap
     → registers_in controls ≡ no_registers
     → (zero : slice_index_or (slice_set (replicate 32 zeros) 2 top) 0 (known 0) ≡ known 0)
@@ -62,6 +64,7 @@ pub holds-start : (alloc : Global) (image : Image) (fresh loaded memory : Memory
       noted = record { groups = groups; raised = false };
       isa = isa;
       stack = stack;
+      limits = limits;
       reserved = None;
       controls = controls;
       steps = 0;
@@ -69,8 +72,8 @@ pub holds-start : (alloc : Global) (image : Image) (fresh loaded memory : Memory
     })
     (start_state image)
 unfolding start_state loaded_bytes loaded_shadows loaded_at grouped firsts_after
-holds-start alloc image fresh loaded memory groups frames heap controls segments pc isa stack from zeros top b0 s0 b1 s1
-    b2 s2 same at set is-stack starts z t g calls none untouched zero =
+holds-start alloc image fresh loaded memory groups frames heap controls segments pc isa stack limits from zeros top b0
+    s0 b1 s1 b2 s2 same at set is-stack are-limits starts z t g calls none untouched zero =
     record {
       bytes = b2 ∙ ap₂ (λ f m. written f from 16 m) (b1 ∙ ap₂ loaded_bytes same b0) (fun_ext (λ i. refl))
           ∙ ap (λ n. written (image_bytes image) n 16 no_bytes) starts;
@@ -84,6 +87,7 @@ holds-start alloc image fresh loaded memory groups frames heap controls segments
         blocks = none i;
         isa = set i;
         stack = is-stack i;
+        limits = are-limits i;
         reserved = None;
         controls = untouched i;
         steps = none-made (has_controls isa) i;

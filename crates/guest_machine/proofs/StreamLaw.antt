@@ -1,5 +1,5 @@
 -- What a step has to do with input and output follows from its instruction.
-use Rattle.std.proofs.Common.{◌≡◌, ◌⊎◌, inl, inr, ℕ, zero, suc, ◌+◌, ◌&&◌, ◌==◌, nat_le, Bool, true, false}
+use Rattle.std.proofs.Common.{◌≡◌, ◌⊎◌, inl, inr, ℕ, zero, suc, ◌+◌, ◌&&◌, ◌==◌, Bool, true, false}
 use Rattle.std.proofs.Common.{cond, List, [], ◌++◌, length, append-nil, append_assoc, Option, Some, None}
 use Rattle.std.proofs.Common.{refl, ap, sym, ◌∙◌, arith, add-zero}
 use Rattle.guest_elf.specs.Profiles.{has_atomics, is_aligned}
@@ -33,9 +33,9 @@ use Rattle.guest_machine.specs.Registers.{tested}
 use Rattle.guest_machine.specs.Effects.{Effect, moved_to, next_of, no_bytes, quiet, raising, stopped, stops, store}
 use Rattle.guest_machine.specs.Effects.{stored_core}
 use Rattle.guest_machine.specs.Calls.{answered, argument, answers, appends, bytes_taken, call_at, is_output}
-use Rattle.guest_machine.specs.Calls.{moved_len, failure}
+use Rattle.guest_machine.specs.Calls.{moved_len, failure, has_room}
 use Rattle.guest_machine.specs.Calls.{call_errors, call_tested, ebadf, enospc}
-use Rattle.guest_machine.specs.Calls.{read_call, write_call, output_room}
+use Rattle.guest_machine.specs.Calls.{read_call, write_call}
 use Rattle.guest_machine.specs.HeapCalls.{heap_work}
 use Rattle.guest_machine.specs.NamedCalls.{named_by, returns}
 use Rattle.guest_machine.specs.Exec.{Deed, Takes, Cut, CallsByName, Halts, Terms, Uses, word_fault}
@@ -207,7 +207,7 @@ call-spoken core next Read terms given bytes =
     inl (of-two (argument core 10 == 0) (reads-in core next terms.intake.count given)
     (answers core next Read (failure ebadf)) refl refl)
 call-spoken core next Write terms given bytes =
-    write-spoken (is_output (argument core 10)) (nat_le (terms.written + moved_len core) output_room) bytes
+    write-spoken (is_output (argument core 10)) (has_room core terms.written) bytes
     (record { start = argument core 11; len = moved_len core }) (writes-from core next)
     (answers core next Write (failure enospc))
     (answers core next Write (failure ebadf)) (λ taken. refl) refl refl

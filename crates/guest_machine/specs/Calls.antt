@@ -1,9 +1,12 @@
 -- The calls that a program makes of its environment by ECALL (RISC-V Unprivileged ISA 20191213, section 2.8), numbered
 -- as in Linux for RISC-V, and from 2001 on the heap's. The number is in a7 (x17), the arguments are in a0 (x10) and on,
 -- and the result goes to a0.
-use Rattle.std.specs.Prelude.{ℕ, ◌+◌, ◌-◌, ◌^◌, ◌%◌, ◌==◌, ◌||◌, ◌&&◌, Bool, true, false, nat_le, min, if◌then◌else◌}
+use Rattle.std.specs.Prelude.{ℕ, ◌+◌, ◌-◌, ◌^◌, ◌%◌, ◌==◌, ◌||◌, ◌&&◌, not, Bool, true, false, nat_le, min, max}
+use Rattle.std.specs.Prelude.{if◌then◌else◌, unwrap_or}
 use Rattle.std.specs.Prelude.{List, [], ◌∷◌, ◌++◌, map, slice_index}
 use Rattle.std.specs.List.{range_with_len}
+use Rattle.shadow_memory.specs.Ranges.{above, first_from}
+use Rattle.shadow_memory.specs.Shadows.{Shadow}
 use Rattle.error_events.specs.declared.event.Event.{Event}
 use Rattle.error_events.specs.declared.parameter.Parameter.{Parameter}
 use Rattle.error_events.specs.declared.parameter.Parameter.TheVariants.{SyscallNumber, ReadFd, ReadBuffer, ReadCount}
@@ -109,13 +112,24 @@ answers core next call n = raising (moved_to (answered (call_tested core call) n
 
 -- read and write: the descriptor is in a0, the buffer in a1, the count in a2 --
 
--- the greatest number of bytes that one call moves
-abbrev pub most_moved : ℕ
-most_moved = 4096
+-- how many of n bytes from an address on come before the first that may not be accessed
+unfoldable pub accessible_len : (ℕ → Shadow) → ℕ → ℕ → ℕ
+accessible_len shadow start n = unwrap_or (first_from (λ i. not (shadow (above start i)).accessible) 0 n) n
 
--- the bytes that one call moves
+-- so many bytes are moved even if they may not be accessed
+abbrev pub always_moved : ℕ
+always_moved = 4096
+
+-- of n bytes from an address on these are moved: those beyond the first 4,096 only up to the first that may not be
+-- accessed (a write(2) that faults later returns what it has written)
+abbrev pub moved_from_start : (ℕ → Shadow) → ℕ → ℕ → ℕ
+moved_from_start shadow start n =
+    if nat_le n always_moved then n else max always_moved (accessible_len shadow start n)
+
+-- the bytes that one call moves: those that it asks for, up to the limit
 unfoldable pub moved_len : Core → ℕ
-moved_len core = min (argument core 12) most_moved
+moved_len core =
+    moved_from_start core.shadow (argument core 11) (min (argument core 12) core.limits.most_moved)
 
 -- the buffer is tested for as many bytes as the call may move, and the n bytes that are given of the input are stored
 -- even so, with no undefined bits. Descriptor 0 is the input
@@ -132,16 +146,17 @@ read_call core next n given =
     })
     else answers core next Read (failure ebadf)
 
--- descriptors 1 and 2 are the output, which has room for 65,536 bytes in all
+-- descriptors 1 and 2 are the output
 abbrev pub is_output : ℕ → Bool
 is_output descriptor = (descriptor == 1) || (descriptor == 2)
 
-abbrev pub output_room : ℕ
-output_room = 65536
+-- is there room for the bytes of a write, after this number of bytes so far?
+abbrev pub has_room : Core → ℕ → Bool
+has_room core written = nat_le (written + moved_len core) core.limits.most_output
 
--- does write append its bytes, after this number of bytes so far?
+-- does write append its bytes?
 unfoldable pub appends : Core → ℕ → Bool
-appends core written = is_output (argument core 10) && nat_le (written + moved_len core) output_room
+appends core written = is_output (argument core 10) && has_room core written
 
 -- the bytes at the first n offsets
 abbrev pub bytes_taken : (ℕ → ℕ) → ℕ → List ℕ
@@ -152,7 +167,7 @@ unfoldable pub write_call : Core → ℕ → ℕ → (ℕ → ℕ) → Effect
 write_call core next written taken =
     if is_output (argument core 10)
     then
-    (if nat_le (written + moved_len core) output_room
+    (if has_room core written
     then
     (let now = call_tested core Write in
     let n = moved_len core in

@@ -155,6 +155,10 @@ pub record KeepsRegions : Type 0 where
   pub stack : (setup : Setup) (s : State) → (exec s setup).core.stack ≡ s.core.stack
   pub heap : (setup : Setup) (s : State) → (exec s setup).core.blocks.begin ≡ s.core.blocks.begin
 
+-- a step leaves how many bytes calls move
+abbrev pub KeepsLimits : Type 0
+KeepsLimits = (setup : Setup) (s : State) → (exec s setup).core.limits ≡ s.core.limits
+
 -- a core at which an instruction may begin at each multiple of 4, and nowhere else, and has 4 bytes (RISC-V
 -- Unprivileged ISA 20191213, section 1.5)
 pub record IsByFours (core : Core) : Type 0 where

@@ -49,6 +49,7 @@ start_state image =
         blocks = no_blocks (profile_of image).regions.heap;
         isa = (profile_of image).isa;
         stack = (profile_of image).regions.stack;
+        limits = (profile_of image).limits;
         reserved = None;
         controls = no_registers;
         steps = 0;

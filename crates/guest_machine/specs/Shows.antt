@@ -21,6 +21,7 @@ core_of g = record {
   blocks = blocks_of g.heap;
   isa = g.isa;
   stack = g.stack;
+  limits = g.limits;
   reserved = g.reserved;
   controls = registers_in g.controls;
   steps = if has_controls g.isa then g.steps else 0;

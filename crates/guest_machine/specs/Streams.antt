@@ -1,22 +1,24 @@
 -- What a step has to do with the program's input and output, and the laws of it, which follow from the form of a step.
-use Rattle.std.specs.Prelude.{◌≡◌, ℕ, zero, suc, ◌+◌, ◌%◌, ◌^◌, ◌<◌, ◌==◌, ◌&&◌, ◌⊎◌, Bool, true, false, not}
+use Rattle.std.specs.Prelude.{◌≡◌, ℕ, zero, suc, ◌+◌, ◌%◌, ◌^◌, ◌<◌, ◌==◌, ◌&&◌, ◌||◌, ◌⊎◌, Bool, true, false, not}
 use Rattle.std.specs.Prelude.{if◌then◌else◌}
 use Rattle.std.specs.Prelude.{List, [], ◌++◌, length, Option, Some, None}
 use Rattle.shadow_memory.specs.Ranges.{window}
 use Rattle.guest_machine.specs.State.{Core, State}
-use Rattle.guest_machine.specs.Calls.{argument, appends, bytes_taken, call_at, is_output}
+use Rattle.guest_machine.specs.Calls.{argument, appends, bytes_taken, call_at, has_room, is_output, moved_len}
 use Rattle.guest_machine.specs.Errors.{fetch_undef}
 use Rattle.guest_machine.specs.Exec.{Deed, Takes, Cut, CallsByName, Halts, deed_at, exec, intake_at, is_running}
 use Rattle.guest_machine.specs.Exec.{is_ready, touched_of}
 use Rattle.guest_machine.specs.Run.{pre}
-use Rattle.guest_elf.specs.Profiles.{has_controls}
+use Rattle.guest_elf.specs.Profiles.{has_controls, usual_limits}
 use Rattle.instructions.specs.Codes.{len_of, row_of_code}
 use Rattle.instructions.specs.declared.code.Code.{Code}
 use Rattle.instructions.specs.declared.code.Code.TheVariants.{Word, Half}
 use Rattle.instructions.specs.declared.instruction.Instruction.{Instruction}
 use Rattle.instructions.specs.declared.instruction.Instruction.TheVariants.{CallEnvironment as CallRow}
 use Rattle.guest_machine.specs.declared.environment_call.EnvironmentCall.{EnvironmentCall}
+use Rattle.guest_machine.specs.declared.environment_call.EnvironmentCall.TheVariants.{Read as ReadCall}
 use Rattle.guest_machine.specs.declared.environment_call.EnvironmentCall.TheVariants.{Write as WriteCall}
+use Rattle.guest_machine.specs.declared.environment_call.EnvironmentCall.TheVariants.{Unknown as UnknownCall}
 use Rattle.run_values.specs.declared.span.Span.{Span}
 use Rattle.guest_machine.specs.declared.setup.Setup.{Setup}
 
@@ -73,6 +75,43 @@ refuses_row core _ written = false
 
 unfoldable pub refuses_write : State → Setup → Bool
 refuses_write s setup = refuses_row s.core (row_at s setup) (length s.output)
+
+-- the number of a call, if it is one that isn't known
+unfoldable pub unknown_in : Core → EnvironmentCall → Option ℕ
+unknown_in core UnknownCall = Some (argument core 17)
+unknown_in core _ = None
+
+unfoldable pub unknown_row : Core → Option Instruction → Option ℕ
+unknown_row core (Some CallRow) = unknown_in core (call_at core)
+unknown_row core _ = None
+
+unfoldable pub unknown_call : State → Setup → Option ℕ
+unknown_call s setup = unknown_row s.core (row_at s setup)
+
+-- a core whose calls move what they do where nothing is said of it
+abbrev pub usually : Core → Core
+usually core = record core { limits = usual_limits }
+
+abbrev pub are_unlike : Bool → Bool → Bool
+are_unlike a b = if a then not b else b
+
+-- does a call move another number of bytes than usual, or is there room where usually there isn't, or none where there
+-- is, after this number of bytes so far?
+unfoldable pub needs_limits_in : Core → EnvironmentCall → ℕ → Bool
+needs_limits_in core ReadCall written =
+    (argument core 10 == 0) && not (moved_len core == moved_len (usually core))
+needs_limits_in core WriteCall written =
+    is_output (argument core 10)
+    && (not (moved_len core == moved_len (usually core))
+    || are_unlike (has_room core written) (has_room (usually core) written))
+needs_limits_in core _ written = false
+
+unfoldable pub needs_limits_row : Core → Option Instruction → ℕ → Bool
+needs_limits_row core (Some CallRow) written = needs_limits_in core (call_at core) written
+needs_limits_row core _ written = false
+
+unfoldable pub needs_limits : State → Setup → Bool
+needs_limits s setup = needs_limits_row s.core (row_at s setup) (length s.output)
 
 -- how many `write`s found no room in the first n steps of a run without marks
 unfoldable pub refused_writes : State → Setup → ℕ → ℕ

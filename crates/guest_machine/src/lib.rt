@@ -45,7 +45,7 @@
 //! | [`Meter::new`], [`Meter::read`], [`Meter::rise_by`] | a count of steps, raised by `step`, by `run` and by the steps that a caller counted |
 //! | [`laws::keeps_words`], [`laws::keeps_apart`], [`laws::keeps_input`], [`laws::keeps_heap`], [`laws::keeps_pokes`] | do nothing; their contracts are laws of one step |
 //! | [`laws::reads_on`], [`laws::keeps_end`], [`laws::end_stays`], [`laws::stays_halted`] | likewise |
-//! | [`laws::keeps_isa`], [`laws::keeps_regions`], [`laws::goes_by_fours`], [`laws::lacks_extensions`], [`laws::lacks_atomics`] | likewise, on the instruction set |
+//! | [`laws::keeps_isa`], [`laws::keeps_regions`], [`laws::keeps_limits`], [`laws::goes_by_fours`], [`laws::lacks_extensions`], [`laws::lacks_atomics`] | likewise, on the instruction set, the regions and the limits of calls |
 //! | [`laws::alters_as_marked`], [`laws::runs_as_marked`] | likewise; their contracts say what marks are as alterations |
 //!
 //! [`Setup`], [`Input`], [`Hooks`], [`Mark`], [`Alteration`], [`Act`], [`Touched`], [`Span`], [`Register`], [`Width`], [`Status`] and

@@ -26,14 +26,11 @@ use call_stacks::CallStack;
 use control_registers::ControlRegisters;
 use definedness::Bits;
 use error_events::{Event, Groups};
-use guest_elf::Isa;
+use guest_elf::{Isa, StreamLimits};
 use guest_heap::Heap;
 use memory_map::StackRegion;
 use run_values::Status;
 use std::alloc::{AllocError, Global};
-
-/// The bytes of output that there is room for.
-const OUTPUT_ROOM: u64 = 65_536;
 
 /// How far a program has come, which only increases: bytes of input read and whether its end was seen, bytes of output, heap calls.
 #[derive(Clone, Copy)]
@@ -45,8 +42,7 @@ pub(crate) struct Progress {
 }
 
 impl Progress {
-    ghost use Rattle.std.specs.Prelude.{◌+◌, ◌^◌, ◌<◌, ◌≤◌, min, nat_lt, nat_le};
-    ghost use Rattle.guest_machine.specs.Calls.{most_moved, output_room};
+    ghost use Rattle.std.specs.Prelude.{◌+◌, ◌^◌, ◌<◌, IsTrue, min, nat_lt, nat_le};
     ghost use Rattle.guest_machine.specs.Exec.{seen_also};
 
     /// Counts n bytes of the input as read, of those that were asked for.
@@ -63,12 +59,13 @@ impl Progress {
         }
     }
 
-    /// Whether there is room for `len` further bytes of output.
-    fn has_room(&self, len: u32) -> bool
-        requires { len ≤ most_moved }
-        ensures { result ≡ nat_le (self.now.output_len + len) output_room }
+    /// Whether there is room for `len` further bytes of output, of `most` in all.
+    fn has_room(&self, len: u32, most: u64) -> bool
+        ensures room { result ≡ nat_le (self.now.output_len + len) most }
+        ensures fits { IsTrue result → self.now.output_len + len < 2 ^ 64 }
     {
-        self.output_len <= OUTPUT_ROOM && self.output_len + u64::from(len) <= OUTPUT_ROOM
+        let len = u64::from(len);
+        len <= most && self.output_len <= most - len
     }
 
     fn count_heap_call(&mut self)
@@ -109,9 +106,9 @@ pub struct Machine {
     guest: Box<Guest>,
 }
 
-/// What a machine holds: memory, registers, pc, status, calls, heap, progress, its errors, its instruction set, the region of its stack, the
-/// address that is reserved, if one is, its control registers and the number of steps. Each step counts in each instruction set, and shows
-/// only where there are counters.
+/// What a machine holds: memory, registers, pc, status, calls, heap, progress, its errors, its instruction set, the region of its stack, how
+/// many bytes its calls move, the address that is reserved, if one is, its control registers and the number of steps. Each step counts in
+/// each instruction set, and shows only where there are counters.
 #[derive(Drop)]
 pub(crate) struct Guest {
     alloc: Global,
@@ -125,6 +122,7 @@ pub(crate) struct Guest {
     noted: Noted,
     isa: Isa,
     stack: StackRegion,
+    limits: StreamLimits,
     reserved: Option<u32>,
     controls: ControlRegisters,
     steps: u64,

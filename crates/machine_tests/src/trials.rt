@@ -1,6 +1,6 @@
 //! Trials of programs' machines.
 use definedness::Bits;
-use guest_elf::{Hook, Image, Isa, Profile, read_for};
+use guest_elf::{Hook, Image, Isa, Profile, StreamLimits, read_for};
 use guest_machine::{
     Act, Alteration, Hooks, Input, Machine, Mark, Meter, Register, Setup, Span, Status, Touched,
 };
@@ -389,7 +389,11 @@ fn profile_of(isa: Isa) -> Option<Profile> {
         end: 0x8000_0000,
     };
     match Regions::new(0x4000_0000, stack) {
-        Ok(regions) => Some(Profile { isa, regions }),
+        Ok(regions) => Some(Profile {
+            isa,
+            regions,
+            limits: StreamLimits::USUAL,
+        }),
         Err(_) => None,
     }
 }

@@ -1,10 +1,9 @@
 //! Files by hand, and their images. `tools/test/test-files` tests with which number a cut or changed file is rejected.
 use crate::{comes, holds};
 use byteorder::{ByteOrder, LittleEndian};
-use guest_elf::{ElfFault, Hook, Image, Isa, Profile, Segment, read, read_for};
+use guest_elf::{Isa, Profile, Segment, StreamLimits, read, read_for};
 use memory_map::{Regions, StackRegion};
 use std::alloc::{AllocError, Global};
-use std::process::Abort;
 
 /// Three words at 0x10000: `addi a7, x0, 93`, `addi a0, x0, 0`, `ecall`.
 const PROGRAM: [u8; 96] = [
@@ -16,37 +15,14 @@ const PROGRAM: [u8; 96] = [
     0x04, 0x00, 0x00, 0x00, 0x93, 0x08, 0xD0, 0x05, 0x13, 0x05, 0x00, 0x00, 0x73, 0x00, 0x00, 0x00,
 ];
 
-/// Eight words at 0x10000, with two functions: `main` from 0x10000, 24 bytes, and `max` from 0x10018, 8 bytes. After them, from 296 on,
-/// names of the heap's functions, which are in no section.
-const NAMED: [u8; 336] = [
-    0x7F, 0x45, 0x4C, 0x46, 0x01, 0x01, 0x01, 0x00, 0x00, 0x00, 0x00, 0x00, 0x00, 0x00, 0x00, 0x00,
-    0x02, 0x00, 0xF3, 0x00, 0x01, 0x00, 0x00, 0x00, 0x00, 0x00, 0x01, 0x00, 0x34, 0x00, 0x00, 0x00,
-    0xB0, 0x00, 0x00, 0x00, 0x00, 0x00, 0x00, 0x00, 0x34, 0x00, 0x20, 0x00, 0x01, 0x00, 0x28, 0x00,
-    0x03, 0x00, 0x00, 0x00, 0x01, 0x00, 0x00, 0x00, 0x54, 0x00, 0x00, 0x00, 0x00, 0x00, 0x01, 0x00,
-    0x00, 0x00, 0x01, 0x00, 0x20, 0x00, 0x00, 0x00, 0x20, 0x00, 0x00, 0x00, 0x05, 0x00, 0x00, 0x00,
-    0x04, 0x00, 0x00, 0x00, 0x13, 0x01, 0x01, 0xFF, 0x03, 0x25, 0x01, 0x00, 0xEF, 0x00, 0x00, 0x01,
-    0x03, 0x25, 0x01, 0x00, 0xEF, 0x00, 0x80, 0x00, 0x73, 0x00, 0x10, 0x00, 0x63, 0x02, 0x05, 0x00,
-    0x67, 0x80, 0x00, 0x00, 0x00, 0x00, 0x00, 0x00, 0x00, 0x00, 0x00, 0x00, 0x00, 0x00, 0x00, 0x00,
-    0x00, 0x00, 0x00, 0x00, 0x01, 0x00, 0x00, 0x00, 0x00, 0x00, 0x01, 0x00, 0x18, 0x00, 0x00, 0x00,
-    0x12, 0x00, 0xF1, 0xFF, 0x06, 0x00, 0x00, 0x00, 0x18, 0x00, 0x01, 0x00, 0x08, 0x00, 0x00, 0x00,
-    0x12, 0x00, 0xF1, 0xFF, 0x00, 0x6D, 0x61, 0x69, 0x6E, 0x00, 0x6D, 0x61, 0x78, 0x00, 0x00, 0x00,
-    0x00, 0x00, 0x00, 0x00, 0x00, 0x00, 0x00, 0x00, 0x00, 0x00, 0x00, 0x00, 0x00, 0x00, 0x00, 0x00,
-    0x00, 0x00, 0x00, 0x00, 0x00, 0x00, 0x00, 0x00, 0x00, 0x00, 0x00, 0x00, 0x00, 0x00, 0x00, 0x00,
-    0x00, 0x00, 0x00, 0x00, 0x00, 0x00, 0x00, 0x00, 0x00, 0x00, 0x00, 0x00, 0x02, 0x00, 0x00, 0x00,
-    0x00, 0x00, 0x00, 0x00, 0x00, 0x00, 0x00, 0x00, 0x74, 0x00, 0x00, 0x00, 0x30, 0x00, 0x00, 0x00,
-    0x02, 0x00, 0x00, 0x00, 0x00, 0x00, 0x00, 0x00, 0x00, 0x00, 0x00, 0x00, 0x10, 0x00, 0x00, 0x00,
-    0x00, 0x00, 0x00, 0x00, 0x03, 0x00, 0x00, 0x00, 0x00, 0x00, 0x00, 0x00, 0x00, 0x00, 0x00, 0x00,
-    0xA4, 0x00, 0x00, 0x00, 0x0A, 0x00, 0x00, 0x00, 0x00, 0x00, 0x00, 0x00, 0x00, 0x00, 0x00, 0x00,
-    0x00, 0x00, 0x00, 0x00, 0x00, 0x00, 0x00, 0x00, 0x00, 0x6D, 0x61, 0x6C, 0x6C, 0x6F, 0x63, 0x00,
-    0x66, 0x72, 0x65, 0x65, 0x00, 0x63, 0x61, 0x6C, 0x6C, 0x6F, 0x63, 0x00, 0x72, 0x65, 0x61, 0x6C,
-    0x6C, 0x6F, 0x63, 0x00, 0x6D, 0x61, 0x6C, 0x6C, 0x6F, 0x63, 0x73, 0x00, 0x6D, 0x61, 0x6C, 0x00,
-];
+/// The name of an address in no function.
+pub(crate) const UNKNOWN: &[u8] = b"???";
 
 /// A changed word of a file: its offset and its new value.
-type Change = (usize, u32);
+pub(crate) type Change = (usize, u32);
 
 /// No word: no file is as long.
-const NONE: Change = (usize::MAX, 0);
+pub(crate) const NONE: Change = (usize::MAX, 0);
 
 /// The fields of the program that are changed.
 const OFFSET: usize = 56;
@@ -58,7 +34,7 @@ const FILESZ: usize = 68;
 const MEMSZ: usize = 72;
 
 /// Changes a word, if the file has it.
-fn change(file: &mut [u8], change: Change) {
+pub(crate) fn change(file: &mut [u8], change: Change) {
     let (offset, word) = change;
     if offset <= file.len() && file.len() - offset >= 4 {
         LittleEndian::write_u32(&mut file[offset..], word);
@@ -109,7 +85,11 @@ fn is_read_for_usual(alloc: Global) -> bool {
 /// Returns the profile of an instruction set with these regions, if they are sound.
 fn profile_with(isa: Isa, heap: u32, stack: StackRegion) -> Option<Profile> {
     match Regions::new(heap, stack) {
-        Ok(regions) => Some(Profile { isa, regions }),
+        Ok(regions) => Some(Profile {
+            isa,
+            regions,
+            limits: StreamLimits::USUAL,
+        }),
         Err(_) => None,
     }
 }
@@ -231,102 +211,6 @@ fn is_patchable(alloc: Global, row: &Patchable) -> bool {
     }
 }
 
-const MAIN: &[u8] = b"main";
-
-const MAX: &[u8] = b"max";
-
-const UNKNOWN: &[u8] = b"???";
-
-/// Two changed words, an address, and the name of its function then.
-type Named = (Change, Change, u32, &'static [u8]);
-
-/// The fields of the two symbols.
-const MAIN_VALUE: usize = 136;
-
-const MAIN_SIZE: usize = 140;
-
-const MAX_NAME: usize = 148;
-
-const MAX_VALUE: usize = 152;
-
-const MAX_SIZE: usize = 156;
-
-const MAX_KIND: usize = 160;
-
-const NAMES: [Named; 15] = [
-    (NONE, NONE, 0xFFFF, UNKNOWN),
-    (NONE, NONE, 0x10000, MAIN),
-    (NONE, NONE, 0x10017, MAIN),
-    (NONE, NONE, 0x10018, MAX),
-    (NONE, NONE, 0x1001F, MAX),
-    (NONE, NONE, 0x10020, UNKNOWN),
-    // Both functions at one address: the one with the lower index, whatever its size.
-    ((MAIN_VALUE, 0x10018), NONE, 0x10018, MAIN),
-    ((MAIN_VALUE, 0x10018), (MAIN_SIZE, 0), 0x10018, MAIN),
-    // A size of 0 is unknown, one that is too small does not reach the address.
-    ((MAX_SIZE, 0), NONE, 0x10018, MAX),
-    ((MAX_VALUE, 0x10010), (MAX_SIZE, 8), 0x10018, UNKNOWN),
-    ((MAX_VALUE, 0x10010), (MAX_SIZE, 9), 0x10018, MAX),
-    // One that is no function, and one that is undefined.
-    ((MAX_KIND, 0xFFF1_0011), (MAIN_SIZE, 0), 0x10018, MAIN),
-    ((MAX_KIND, 0x0000_0012), (MAIN_SIZE, 0), 0x10018, MAIN),
-    // An empty name.
-    ((MAX_NAME, 0), (MAIN_SIZE, 0), 0x10018, MAIN),
-    // Below the first function there is none.
-    (
-        (MAIN_VALUE, 0x10019),
-        (MAX_VALUE, 0x10019),
-        0x10018,
-        UNKNOWN,
-    ),
-];
-
-/// Returns whether a row holds.
-fn is_named(alloc: Global, row: &Named) -> bool {
-    let (one, two, addr, name) = row;
-    let mut file = NAMED;
-    change(&mut file, *one);
-    change(&mut file, *two);
-    match read(alloc, &file) {
-        Ok(image) => image.name_of(*addr) == *name,
-        Err(_) => false,
-    }
-}
-
-/// A symbol: the offset of its name, its address, and its type with its section.
-type Symbol = (u32, u32, u32);
-
-const FUNCTION: u32 = 0xFFF1_0012;
-
-/// A label; two symbols, whose names begin at 1, 8, 13, 20, 28 and 36 (`alloc` at 22); the functions of the heap that are known then.
-type Hooks = (&'static str, Symbol, Symbol, &'static [(u32, Hook)]);
-
-/// Changes the name, the address, and the type with the section of the symbol at an offset.
-fn change_symbol(file: &mut [u8], offset: usize, symbol: &Symbol) {
-    let (name, address, kind) = symbol;
-    change(file, (offset, *name));
-    change(file, (offset.saturating_add(4), *address));
-    change(file, (offset.saturating_add(12), *kind));
-}
-
-/// Returns whether an image has these functions of the heap.
-fn has_hooks(alloc: Global, image: &Image<'_>, want: &[(u32, Hook)]) -> Result<bool, AllocError> {
-    let hooks = image.hooks(alloc)?;
-    Ok(hooks.as_slice() == want)
-}
-
-/// Returns whether a row holds.
-fn are_hooks(alloc: Global, row: &Hooks) -> Result<bool, ElfFault> {
-    let mut file = NAMED;
-    // sh_offset and sh_size of section 2.
-    change(&mut file, (272, 296));
-    change(&mut file, (276, 40));
-    change_symbol(&mut file, 132, &row.1);
-    change_symbol(&mut file, 148, &row.2);
-    let image = read(alloc, &file)?;
-    Ok(has_hooks(alloc, &image, row.3)?)
-}
-
 /// Writes the program at the start of a file, if it has room there.
 fn set_program(file: &mut [u8]) {
     if file.len() >= 96 {
@@ -389,84 +273,6 @@ fn codes_are_where_an_instruction_may_begin_and_each_byte_is_loaded(rt: HostRunt
     for row in &CODED {
         assert!(rt; is_coded(rt.alloc(), row), "at {:#010x}", row.1);
     }
-}
-
-#[test]
-fn the_nearest_function_names_an_address(rt: HostRuntime) {
-    for row in &NAMES {
-        assert!(rt; is_named(rt.alloc(), row), "{} at {:#x}", row.0.0, row.2);
-    }
-}
-
-/// Asserts that rows hold.
-fn assert_hooks(rt: &impl Abort, alloc: Global, rows: &[Hooks]) {
-    for row in rows {
-        holds(rt, row.0, matches!(are_hooks(alloc, row), Ok(true)));
-    }
-}
-
-const HOOKS: [Hooks; 4] = [
-    (
-        "in the order of their addresses",
-        (1, 0x10018, FUNCTION),
-        (8, 0x10000, FUNCTION),
-        &[(0x10000, Hook::Free), (0x10018, Hook::Malloc)],
-    ),
-    (
-        "at the lowest and the highest",
-        (13, u32::MAX, FUNCTION),
-        (20, 8, FUNCTION),
-        &[(8, Hook::Realloc), (u32::MAX, Hook::Calloc)],
-    ),
-    (
-        "one name at two addresses",
-        (1, 0x10000, FUNCTION),
-        (1, 0x10018, FUNCTION),
-        &[(0x10000, Hook::Malloc), (0x10018, Hook::Malloc)],
-    ),
-    (
-        "two names at one address",
-        (8, 0x10000, FUNCTION),
-        (1, 0x10000, FUNCTION),
-        &[(0x10000, Hook::Free)],
-    ),
-];
-
-#[test]
-fn functions_of_the_heap_are_known_by_name(rt: HostRuntime) {
-    assert_hooks(&rt, rt.alloc(), &HOOKS);
-}
-
-const NO_HOOKS: [Hooks; 4] = [
-    (
-        "beside another function",
-        (28, 0x10000, FUNCTION),
-        (1, 0x10000, FUNCTION),
-        &[(0x10000, Hook::Malloc)],
-    ),
-    (
-        "longer and shorter names",
-        (28, 0x10000, FUNCTION),
-        (36, 0x10000, FUNCTION),
-        &[],
-    ),
-    (
-        "the end of a name, and none",
-        (22, 0x10000, FUNCTION),
-        (0, 0x10000, FUNCTION),
-        &[],
-    ),
-    (
-        "an object, and undefined",
-        (1, 0x10000, 0xFFF1_0011),
-        (8, 0x10000, 0x12),
-        &[],
-    ),
-];
-
-#[test]
-fn other_names_are_not(rt: HostRuntime) {
-    assert_hooks(&rt, rt.alloc(), &NO_HOOKS);
 }
 
 /// The region of the stack where nothing is said of it, and one in a program's memory.

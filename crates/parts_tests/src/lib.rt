@@ -35,6 +35,8 @@ mod stacks;
 #[cfg(test)]
 mod suppression_texts;
 #[cfg(test)]
+mod symbols;
+#[cfg(test)]
 mod undefined_bits;
 
 #[cfg(test)]

@@ -1,11 +1,13 @@
 //! What a program's file is read for, by the texts of a command line.
-ghost use Rattle.std.specs.Prelude.{◌≡◌, IfErr, IfOk};
-ghost use Rattle.program_files.specs.Profiles.{between, bounds_in, heap_in, stack_in, IsProfileNamed, NoProfile};
+ghost use Rattle.std.specs.Prelude.{◌≡◌, ℕ, List, None, Some, IfErr, IfOk};
+ghost use denote.Ref.{Bor};
+ghost use Rattle.ends.specs.declared.ends.End.TheVariants.{BadMostMoved, BadMostOutput};
+ghost use Rattle.program_files.specs.Profiles.{between, bounds_in, heap_in, moved_in, moved_number, output_in, stack_in, IsProfileNamed, NoProfile};
 
 use command_line::{ProfileWords, isa_named};
 use commands::number;
 use ends::End;
-use guest_elf::Profile;
+use guest_elf::{Profile, StreamLimits};
 use memory_map::{Regions, RegionsFault, StackRegion};
 use text_parts::Parts;
 
@@ -56,13 +58,63 @@ fn stack_in(text: &str) -> StackRegion
     bounds_in(Parts::new(text.as_bytes(), b'.'))
 }
 
-/// Returns what a program's file is read for, by the name of an instruction set, the begin of the heap's region and the bounds of the
-/// stack's.
+/// The most bytes that one call moves on Linux.
+const GREATEST_MOVED: u32 = 0x7fff_f000;
+
+/// Returns a number, if one call may move as many bytes.
+fn moved_number(number: Option<u32>) -> Option<u32>
+    ensures { result ≡ moved_number number }
+{
+    match number {
+        Some(n) => {
+            if n >= 1 && n <= GREATEST_MOVED {
+                Some(n)
+            } else {
+                None
+            }
+        }
+        None => None,
+    }
+}
+
+/// Returns the most bytes that one call moves, by the text of an option; the usual number if it isn't given.
+fn moved_in<'a>(given: Option<&'a str>) -> Result<u32, End<'a>>
+    ensures ok { IfOk result (λ n. moved_in given.entry ≡ Some n) }
+    ensures err { IfErr result (λ end. (text : Bor (List ℕ)) × (given.entry ≡ Some text) × (moved_in given.entry ≡ None) × (end ≡ BadMostMoved text)) }
+{
+    let Some(text) = given else {
+        return Ok(StreamLimits::USUAL.most_moved);
+    };
+    match moved_number(number(text.as_bytes())) {
+        Some(n) => Ok(n),
+        None => Err(End::BadMostMoved(text)),
+    }
+}
+
+/// Returns the most bytes of output, by the text of an option; the usual number if it isn't given.
+fn output_in<'a>(given: Option<&'a str>) -> Result<u64, End<'a>>
+    ensures ok { IfOk result (λ n. output_in given.entry ≡ Some n) }
+    ensures err { IfErr result (λ end. (text : Bor (List ℕ)) × (given.entry ≡ Some text) × (output_in given.entry ≡ None) × (end ≡ BadMostOutput text)) }
+{
+    let Some(text) = given else {
+        return Ok(StreamLimits::USUAL.most_output);
+    };
+    if text == "none" {
+        return Ok(u64::MAX);
+    }
+    match number(text.as_bytes()) {
+        Some(n) => Ok(u64::from(n)),
+        None => Err(End::BadMostOutput(text)),
+    }
+}
+
+/// Returns what a program's file is read for, by the name of an instruction set, the begin of the heap's region, the bounds of the
+/// stack's, and how many bytes calls move.
 ///
 /// # Errors
 ///
-/// Returns the end for the first fault, with the text that has it: of the name, of the heap's region, of the stack's, or that the two have
-/// an address in common.
+/// Returns the end for the first fault, with the text that has it: of the name, of the heap's region, of the stack's, that the two have
+/// an address in common, or of the two numbers of bytes.
 pub fn profile_named<'a>(words: ProfileWords<'a>) -> Result<Profile, End<'a>>
     ensures ok { IfOk result (IsProfileNamed words.entry) }
     ensures err { IfErr result (NoProfile words.entry) }
@@ -70,13 +122,26 @@ pub fn profile_named<'a>(words: ProfileWords<'a>) -> Result<Profile, End<'a>>
     let Some(isa) = isa_named(words.isa) else {
         return Err(End::BadIsa(words.isa));
     };
-    match Regions::new(heap_in(words.heap), stack_in(words.stack)) {
-        Ok(regions) => Ok(Profile { isa, regions }),
-        Err(RegionsFault::Heap) => Err(End::BadHeapRegion(words.heap)),
-        Err(RegionsFault::Stack) => Err(End::BadStackRegion(words.stack)),
-        Err(RegionsFault::Meet) => Err(End::RegionsOverlap {
-            heap: words.heap,
-            stack: words.stack,
-        }),
-    }
+    let regions = match Regions::new(heap_in(words.heap), stack_in(words.stack)) {
+        Ok(regions) => regions,
+        Err(RegionsFault::Heap) => return Err(End::BadHeapRegion(words.heap)),
+        Err(RegionsFault::Stack) => return Err(End::BadStackRegion(words.stack)),
+        Err(RegionsFault::Meet) => {
+            return Err(End::RegionsOverlap {
+                heap: words.heap,
+                stack: words.stack,
+            });
+        }
+    };
+    let most_moved = moved_in(words.most_moved)?;
+    let most_output = output_in(words.most_output)?;
+    let limits = StreamLimits {
+        most_moved,
+        most_output,
+    };
+    Ok(Profile {
+        isa,
+        regions,
+        limits,
+    })
 }

@@ -42,7 +42,7 @@ impl<'a> Session<'a> {
     ghost use Rattle.checkpoints.specs.Outputs.{part};
     ghost use Rattle.checkpoints.specs.Searches.{IsLast, IsNext};
     ghost use Rattle.checkpoints.specs.Trails.{is_short};
-    ghost use Rattle.checkpoints.specs.Work.{ReportMoves, reached};
+    ghost use Rattle.checkpoints.specs.Work.{ForkMoves, ReportMoves, reached};
     ghost use Rattle.replay_report.specs.Report.{AppendsReport};
     ghost use Rattle.scenario.specs.Edits.{row, IsTaken};
     ghost use Rattle.scenario.specs.Limits.{longest_input, most_steps};
@@ -355,13 +355,15 @@ impl<'a> Session<'a> {
         self.scenario.effect(edit)
     }
 
-    /// Returns a machine of the run up to the chosen step, before the last step at which an edit that changes only the setup doesn't show.
+    /// Returns a machine of the run up to the chosen step, before the last step at which an edit that changes only the setup doesn't show. The
+    /// trail is moved as by a report at the next multiple of 1,024 above the chosen step.
     #[tactic(auto, unfolding(crate::specs::Session::turn_of, crate::specs::Session::trail_of))]
     pub fn seed(&mut self, effect: Effect, range: Span) -> Result<Seed, AllocError>
         requires { IsOfSetup effect }
         ensures turn { turn_of self.new ≡ turn_of self.old }
         ensures short { is_short (trail_of self.new) ≡ is_short (trail_of self.old) }
         ensures seed { IfOk result (IsSeed (scenario_of self.old) effect range) }
+        ensures work { OnOk result (ForkMoves (scenario_of self.old).step (work_on (trail_of self.old)) (work_on (trail_of self.new))) }
     {
         let step = self.scenario.step();
         let setup = self.scenario.setup();

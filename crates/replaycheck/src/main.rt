@@ -12,6 +12,7 @@ use command_line::{Order, Task, read_order};
 use driver::{End, run_order, tell};
 use ends::{tell_exec, tell_for};
 use exec_orders::{Log, exec_order};
+use executions::Streams;
 use std::fs::File;
 use std::io::Write;
 use std::process::ExitCode;
@@ -132,8 +133,12 @@ fn follow(rt: &HostRuntime, order: &Order) -> u8 {
                 rt,
                 opened: Opened::Nothing,
             };
-            let (reader, writer) = (&mut rt.stdin(), &mut rt.stdout());
-            let done = exec_order(rt.alloc(), order, asked, rt, reader, writer, &mut log);
+            let mut streams = Streams {
+                out: rt.stdout(),
+                err: rt.stderr(),
+            };
+            let (reader, streams) = (&mut rt.stdin(), &mut streams);
+            let done = exec_order(rt.alloc(), order, asked, rt, reader, streams, &mut log);
             tell_exec(&done, &mut rt.stderr())
         }
         _ => {

@@ -24,6 +24,7 @@
 //! | [`Memory::next_in_range`] | returns the next of these whose value lies in a range of numbers above 0 | no |
 //! | [`Memory::has_bytes_of`] | returns whether the bytes of a range are those of another memory, all accessible and defined | no |
 //! | [`Memory::is_same`] | returns whether another memory has the same contents | no |
+//! | [`Memory::kept_pages`] | returns how many pages are kept | no |
 //! | [`Memory::words_apart`] | returns the words in which another memory has other bytes, if all else is the same | yes |
 //! | [`Memory::share`] | returns a memory with the same contents; a later change of one of the two doesn't reach the other | yes |
 //! | [`laws::first_not`], [`laws::all_are`] | scans of bytes, sixteen at a time | no |

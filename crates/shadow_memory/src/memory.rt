@@ -237,6 +237,22 @@ impl Memory {
         self.shelves.len() <= SHELVES
     }
 
+    /// Returns how many pages are kept. No contract says so, as pages don't show: it is for limits of memory.
+    pub fn kept_pages(&self) -> u32 {
+        let mut kept = 0;
+        let mut page = 0;
+        while page < PAGES {
+            let next = self.next_kept(page);
+            if page < next {
+                page = next;
+            } else {
+                kept += 1;
+                page += 1;
+            }
+        }
+        kept
+    }
+
     /// Returns the words in which another memory has other bytes, if all else is the same: all other bytes, which bytes are accessible, and
     /// the undefined bits. May also return `None` for such a memory, as it does if many pages are kept, if many words differ, or if the
     /// memories are kept in different ways.

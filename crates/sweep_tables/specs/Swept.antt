@@ -11,10 +11,12 @@ use Rattle.command_line.specs.Orders.{text_of}
 use Rattle.command_line.specs.declared.order.SweepWords.{SweepWords}
 use Rattle.guest_elf.specs.File.{is_moved}
 use Rattle.guest_elf.specs.Images.{profile_of}
+use Rattle.guest_elf.specs.Profiles.{usual_limits}
 use Rattle.guest_elf.specs.declared.image.Image.{Image as ProgramImage}
 use Rattle.guest_elf.specs.declared.profile.Isa.{Isa}
 use Rattle.guest_elf.specs.declared.profile.Isa.TheVariants.{Rv32im}
 use Rattle.guest_elf.specs.declared.profile.Profile.{Profile}
+use Rattle.guest_elf.specs.declared.profile.StreamLimits.{StreamLimits}
 use Rattle.memory_map.specs.Regions.{heap_begin}
 use Rattle.memory_map.specs.declared.regions.Regions.{Regions}
 use Rattle.memory_map.specs.declared.regions.StackRegion.{StackRegion}
@@ -37,6 +39,7 @@ use Rattle.sweep_plans.specs.declared.plan.Plan.{Plan}
 use Rattle.sweeps.specs.declared.sweep.Sweep.{Sweep}
 use Rattle.ends.specs.declared.ends.End.{End}
 use Rattle.ends.specs.Ends.{AppendsFront}
+use Rattle.ends.specs.ExecEnds.{most_text}
 use Rattle.ends.specs.declared.ends.End.TheVariants.{CannotWrite, Done, NoMemory}
 use Rattle.sweep_plans.specs.declared.request.Part.{Part}
 use Rattle.sweep_plans.specs.declared.request.Range.{Range}
@@ -77,9 +80,21 @@ is_other _ = true
 abbrev pub is_heap_moved : Regions → Bool
 is_heap_moved regions = not (regions.heap == heap_begin)
 
+-- do calls move another number of bytes than usual, or is there room for another number of bytes of output?
+abbrev pub is_other_moved : StreamLimits → Bool
+is_other_moved limits = not (limits.most_moved == usual_limits.most_moved)
+
+abbrev pub is_other_room : StreamLimits → Bool
+is_other_room limits = not (limits.most_output == usual_limits.most_output)
+
+abbrev pub are_other : StreamLimits → Bool
+are_other limits = is_other_moved limits || is_other_room limits
+
 -- is it another profile than the usual one?
 abbrev pub is_unusual : Profile → Bool
-is_unusual profile = is_other profile.isa || (is_heap_moved profile.regions || is_moved profile.regions.stack)
+is_unusual profile =
+    is_other profile.isa
+    || (is_heap_moved profile.regions || (is_moved profile.regions.stack || are_other profile.limits))
 
 -- the format of the table: the second one has lines that the first doesn't have, those of faults at steps, those of
 -- another profile and those on what the runs have executed
@@ -111,10 +126,24 @@ stack_text stack = stack_word ++ address_text stack.begin ++ codes ".." ++ addre
 unfoldable pub stack_line : StackRegion → List ℕ
 stack_line stack = if is_moved stack then stack_text stack else []
 
+-- how many bytes one call moves, if it is another number, and how many bytes of output there is room for
+unfoldable pub moved_text : ℕ → List ℕ
+moved_text n = codes "most-moved " ++ decimal n ++ newline
+
+unfoldable pub moved_line : StreamLimits → List ℕ
+moved_line limits = if is_other_moved limits then moved_text limits.most_moved else []
+
+unfoldable pub room_text : ℕ → List ℕ
+room_text n = codes "most-output " ++ most_text n ++ newline
+
+unfoldable pub room_line : StreamLimits → List ℕ
+room_line limits = if is_other_room limits then room_text limits.most_output else []
+
 -- what is another one than the usual
 unfoldable pub profile_lines : Profile → List ℕ
 profile_lines profile =
-    isa_line profile.isa ++ heap_line profile.regions ++ stack_line profile.regions.stack
+    isa_line profile.isa ++ heap_line profile.regions ++ stack_line profile.regions.stack ++ moved_line profile.limits
+    ++ room_line profile.limits
 
 -- the steps at which faults strike, if there are any, the fault models as they were given, the code to which pc is
 -- limited, and whether pairs are tried

@@ -5,10 +5,11 @@ ghost use Rattle.sha2.specs.Sha256.{sha256};
 ghost use Rattle.report_lines.specs.Text.{newline};
 ghost use Rattle.command_line.specs.Orders.{text_of};
 ghost use Rattle.guest_elf.specs.File.{is_moved};
-ghost use Rattle.sweep_tables.specs.Swept.{bytes_line, code_text, fault_text, file_line, file_lines, head_text, heap_line, heap_text, heap_word, is_heap_moved, is_other, is_unusual, isa_line, output_line, pairs_text, profile_lines, sides_head, stack_line, stack_text, stack_word, step_lines, steps_line, version_line, words_line};
+ghost use Rattle.ends.specs.ExecEnds.{most_text};
+ghost use Rattle.sweep_tables.specs.Swept.{bytes_line, code_text, fault_text, file_line, file_lines, head_text, heap_line, heap_text, heap_word, is_heap_moved, is_other, is_other_moved, is_other_room, is_unusual, isa_line, moved_line, moved_text, output_line, pairs_text, profile_lines, room_line, room_text, sides_head, stack_line, stack_text, stack_word, step_lines, steps_line, version_line, words_line};
 
 use command_line::{SweepWords, isa_name};
-use guest_elf::{Isa, Profile};
+use guest_elf::{Isa, Profile, StreamLimits};
 use memory_map::{Regions, StackRegion};
 use report_lines::{push_address, push_number, push_text};
 use sha2::{Digest, Sha256};
@@ -115,11 +116,29 @@ fn is_moved(stack: StackRegion) -> bool
     stack != Regions::USUAL.stack()
 }
 
+/// Returns whether one call moves another number of bytes than usual.
+fn is_other_moved(limits: StreamLimits) -> bool
+    ensures { result ≡ is_other_moved limits }
+{
+    limits.most_moved != StreamLimits::USUAL.most_moved
+}
+
+/// Returns whether there is room for another number of bytes of output than usual.
+fn is_other_room(limits: StreamLimits) -> bool
+    ensures { result ≡ is_other_room limits }
+{
+    limits.most_output != StreamLimits::USUAL.most_output
+}
+
 /// Returns whether a profile is another one than the usual one.
 fn is_unusual(profile: Profile) -> bool
     ensures { result ≡ is_unusual profile }
 {
-    is_other(profile.isa) || is_heap_moved(profile.regions) || is_moved(profile.regions.stack())
+    is_other(profile.isa)
+        || is_heap_moved(profile.regions)
+        || is_moved(profile.regions.stack())
+        || is_other_moved(profile.limits)
+        || is_other_room(profile.limits)
 }
 
 /// Returns the line of the table's format: the second one, if faults strike at steps, a line names a part of the profile, or lines say what
@@ -207,6 +226,51 @@ fn push_stack(out: &mut Vec<u8>, stack: StackRegion) -> Result<(), AllocError>
     push_bounds(out, stack)
 }
 
+/// Appends the line on how many bytes one call moves.
+fn push_moved_text(out: &mut Vec<u8>, moved: u64) -> Result<(), AllocError>
+    ensures { OnOk result (out.new.items ≡ out.old.items ++ moved_text moved) }
+{
+    push_text(out, b"most-moved ")?;
+    push_number(out, moved)?;
+    push_text(out, b"\n")?;
+    Ok(())
+}
+
+/// The same, if that isn't the usual number.
+#[tactic(auto, unfolding(crate::specs::Swept::moved_line))]
+fn push_moved(out: &mut Vec<u8>, limits: StreamLimits) -> Result<(), AllocError>
+    ensures { OnOk result (out.new.items ≡ out.old.items ++ moved_line limits) }
+{
+    if !is_other_moved(limits) {
+        return Ok(());
+    }
+    push_moved_text(out, u64::from(limits.most_moved))
+}
+
+/// Appends a number, or that there is no limit.
+fn push_most(out: &mut Vec<u8>, n: u64) -> Result<(), AllocError>
+    ensures { OnOk result (out.new.items ≡ out.old.items ++ most_text n) }
+{
+    if n == u64::MAX {
+        push_text(out, b"none")
+    } else {
+        push_number(out, n)
+    }
+}
+
+/// Appends the line on how many bytes of output there is room for, if that isn't the usual number.
+#[tactic(auto, unfolding(crate::specs::Swept::room_line, crate::specs::Swept::room_text), using(std::proofs::Common::append_assoc))]
+fn push_room(out: &mut Vec<u8>, limits: StreamLimits) -> Result<(), AllocError>
+    ensures { OnOk result (out.new.items ≡ out.old.items ++ room_line limits) }
+{
+    if !is_other_room(limits) {
+        return Ok(());
+    }
+    push_text(out, b"most-output ")?;
+    push_most(out, limits.most_output)?;
+    push_text(out, b"\n")
+}
+
 /// Appends the lines on what of a profile isn't the usual.
 #[tactic(auto, unfolding(crate::specs::Swept::profile_lines), using(std::proofs::Common::append_assoc))]
 fn push_profile(out: &mut Vec<u8>, profile: Profile) -> Result<(), AllocError>
@@ -214,7 +278,9 @@ fn push_profile(out: &mut Vec<u8>, profile: Profile) -> Result<(), AllocError>
 {
     push_isa(out, profile.isa)?;
     push_heap(out, profile.regions)?;
-    push_stack(out, profile.regions.stack())
+    push_stack(out, profile.regions.stack())?;
+    push_moved(out, profile.limits)?;
+    push_room(out, profile.limits)
 }
 
 /// Appends the range of code, if one is named.

@@ -2,25 +2,38 @@
 use Rattle.std.proofs.Common.{◌≡◌, ◌⊎◌, ◌∙◌, List, ℕ, Some, subst, sym, inl, inr}
 use Rattle.std.specs.Prelude.{Result, Ok, Err, OnErr, OnOk}
 use Rattle.checkpoints.specs.Effects.{IsOfSetup}
+use Rattle.checkpoints.specs.Work.{ForkMoves, Work}
 use Rattle.checkpoints.specs.declared.effect.Effect.{Effect}
 use Rattle.commands.specs.declared.fault.Fault.TheVariants.{Memory}
 use Rattle.looks.specs.Views.{Leaves}
+use Rattle.checkpoints.specs.declared.trail.Trail.{Trail}
 use Rattle.replay_session.specs.Stages.{Stage}
 use Rattle.replay_session.specs.Trying.{IsSeed}
+use Rattle.replay_session.specs.Work.{work_on}
 use Rattle.run_values.specs.declared.span.Span.{Span}
 use Rattle.scenario.specs.Scenario.{Scenario}
 use Rattle.tries.specs.Holding.{IsHeld}
 use Rattle.tries.specs.Tries.{Keeps, LeavesBase, Refused, TriesStage}
 use Rattle.tries.specs.declared.trying.Held.{Held}
+use Rattle.tries.proofs.WorkSteps.{rests}
+
+-- after a fork, another one of the same trail leaves the work
+pub rested : (n : ℕ) (old : Work) (mid new : Trail) → ForkMoves n old (work_on mid) → new ≡ mid
+    → ForkMoves n (work_on new) (work_on new)
+rested n old mid new moves same =
+    subst (λ t. ForkMoves n (work_on t) (work_on t)) (sym same) (rests n old (work_on mid) moves)
 
 -- a seed of a scenario's run is held for the same scenario
-pub held-is : (now sc : Scenario) (range at : Span) (effect : Effect) (held : Held) → now ≡ sc → at ≡ range
-    → held.effect ≡ effect → IsOfSetup effect → IsSeed sc effect range held.seed → IsHeld now at (Some held)
-held-is now sc range at effect held same there is of seed = (
+pub held-is : (now sc : Scenario) (range at : Span) (effect : Effect) (held : Held) (work : Work) → now ≡ sc
+    → at ≡ range
+    → held.effect ≡ effect → IsOfSetup effect → IsSeed sc effect range held.seed → ForkMoves sc.step work work
+    → IsHeld now at work (Some held)
+held-is now sc range at effect held work same there is of seed rests = (
   subst IsOfSetup (sym is) of,
   subst (λ s. IsSeed s held.effect at held.seed) (sym same)
       (subst (λ r. IsSeed sc held.effect r held.seed) (sym there)
       (subst (λ e. IsSeed sc e range held.seed) (sym is) seed)),
+  subst (λ (s : Scenario). ForkMoves s.step work work) (sym same) rests,
 )
 
 leaves-on : (a b c : Stage) → Leaves a b → Leaves b c → Leaves a c

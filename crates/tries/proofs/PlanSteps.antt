@@ -143,6 +143,11 @@ pub at-failure : {X E : Type 0} (result : Result X E) (error : E) (P : Bool → 
 at-failure (Ok x) error P is holds = absurd is
 at-failure (Err e) error P is holds = holds
 
+-- what holds of a result that is no error
+pub if-ok : {X E : Type 0} (result : Result X E) (P : Type 0) → OnOk result P → is_ok result ≡ true → P
+if-ok (Ok x) P holds is = holds
+if-ok (Err e) P holds is = cc
+
 pub kept-at-failure : {X E : Type 0} (result : Result X E) (P : Type 0) → P → OnErr result P
 kept-at-failure (Ok x) P holds = tt
 kept-at-failure (Err e) P holds = holds

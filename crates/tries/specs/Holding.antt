@@ -2,6 +2,7 @@
 use Rattle.std.specs.Prelude.{Option, Some, None}
 use Rattle.std.proofs.Props.{props}
 use Rattle.checkpoints.specs.Effects.{IsOfSetup}
+use Rattle.checkpoints.specs.Work.{ForkMoves, Work}
 use Rattle.checkpoints.specs.declared.effect.Effect.{Effect}
 use Rattle.checkpoints.specs.declared.effect.Effect.TheVariants.{Nowhere, After, Input, End, Heap, Patch, Anew}
 use Rattle.replay_session.specs.Trying.{IsSeed, seed-prop}
@@ -9,10 +10,12 @@ use Rattle.run_values.specs.declared.span.Span.{Span}
 use Rattle.scenario.specs.Scenario.{Scenario}
 use Rattle.tries.specs.declared.trying.Held.{Held}
 
--- what is held, if anything, is a seed for edits with its effect, which change only the setup
-abbrev pub IsHeld : Scenario → Span → Option Held → Type 0
-IsHeld sc range None = Unit {0}
-IsHeld sc range (Some held) = IsOfSetup held.effect × IsSeed sc held.effect range held.seed
+-- what is held, if anything, is a seed for edits with its effect, which change only the setup; and another fork of the
+-- run would leave the work as it is
+abbrev pub IsHeld : Scenario → Span → Work → Option Held → Type 0
+IsHeld sc range work None = Unit {0}
+IsHeld sc range work (Some held) =
+    IsOfSetup held.effect × IsSeed sc held.effect range held.seed × ForkMoves sc.step work work
 
 of-setup-prop : (effect : Effect) → IsProp (IsOfSetup effect)
 of-setup-prop Nowhere = hlevel props
@@ -23,6 +26,6 @@ of-setup-prop Heap = hlevel props
 of-setup-prop (Patch addr code) = hlevel props
 of-setup-prop (Anew addr code) = hlevel props
 
-pub held-prop : (sc : Scenario) (range : Span) (held : Option Held) → IsProp (IsHeld sc range held)
-held-prop sc range None = hlevel props
-held-prop sc range (Some held) = hlevel (of-setup-prop, seed-prop, props)
+pub held-prop : (sc : Scenario) (range : Span) (work : Work) (held : Option Held) → IsProp (IsHeld sc range work held)
+held-prop sc range work None = hlevel props
+held-prop sc range work (Some held) = hlevel (of-setup-prop, seed-prop, props)

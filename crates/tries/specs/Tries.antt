@@ -5,6 +5,7 @@ use Rattle.std.specs.Fmt.{decimal}
 use Rattle.std.specs.Str.{bytes_eq}
 use Rattle.checkpoints.specs.Compares.{compares_between}
 use Rattle.checkpoints.specs.Forks.{IsLastUnshown}
+use Rattle.checkpoints.specs.Work.{ForkMoves}
 use Rattle.checkpoints.specs.declared.compares.Compare.{Compare}
 use Rattle.checkpoints.specs.declared.sides.Sides.{Sides}
 use Rattle.commands.specs.declared.edit.Edit.{Edit}
@@ -106,10 +107,16 @@ pub record LeavesBase (old new : TriesStage) : Type 0 where
   pub session : Leaves old.session new.session
   pub range : new.range ≡ old.range
 
+-- how a try moves the work: as a fork of the session's own run, up to the chosen step, does. The steps of the run that
+-- is tried aren't counted
+abbrev pub TryMoves : Stage → Stage → Type 0
+TryMoves old new = ForkMoves old.turn.scenario.step old.work new.work
+
 -- an edit was tried, and is that of the last try
 pub record Tried (old : TriesStage) (edit : Edit) (text : List ℕ) (new : TriesStage) : Type 0 where
   pub tried : TriedAs old.session.turn.scenario old.range tried_text edit (gathered old []) (gathered new text)
   pub last : new.last ≡ Some edit
+  pub work : TryMoves old.session new.session
 
 -- `STEP PC A B A' B'`: the step of a compare, its address, its operands, and those of the other run
 unfoldable pub differ_line : Compare → Compare → List ℕ
@@ -157,11 +164,16 @@ pub record Differ (old : TriesStage) (edit : Edit) (text : List ℕ) (new : Trie
       ≡ differ_lines (compares_from from old.session.turn.scenario)
       (compares_from from (row old.session.turn.scenario edit).after) ++ codes "end\n"
   pub keeps : Keeps old new
+  pub work : TryMoves old.session new.session
 
 -- or nothing was tried, and the line is rejected
 pub record Refused (old : TriesStage) (fault : Fault) (text : List ℕ) (new : TriesStage) : Type 0 where
   pub replies : text ≡ refused_line fault
   pub keeps : Keeps old new
+
+-- and nothing was executed
+abbrev pub Rejected : TriesStage → Fault → List ℕ → TriesStage → Type 0
+Rejected old fault text new = Refused old fault text new × (new.session.work ≡ old.session.work)
 
 -- what a line tells of an edit
 abbrev pub Telling : Type 1
@@ -170,7 +182,7 @@ Telling = TriesStage → Edit → List ℕ → TriesStage → Type 0
 -- the reply to a line that asks so of an input: it is told of an edit that isn't rejected, or memory ran out
 abbrev pub ToldAs : Telling → TriesStage → Result Edit Fault → List ℕ → TriesStage → Type 0
 ToldAs Tells old (Ok edit) text new = Tells old edit text new ⊎ Refused old Memory text new
-ToldAs Tells old (Err fault) text new = Refused old fault text new
+ToldAs Tells old (Err fault) text new = Rejected old fault text new
 
 -- as what such a line is read: why it is rejected comes first, then why its edit is, then that memory ran out for its
 -- bytes
@@ -215,7 +227,12 @@ pub record TriedUpTo (all : Bool) (sc : Scenario) (range : Span) (attempts : Lis
   pub covers : Covers all attempts done
   pub tried : TriedAll sc range done old new
 
--- a plan's edits were tried, and then there is no last try
+-- how the tries of a plan move the work: all together as one try does, and none not at all
+abbrev pub PlanMoves : List Attempt → Stage → Stage → Type 0
+PlanMoves [] old new = new.work ≡ old.work
+PlanMoves (attempt ∷ attempts) old new = TryMoves old new
+
+-- a plan's edits were tried, and then there is no last try. The work is told of unless memory ran out
 pub record Planned (old : TriesStage) (plan : BytePlan) (text : List ℕ) (new : TriesStage) : Type 0 where
   pub all : Bool
   pub told : List ℕ
@@ -223,11 +240,13 @@ pub record Planned (old : TriesStage) (plan : BytePlan) (text : List ℕ) (new :
       (attempts_of plan old.session.turn.scenario.setup.input) (gathered old []) (gathered new told)
   pub replies : text ≡ told ++ last_line all
   pub last : new.last ≡ None
+  pub work : all ≡ true
+      → PlanMoves (attempts_of plan old.session.turn.scenario.setup.input) old.session new.session
 
 -- the reply to a line that tries a plan, unless it is rejected
 abbrev pub PlannedAs : TriesStage → Result BytePlan Fault → List ℕ → TriesStage → Type 0
 PlannedAs old (Ok plan) text new = Planned old plan text new
-PlannedAs old (Err fault) text new = Refused old fault text new
+PlannedAs old (Err fault) text new = Rejected old fault text new
 
 abbrev pub PlansLine : TriesStage → List ℕ → List ℕ → TriesStage → Type 0
 PlansLine old line text new =

@@ -52,6 +52,11 @@
 //! `take` is answered as a session answers the edit of the last try (`RepliesAs`), and the reply to any other line is that of a session
 //! that can be looked at (`Views`).
 //!
+//! The work of the session, which `worked` prints, is moved by a try, a plan that tries anything and a line that asks for compares as by
+//! a report at the next multiple of 1,024 above the chosen step (`TryMoves`, `PlanMoves`), unless memory runs out: the session's own run is
+//! executed up to there and its machines are held. The steps of the runs that are tried aren't counted. A rejected line, and a plan that
+//! tries nothing, leaves the work as it is (`Rejected`).
+//!
 //! In `specs/`: `Tries`, the reply to a line; `Plans`, the tries of a plan; `Merging`, what is new; `Stages` and `Holding`, what a session
 //! keeps. `LongLines` is a lemma for the server of lines.
 //!

@@ -1,6 +1,7 @@
 //! A session that gets one line after another, some of which try an input.
 ghost use Rattle.std.specs.Prelude.{◌≡◌, ◌++◌, [], IsTrue, OnErr, OnOk};
-ghost use Rattle.replay_session.specs.Session.{scenario_of, turn_of};
+ghost use Rattle.replay_session.specs.Session.{scenario_of, trail_of, turn_of};
+ghost use Rattle.replay_session.specs.Work.{work_on};
 ghost use Rattle.tallies.specs.Tallied.{entries_of, is_met, number_of, with_text};
 ghost use Rattle.tries.specs.Holding.{IsHeld, held-prop};
 ghost use Rattle.tries.specs.Merging.{IsMerged, agains_of, news_of};
@@ -116,7 +117,7 @@ pub struct Tries<'a> {
     /// The edit of the last try, if the lines after it only try, ask for compares or look.
     last: Option<Edit>,
     held: Option<Held>,
-    ghost seeded: { IsHeld (scenario_of viewer.session) range held } by { held-prop (scenario_of viewer.session) range held },
+    ghost seeded: { IsHeld (scenario_of viewer.session) range (work_on (trail_of viewer.session)) held } by { held-prop (scenario_of viewer.session) range (work_on (trail_of viewer.session)) held },
     shown: Vec<u8>,
     /// Whether the last reply is that to a try.
     is_shown: bool,
@@ -131,7 +132,8 @@ impl<'a> Tries<'a> {
     ghost use Rattle.scenario.specs.Edits.{row, IsTaken};
     ghost use Rattle.tries.specs.Stages.{reply_of_tries, stage_of_tries};
     ghost use Rattle.tries.specs.Plans.{attempts_at, attempts_of, edit_of};
-    ghost use Rattle.tries.specs.Tries.{Differ, Keeps, LeavesBase, Others, Planned, PlansLine, Refused, TellsLine, Tried as HasTried, TriedAs, TriedUpTo};
+    ghost use Rattle.tries.specs.Tries.{Differ, Keeps, LeavesBase, Others, PlanMoves, Planned, PlansLine, Rejected, Refused, TellsLine};
+    ghost use Rattle.tries.specs.Tries.{Tried as HasTried, TriedAs, TriedUpTo, TryMoves};
     ghost use Rattle.tries.specs.Tries.{gathered, planned_text, takes, untried};
 
     pub(crate) fn new(session: Session<'a>) -> Result<Self, AllocError>
@@ -155,7 +157,7 @@ impl<'a> Tries<'a> {
     /// Replies why a line is rejected.
     #[tactic(auto, unfolding(crate::specs::Stages::reply_of_tries, crate::specs::Stages::stage_of_tries))]
     fn refuse(&mut self, fault: Fault)
-        ensures refused { Refused (stage_of_tries self.old) fault (reply_of_tries self.new) (stage_of_tries self.new) }
+        ensures rejected { Rejected (stage_of_tries self.old) fault (reply_of_tries self.new) (stage_of_tries self.new) }
         ensures base { LeavesBase (stage_of_tries self.old) (stage_of_tries self.new) }
     {
         self.viewer.refuse(fault);
@@ -168,6 +170,7 @@ impl<'a> Tries<'a> {
         requires { IsOfSetup effect }
         ensures base { LeavesBase (stage_of_tries self.old) (stage_of_tries self.new) }
         ensures kept { Keeps (stage_of_tries self.old) (stage_of_tries self.new) }
+        ensures work { OnOk result (TryMoves (stage_of self.old.viewer.session) (stage_of self.new.viewer.session)) }
         ensures seed { IfOk result (λ held. (held.effect ≡ effect) × IsSeed (scenario_of self.old.viewer.session) effect self.old.range held.seed) }
     {
         if let Some(held) = self.held.take()
@@ -207,6 +210,7 @@ impl<'a> Tries<'a> {
         requires input { GivesInput edit }
         ensures base { LeavesBase (stage_of_tries self.old) (stage_of_tries self.new) }
         ensures kept { Keeps (stage_of_tries self.old) (stage_of_tries self.new) }
+        ensures work { OnOk result (TryMoves (stage_of self.old.viewer.session) (stage_of self.new.viewer.session)) }
         ensures tried { IfOk result (IsTried (row (scenario_of self.old.viewer.session) edit).after self.old.range) }
     {
         let effect = self.viewer.session.effect(&edit);
@@ -240,6 +244,7 @@ impl<'a> Tries<'a> {
         ensures base { LeavesBase (stage_of_tries self.old) (stage_of_tries self.new) }
         ensures tried { OnOk result (TriedAs (scenario_of self.old.viewer.session) self.old.range (planned_text attempt) (edit_of attempt)
             (gathered (stage_of_tries self.old) text.old.bytes.items) (gathered (stage_of_tries self.new) text.new.bytes.items)) }
+        ensures work { OnOk result (TryMoves (stage_of self.old.viewer.session) (stage_of self.new.viewer.session)) }
         ensures kept { OnErr result (gathered (stage_of_tries self.new) text.new.bytes.items ≡ gathered (stage_of_tries self.old) text.old.bytes.items) }
     {
         let edit = attempt.edit(self.viewer.session.allocator())?;
@@ -265,6 +270,8 @@ impl<'a> Tries<'a> {
         ensures base { LeavesBase (stage_of_tries self.old) (stage_of_tries self.new) }
         ensures tried { TriedUpTo (is_ok result) (scenario_of self.old.viewer.session) self.old.range (if is_wanted then attempt ∷ [] else [])
             (gathered (stage_of_tries self.old) text.old.bytes.items) (gathered (stage_of_tries self.new) text.new.bytes.items) }
+        ensures work { OnOk result (PlanMoves (if is_wanted then attempt ∷ [] else [])
+            (stage_of self.old.viewer.session) (stage_of self.new.viewer.session)) }
     {
         if is_wanted {
             self.try_byte(text, attempt)
@@ -293,6 +300,8 @@ impl<'a> Tries<'a> {
         ensures tried { TriedUpTo (is_ok result) (scenario_of self.old.viewer.session) self.old.range
             (attempts_at values.now (scenario_of self.old.viewer.session).setup.input offset)
             (gathered (stage_of_tries self.old) text.old.bytes.items) (gathered (stage_of_tries self.new) text.new.bytes.items) }
+        ensures work { OnOk result (PlanMoves (attempts_at values.now (scenario_of self.old.viewer.session).setup.input offset)
+            (stage_of self.old.viewer.session) (stage_of self.new.viewer.session)) }
     {
         let own = self.byte_at(offset);
         for other in 0..VALUES {
@@ -310,6 +319,8 @@ impl<'a> Tries<'a> {
         ensures tried { TriedUpTo (is_ok result) (scenario_of self.old.viewer.session) self.old.range
             (attempts_of plan.now (scenario_of self.old.viewer.session).setup.input)
             (gathered (stage_of_tries self.old) text.old.bytes.items) (gathered (stage_of_tries self.new) text.new.bytes.items) }
+        ensures work { OnOk result (PlanMoves (attempts_of plan.now (scenario_of self.old.viewer.session).setup.input)
+            (stage_of self.old.viewer.session) (stage_of self.new.viewer.session)) }
     {
         let places = plan.places;
         for i in 0..places.count() {

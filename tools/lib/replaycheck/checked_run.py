@@ -20,6 +20,10 @@ OWN = {*PASSED_ON, *FLAGS, "--error-exitcode", "--errors-for-leak-kinds", "--sho
        "--demangle", "--strip-prefix", "--output", "--not-heap"}
 
 
+# Options of other commands.
+LIMITS = ("--most-moved", "--most-output")
+
+
 def leak_kinds(text):
     """Reads a list of kinds of leaks."""
     known = {**{kind: {kind} for kind in LEAK_KINDS.values()}, "all": set(LEAK_KINDS.values()), "none": set()}
@@ -34,7 +38,7 @@ SHOWN = leak_kinds("definite,possible")
 
 def reader_of_options(page):
     reader = Reader(page)
-    reader.program_options()
+    reader.program_options(has_limits=False)
     reader.option("--step", type=number(0, LAST_STEP), default=LAST_STEP)
     reader.option("--error-exitcode", type=number(0, 255), default=0)
     for name in ("--errors-for-leak-kinds", "--show-leak-kinds"):
@@ -55,7 +59,7 @@ def options_of(page, words):
     """The options. One that only Valgrind has is an error."""
     reader = reader_of_options(page)
     for name in names_of(words) - OWN:
-        why = elsewhere(name)
+        why = f"`run` has the usual numbers; `exec`, `look` and other commands take {name}" if name in LIMITS else elsewhere(name)
         if why is not None:
             reader.error(f"{name} is no option here{why and ': ' + why}")
     if "--output" in names_of(words):

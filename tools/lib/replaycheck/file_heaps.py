@@ -122,7 +122,7 @@ def heap_of_run(file, given, step, isa=ISAS[0], regions=USUAL_REGIONS, excepted=
     run's instruction set, `regions` where its heap and stack are, and `excepted` has the functions that are no heap's."""
     if not os.path.isfile(file):
         return None
-    words = [*isa_words(isa), *regions.words, *(["--not-heap", ",".join(excepted)] if excepted else []), path_of(file)]
+    words = [*isa_words(isa), *regions.exec_words, *(["--not-heap", ",".join(excepted)] if excepted else []), path_of(file)]
     first = said = said_of(words, 0)
     if said and step and (given is None or os.path.isfile(given)):
         said = said_of([*(["--input", path_of(given)] if given is not None else []), *words], step)

@@ -3,7 +3,8 @@ import sys
 
 from replaycheck.endings import Fault, write
 from replaycheck.programs import ISAS
-from replaycheck.regions import HEAP_WANTED, STACK_WANTED, USUAL_REGIONS, Regions, is_heap, is_stack, overlap
+from replaycheck.regions import (GREATEST_MOVED, GREATEST_OUTPUT, HEAP_WANTED, STACK_WANTED, USUAL_MOVED, USUAL_OUTPUT, USUAL_REGIONS,
+                                 Regions, is_heap, is_stack, overlap)
 
 LAST_STEP, USUAL_STEP = 4194304, 1048576
 MANY = {"*": 0, "+": 1}
@@ -78,22 +79,26 @@ class Reader:
         else:
             self.positionals.append(kind)
 
-    def program_options(self):
-        """Adds the program's file and what it is given."""
+    def program_options(self, has_limits=True):
+        """Adds the program's file and what it is given; `has_limits` is as of `region_options`."""
         self.add_argument("file")
         self.option("--input")
         self.option("--supp")
         self.isa_option()
-        self.region_options()
+        self.region_options(has_limits)
 
     def isa_option(self):
         """Adds the instruction set that the program's file is read for."""
         self.option("--isa", choices=ISAS, default=ISAS[0])
 
-    def region_options(self):
-        """Adds the regions of heap and stack. The options then have `regions`, too."""
+    def region_options(self, has_limits=True):
+        """Adds the regions of heap and stack and, unless it is said not to, how many bytes calls move. The options then have `regions`,
+        too."""
         self.option("--heap-region", type=heap_region)
         self.option("--stack-region", type=stack_region)
+        if has_limits:
+            self.option("--most-moved", type=number(1, GREATEST_MOVED))
+            self.option("--most-output", type=most_output)
 
     def read(self, words=None):
         """The options of a command line. An argument after `--` is none, whatever it begins with."""
@@ -111,7 +116,8 @@ class Reader:
             bare, unknown = self.read_options(words[:end], options, given)
             self.place(bare + words[end + 1:], unknown, options)
             if "--heap-region" in self.options:
-                options.regions = regions_of(options.heap_region, options.stack_region)
+                limits = (options.most_moved, options.most_output) if "--most-moved" in self.options else ()
+                options.regions = regions_of(options.heap_region, options.stack_region, *limits)
         except Fault as fault:
             self.error(str(fault))
         return options
@@ -229,9 +235,16 @@ def stack_region(text):
     return address(begin), address(end)
 
 
-def regions_of(heap, stack):
-    """The regions that two options say, each None where it isn't given."""
-    regions = Regions(USUAL_REGIONS.heap if heap is None else heap, USUAL_REGIONS.stack if stack is None else stack)
+def most_output(text):
+    """Reads how many bytes a program can write in all, or that there is no limit: a text, as None is an option that isn't given."""
+    return text if text == "none" else number(0, GREATEST_OUTPUT)(text)
+
+
+def regions_of(heap, stack, moved=None, output=None, usual=(USUAL_MOVED, USUAL_OUTPUT)):
+    """The regions and limits that options say, each None where it isn't given; `usual` has the limits that hold then."""
+    most = usual[1] if output is None else None if output == "none" else output
+    regions = Regions(USUAL_REGIONS.heap if heap is None else heap, USUAL_REGIONS.stack if stack is None else stack,
+                      usual[0] if moved is None else moved, most)
     if regions.meet():
         raise Fault(overlap(regions))
     return regions

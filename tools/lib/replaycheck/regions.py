@@ -1,17 +1,25 @@
-"""Where a run has its heap and its stack: the regions of memory that aren't the program's own."""
+"""What a program's file is read for besides an instruction set: the regions of memory that aren't its own, and how many bytes its calls
+move."""
 from replaycheck.records import Record
 
 HEAP_SIZE, HEAP_STEP, LEAST_HEAP, GREATEST_HEAP = 0x20000000, 0x10000000, 0x10000000, 0xD0000000
 STACK_STEP, LEAST_STACK = 4096, 65536
 HEAP_WANTED = "a multiple of 0x10000000 from 0x10000000 to 0xd0000000"
 STACK_WANTED = "A..B, multiples of 4096 at least 65536 apart"
+# The most bytes that one read or write moves, and that a program can write in all; None is no limit. Then what one call moves at most,
+# which is Linux's number, and the greatest number of bytes in all.
+USUAL_MOVED, USUAL_OUTPUT = 4096, 65536
+GREATEST_MOVED, GREATEST_OUTPUT = 0x7FFFF000, 0xFFFFFFFF
 
 
 class Regions(Record):
-    """Where the heap's region begins, and where the stack's begins and ends."""
+    """Where the heap's region begins, where the stack's begins and ends, and the most bytes that one call moves and that are written in
+    all, with None for no limit."""
 
     heap: int
     stack: tuple
+    moved: int = USUAL_MOVED
+    output: "int | None" = USUAL_OUTPUT
 
     @property
     def ranges(self):
@@ -19,15 +27,31 @@ class Regions(Record):
         return [("heap", self.heap, self.heap + HEAP_SIZE), ("stack", *self.stack)]
 
     @property
-    def options(self):
+    def places(self):
         """The options that say where regions are that aren't the usual ones, each with its value."""
         told = [("--heap-region", heap_text(self.heap))] if self.heap != USUAL_REGIONS.heap else []
         return told + ([("--stack-region", stack_text(self.stack))] if self.stack != USUAL_REGIONS.stack else [])
 
     @property
+    def limits(self):
+        """The options that say how many bytes calls move, each with its value."""
+        return [("--most-moved", str(self.moved)), ("--most-output", output_text(self.output))]
+
+    @property
+    def options(self):
+        """The options that say what isn't usual, each with its value."""
+        usual = USUAL_REGIONS.limits
+        return self.places + [it for it in self.limits if it not in usual]
+
+    @property
     def words(self):
-        """The options as arguments of the program."""
-        return [f"{name}={value}" for name, value in self.options]
+        """The options as arguments of the program, for a command whose defaults are the usual ones."""
+        return words_of(self.options)
+
+    @property
+    def exec_words(self):
+        """The options as arguments of `exec`, which has other defaults."""
+        return words_of(self.places + self.limits)
 
     @property
     def told(self):
@@ -58,6 +82,14 @@ class Regions(Record):
 
 
 USUAL_REGIONS = Regions(0x40000000, (0x7F000000, 0x80000000))
+
+
+def words_of(options):
+    return [f"{name}={value}" for name, value in options]
+
+
+def output_text(output):
+    return "none" if output is None else str(output)
 
 
 def meets(begin, end, low, high):

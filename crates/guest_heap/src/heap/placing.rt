@@ -151,6 +151,7 @@ impl Heap {
         ensures ok { OnOk result (blocks_of self.new ≡ with_block (blocks_of self.old) (block_of entry)) }
         ensures err { OnErr result (blocks_of self.new ≡ blocks_of self.old) }
     {
+        self.placed = self.placed.saturating_add(1);
         let slot = slot_of(self.begin, entry.start);
         let shared = Rc::new(alloc, entry)?;
         self.live.set(alloc, slot, Some(shared))?;

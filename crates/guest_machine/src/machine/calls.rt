@@ -1,11 +1,12 @@
 //! The calls that a program makes of its environment.
-ghost use Rattle.std.specs.Prelude.{◌≡◌, ◌+◌, ◌-◌, ◌^◌, ◌<◌, ◌≤◌, length, min, slice_index, false, Some, IfOk, OnOk};
-ghost use Rattle.guest_machine.specs.Calls.{argument, answers, call_tested, call_errors, parameters_of, heap_parameters, tested_from, errors_from, most_moved, moved_len, exit_call};
+ghost use Rattle.std.specs.Prelude.{◌≡◌, ◌+◌, ◌-◌, ◌^◌, ◌<◌, ◌≤◌, length, min, slice_index, false, Some, IfOk, IsTrue, OnOk};
+ghost use Rattle.guest_machine.specs.Calls.{accessible_len, answers, argument, call_errors, call_tested, errors_from, exit_call, has_room, heap_parameters, moved_len, parameters_of, tested_from};
 ghost use Rattle.guest_machine.specs.Errors.{fault_of, buffer_errors};
 ghost use Rattle.shadow_memory.specs.Ranges.{written};
 ghost use Rattle.guest_machine.specs.Effects.{stored_core};
 ghost use Rattle.guest_machine.specs.Exec.{no_intake, nothing, given_at, read_uses, write_uses};
 ghost use Rattle.guest_machine.specs.Shows.{core_of, bytes_of};
+ghost use Rattle.guest_machine.specs.Streams.{usually};
 ghost use Rattle.guest_machine.specs.Doing.{used_of, uses_by, read_intake, Changes, Notes, Does, DoesRow, DoesRead, DoesWrite};
 
 use crate::environment_call::EnvironmentCall;
@@ -13,7 +14,7 @@ use crate::machine::Guest;
 use crate::machine::step::{NOTHING, Used};
 use crate::setup::Setup;
 use error_events::{Kind, Parameter, ParameterFault};
-use guest_elf::Hook;
+use guest_elf::{Hook, StreamLimits};
 use instructions::{Instruction, Register};
 use run_values::{Span, Status};
 use shadow_memory::Bad;
@@ -28,8 +29,8 @@ const A2: u8 = 12;
 /// The register of a call's number.
 pub(super) const A7: u8 = 17;
 
-/// The greatest number of bytes that one call moves.
-const MOST_MOVED: u32 = 4096;
+/// The number of bytes that a call moves even if they may not be accessed.
+const ALWAYS_MOVED: u32 = 4096;
 
 /// EBADF negated, modulo 2^32: the result of a call that names no open file.
 const BAD_DESCRIPTOR: u32 = u32::MAX - 8;
@@ -47,13 +48,53 @@ impl Guest {
         self.read_register(Register::new(r)).value
     }
 
+    /// How many of n bytes from an address on come before the first that may not be accessed.
+    #[tactic(auto, using(crate::proofs::Moving::accessible_none, crate::proofs::Moving::accessible_some))]
+    fn accessible_len(&self, start: u32, n: u32) -> u32
+        ensures { result ≡ accessible_len (core_of self.now).shadow start n }
+    {
+        match self.memory.first_bad(start, n, false) {
+            Some(bad) => bad.addr.wrapping_sub(start),
+            None => n,
+        }
+    }
+
     /// How many bytes a call moves at most.
     #[tactic(auto, unfolding(crate::specs::Calls::moved_len))]
     pub(super) fn moved_len(&self) -> u32
-        ensures value { result ≡ moved_len (core_of self.now) }
-        ensures few { result ≤ most_moved }
+        ensures { result ≡ moved_len (core_of self.now) }
     {
-        self.argument(A2).min(MOST_MOVED)
+        let asked = self.argument(A2).min(self.limits.most_moved);
+        if asked <= ALWAYS_MOVED {
+            return asked;
+        }
+        self.accessible_len(self.argument(A1), asked)
+            .max(ALWAYS_MOVED)
+    }
+
+    /// Whether there is room for the bytes of a `write`.
+    pub(super) fn has_room(&self) -> bool
+        ensures room { result ≡ has_room (core_of self.now) self.now.progress.output_len }
+        ensures fits { IsTrue result → self.now.progress.output_len + moved_len (core_of self.now) < 2 ^ 64 }
+    {
+        self.progress
+            .has_room(self.moved_len(), self.limits.most_output)
+    }
+
+    /// How many bytes a call moves where nothing is said of it.
+    pub(super) fn usually_moved(&self) -> u32
+        ensures { result ≡ moved_len (usually (core_of self.now)) }
+    {
+        self.argument(A2).min(StreamLimits::USUAL.most_moved)
+    }
+
+    /// Whether there is room for the bytes of a `write` where nothing is said of it.
+    pub(super) fn usually_has_room(&self) -> bool
+        ensures { result ≡ has_room (usually (core_of self.now)) self.now.progress.output_len }
+    {
+        let limits = StreamLimits::USUAL;
+        self.progress
+            .has_room(self.usually_moved(), limits.most_output)
     }
 
     /// Tests the parameters of a call, which are in a0 and on, in order.
@@ -101,7 +142,7 @@ impl Guest {
 
     /// Stores input at an address.
     fn store_input(&mut self, start: u32, given: &[u8]) -> Result<(), AllocError>
-        requires { length given.now ≤ most_moved }
+        requires { length given.now < 2 ^ 32 }
         ensures { OnOk result (Changes self.old self.new (stored_core (core_of self.old) start (length given.now) 0)
             (written (bytes_of self.old) start (length given.now) (slice_index given.now))) }
     {
@@ -173,7 +214,7 @@ impl Guest {
         }
         let start = self.argument(A1);
         let len = self.moved_len();
-        if !self.progress.has_room(len) {
+        if !self.has_room() {
             return self.test_and_answer(next, EnvironmentCall::Write, NO_SPACE);
         }
         self.test_call(EnvironmentCall::Write)?;

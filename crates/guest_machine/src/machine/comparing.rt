@@ -39,13 +39,14 @@ impl Guest {
         !self.isa.has_controls() || self.steps == other.steps
     }
 
-    /// Returns whether another guest has the same registers, pc, status, instruction set, region of the stack and reservation, and is as
-    /// far.
+    /// Returns whether another guest has the same registers, pc, status, instruction set, region of the stack, limits of calls and
+    /// reservation, and is as far.
     fn has_core_of(&self, other: &Guest) -> bool
         ensures pc { IsTrue result → self.now.pc ≡ other.now.pc }
         ensures status { IsTrue result → self.now.status ≡ other.now.status }
         ensures isa { IsTrue result → self.now.isa ≡ other.now.isa }
         ensures stack { IsTrue result → self.now.stack ≡ other.now.stack }
+        ensures limits { IsTrue result → self.now.limits ≡ other.now.limits }
         ensures reserved { IsTrue result → self.now.reserved ≡ other.now.reserved }
         ensures controls { IsTrue result → registers_in self.now.controls ≡ registers_in other.now.controls }
         ensures steps { IsTrue result → (core_of self.now).steps ≡ (core_of other.now).steps }
@@ -56,6 +57,7 @@ impl Guest {
             && self.status == other.status
             && self.isa == other.isa
             && self.stack == other.stack
+            && self.limits == other.limits
             && self.reserved == other.reserved
             && self.shows_steps_of(other)
             && self.progress.is_same(&other.progress)

@@ -6,7 +6,7 @@ ghost use Rattle.guest_machine.specs.Calls.{call_at};
 ghost use Rattle.guest_machine.specs.Exec.{call_asks, deed_at, intake_at, row_asks};
 ghost use Rattle.guest_machine.specs.Run.{pre};
 ghost use Rattle.guest_machine.specs.Shows.{core_of, bytes_of, Holds, Shows};
-ghost use Rattle.guest_machine.specs.Streams.{calls_out, idles_in, is_idle, is_refused, is_self_jump, refuses_row, refuses_write, IsQuietFor, Rests, rested, rested_core, row_in, sees_end};
+ghost use Rattle.guest_machine.specs.Streams.{are_unlike, calls_out, idles_in, is_idle, is_refused, is_self_jump, needs_limits, needs_limits_in, needs_limits_row, refuses_row, refuses_write, IsQuietFor, Rests, rested, rested_core, row_in, sees_end, unknown_call, unknown_row};
 ghost use Rattle.guest_machine.specs.Doing.{Sets};
 
 use crate::environment_call::EnvironmentCall;
@@ -40,6 +40,13 @@ fn is_self_jump(code: Code) -> bool
         Code::Word(word) => word == SELF_JUMP,
         Code::Half(half) => half == SHORT_SELF_JUMP,
     }
+}
+
+/// Whether two answers are different.
+fn are_unlike(one: bool, other: bool) -> bool
+    ensures { result ≡ are_unlike one other }
+{
+    if one { !other } else { other }
 }
 
 impl Guest {
@@ -128,7 +135,7 @@ impl Guest {
         match EnvironmentCall::of(self.argument(A7)) {
             EnvironmentCall::Write => {
                 let descriptor = self.argument(A0);
-                (descriptor == 1 || descriptor == 2) && !self.progress.has_room(self.moved_len())
+                (descriptor == 1 || descriptor == 2) && !self.has_room()
             }
             _ => false,
         }
@@ -141,6 +148,53 @@ impl Guest {
     {
         match self.row_here(hooks) {
             Some(Instruction::CallEnvironment) => self.is_refused(),
+            _ => false,
+        }
+    }
+
+    /// The number of the call that the next step makes, if it isn't known.
+    #[tactic(auto, unfolding(crate::specs::Calls::call_at, crate::specs::Streams::unknown_in, crate::specs::Streams::unknown_row))]
+    fn unknown_call(&self, hooks: &Hooks) -> Option<u32>
+        ensures { result ≡ unknown_row (core_of self.now) (row_in (deed_at (core_of self.now) (bytes_of self.now) hooks.now)) }
+    {
+        match self.row_here(hooks) {
+            Some(Instruction::CallEnvironment) => {
+                let number = self.argument(A7);
+                match EnvironmentCall::of(number) {
+                    EnvironmentCall::Unknown => Some(number),
+                    _ => None,
+                }
+            }
+            _ => None,
+        }
+    }
+
+    /// Whether an ECALL does something else where nothing is said of how many bytes calls move.
+    #[tactic(auto, unfolding(crate::specs::Calls::call_at, crate::specs::Streams::needs_limits_in))]
+    fn call_needs_limits(&self) -> bool
+        ensures { result ≡ needs_limits_in (core_of self.now) (call_at (core_of self.now)) self.now.progress.output_len }
+    {
+        match EnvironmentCall::of(self.argument(A7)) {
+            EnvironmentCall::Read => {
+                self.argument(A0) == 0 && self.moved_len() != self.usually_moved()
+            }
+            EnvironmentCall::Write => {
+                let descriptor = self.argument(A0);
+                let moves = self.moved_len() != self.usually_moved();
+                let fits = are_unlike(self.has_room(), self.usually_has_room());
+                (descriptor == 1 || descriptor == 2) && (moves || fits)
+            }
+            _ => false,
+        }
+    }
+
+    /// Whether the next step does something else where nothing is said of how many bytes calls move.
+    #[tactic(auto, unfolding(crate::specs::Streams::needs_limits_row))]
+    fn needs_limits(&self, hooks: &Hooks) -> bool
+        ensures { result ≡ needs_limits_row (core_of self.now) (row_in (deed_at (core_of self.now) (bytes_of self.now) hooks.now)) self.now.progress.output_len }
+    {
+        match self.row_here(hooks) {
+            Some(Instruction::CallEnvironment) => self.call_needs_limits(),
             _ => false,
         }
     }
@@ -217,6 +271,23 @@ impl Machine {
         ensures { (s : State) → Shows self.now s → result ≡ refuses_write s setup.now }
     {
         self.guest.refuses_write(&setup.hooks)
+    }
+
+    /// Returns the number of the call that the next step makes, if it is one that isn't known.
+    #[tactic(auto, unfolding(crate::specs::Shows::Shows, crate::specs::Streams::unknown_call, crate::specs::Streams::row_at))]
+    pub fn unknown_call(&self, setup: &Setup) -> Option<u32>
+        ensures { (s : State) → Shows self.now s → result ≡ unknown_call s setup.now }
+    {
+        self.guest.unknown_call(&setup.hooks)
+    }
+
+    /// Returns whether the next step is a `read` or `write` that would do something else with the usual
+    /// [`StreamLimits`](guest_elf::StreamLimits).
+    #[tactic(auto, unfolding(crate::specs::Shows::Shows, crate::specs::Streams::needs_limits, crate::specs::Streams::row_at))]
+    pub fn needs_limits(&self, setup: &Setup) -> bool
+        ensures { (s : State) → Shows self.now s → result ≡ needs_limits s setup.now }
+    {
+        self.guest.needs_limits(&setup.hooks)
     }
 
     /// Whether the next step is a jump to itself, whose code is defined.

@@ -33,7 +33,7 @@ def options_of(page):
     reader.repeated("--keep")
     reader.repeated("--devices")
     reader.isa_option()
-    reader.region_options()
+    reader.region_options(has_limits=False)
     options = reader.read()
     names = [name for name, _, _ in options.heap] + options.keep
     twice = next((name for i, name in enumerate(names) if name in names[:i]), None)

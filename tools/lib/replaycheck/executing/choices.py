@@ -2,9 +2,9 @@
 import os
 
 from replaycheck.endings import Fault
-from replaycheck.options import BadValue, heap_region, number, regions_of, stack_region
+from replaycheck.options import BadValue, heap_region, most_output, number, regions_of, stack_region
 from replaycheck.programs import ISAS
-from replaycheck.regions import USUAL_REGIONS
+from replaycheck.regions import GREATEST_MOVED, USUAL_REGIONS
 from replaycheck.verdicts import LEAK_KINDS
 
 FAILED = 125
@@ -44,6 +44,7 @@ class Choices:
         self.demangle, self.strip_prefix, self.error_exitcode = True, None, 0
         self.suppressions, self.patches, self.unused = [], [], []
         self.isa, self.heap_region, self.stack_region, self.regions = ISAS[0], None, None, USUAL_REGIONS
+        self.most_moved, self.most_output = None, None
         # Options of the program, by their names there.
         self.passed: dict[str, str] = {}
         self.file, self.arguments = "", []
@@ -52,6 +53,11 @@ class Choices:
     def needs_heap(self):
         """Whether an unseen heap is a failure."""
         return bool(self.error_exitcode) if self.require_heap is None else self.require_heap
+
+    @property
+    def log_goes_to_error(self):
+        """Whether the log goes to standard error, after what the program has written there."""
+        return self.log_file is None and self.log_fd in (None, 2)
 
     @property
     def counted(self):
@@ -135,6 +141,8 @@ def yes_or_no(text):
 WITH_VALUE = {
     "--isa": sets("isa", one_of(*ISAS)),
     "--heap-region": sets("heap_region", heap_region), "--stack-region": sets("stack_region", stack_region),
+    "--most-moved": sets("most_moved", number(1, GREATEST_MOVED)), "--most-output": sets("most_output", most_output),
+    "--memory-limit": passes("memory-limit", 0, 1048576),
     "--input": sets("input"), "--report": sets("report"), "--log-file": sets("log_file"), "--log-fd": sets("log_fd", number(0, 1023)),
     "--log-format": sets("log_format", one_of(*FORMATS)), "--demangle": sets("demangle", yes_or_no),
     "--strip-prefix": sets("strip_prefix"), "--error-exitcode": sets("error_exitcode", number(0, 255)),
@@ -251,7 +259,8 @@ def choices_of(words):
 def judge(choices):
     """Rejects options that contradict each other. A report in a file is a log in the form of a report."""
     try:
-        choices.regions = regions_of(choices.heap_region, choices.stack_region)
+        choices.regions = regions_of(choices.heap_region, choices.stack_region, choices.most_moved, choices.most_output,
+                                     usual=(GREATEST_MOVED, None))
     except Fault as fault:
         raise Usage(str(fault)) from None
     logs = [name for name, value in (("--report", choices.report), ("--log-file", choices.log_file), ("--log-fd", choices.log_fd))

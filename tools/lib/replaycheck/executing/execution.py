@@ -56,7 +56,8 @@ def all_patches(choices):
 
 def words_for(choices, supp, report):
     """The arguments of the program."""
-    words = [program(), "exec", "--report", report, *isa_words(choices.isa), *choices.regions.words]
+    words = [program(), "exec", "--report", report, *isa_words(choices.isa), *choices.regions.exec_words]
+    words += ["--end-line"] if choices.log_goes_to_error else []
     for name, text in choices.passed.items():
         words += [f"--{name}", text]
     for name, path in (("--input", choices.input), ("--supp", supp)):

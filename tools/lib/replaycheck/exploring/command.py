@@ -69,7 +69,7 @@ def check(reader, options):
     faults = [(options.file is None and not options.tables, "no FILE, and no --from"),
               (options.file is None and (options.input or options.supp), "--input and --supp go with a FILE"),
               *((options.file is None and getattr(options, name) is not None, f"--{name.replace('_', '-')} goes with a FILE")
-                for name in ("isa", "heap_region", "stack_region")),
+                for name in ("isa", "heap_region", "stack_region", "most_moved", "most_output")),
               (options.tables and making, f"--from takes tables that are there: {' '.join(making)} makes them"),
               (options.at is None and options.code is not None and options.words is not None, "--code and --words at once"),
               (options.code is not None and options.code_range is not None, "--code and --code-range at once"),

@@ -7,7 +7,7 @@ from typing import Callable, List, Optional, Tuple, Union
 
 from replaycheck.options import LAST_STEP
 from replaycheck.programs import ISAS, unit_of
-from replaycheck.regions import USUAL_REGIONS, Regions, is_heap, is_stack
+from replaycheck.regions import GREATEST_MOVED, GREATEST_OUTPUT, USUAL_MOVED, USUAL_OUTPUT, USUAL_REGIONS, Regions, is_heap, is_stack
 
 from .lines import NUMBER, BadTable, shown
 from .ranges import Code, Range
@@ -28,8 +28,10 @@ SMALL = {"program": 1 << 27, "input": LONGEST_INPUT, "supp": LONGEST_INPUT}
 ISA = re.compile(rb"isa ([a-z0-9]{1,20})")
 HEAP = re.compile(rb"heap-region (%b)" % WORD)
 STACK = re.compile(rb"stack-region (%b)\.\.(%b)" % (WORD, WORD))
+MOVED = re.compile(rb"most-moved (%b)" % NUMBER)
+MOST = re.compile(rb"most-output (none|%b)" % NUMBER)
 # The versions of tables, each with what its head has: a table has the least version that can say what it is of.
-VERSIONS = {b"sweep 1": "bytes or words", b"sweep 2": "steps too, an instruction set, regions or sides"}
+VERSIONS = {b"sweep 1": "bytes or words", b"sweep 2": "steps too, an instruction set, regions, limits or sides"}
 
 
 @dataclass(frozen=True)
@@ -95,9 +97,10 @@ def told_regions(regions):
     return f" with {regions.told}" if regions.told else ""
 
 
-def told_places(regions):
-    """Regions as a fault has them."""
-    return regions.told or "the usual regions of heap and stack"
+def told_places(regions, other):
+    """What isn't usual, as a fault has it that tells two apart."""
+    usual = "the usual regions of heap and stack" if regions.limits == other.limits else "the usual regions and limits"
+    return regions.told or usual
 
 
 def cut(places, index, count):
@@ -162,8 +165,26 @@ def read_isa(lines, version):
     return name
 
 
+def read_limits(lines, version):
+    """How many bytes one call moves, and how many are written in all. A table has a line on each that isn't the usual number."""
+    moved, output = USUAL_MOVED, USUAL_OUTPUT
+    if lines.next.startswith(b"most-moved "):
+        must_be_second(lines, version)
+        moved = int(lines.must(MOVED, "`most-moved N`")[1])
+        if not 1 <= moved <= GREATEST_MOVED or moved == USUAL_MOVED:
+            lines.fault("no number that has a line")
+    if lines.next.startswith(b"most-output "):
+        must_be_second(lines, version)
+        found = lines.must(MOST, "`most-output N`")[1]
+        output = None if found == b"none" else int(found)
+        if output == USUAL_OUTPUT or output is not None and output > GREATEST_OUTPUT:
+            lines.fault("no number that has a line")
+    return moved, output
+
+
 def read_regions(lines, version):
-    """The regions of heap and stack, on each of which a table has a line where it isn't the usual one. It is of version 2 then."""
+    """The regions of heap and stack, on each of which a table has a line where it isn't the usual one, and the limits of calls. The table
+    is of version 2 then."""
     heap, stack = USUAL_REGIONS.heap, USUAL_REGIONS.stack
     if lines.next.startswith(b"heap-region "):
         must_be_second(lines, version)
@@ -176,7 +197,7 @@ def read_regions(lines, version):
         stack = int(found[1], 16), int(found[2], 16)
         if not is_stack(*stack) or stack == USUAL_REGIONS.stack:
             lines.fault("no region that has a line")
-    regions = Regions(heap, stack)
+    regions = Regions(heap, stack, *read_limits(lines, version))
     if regions.meet():
         lines.fault("regions that overlap")
     return regions

@@ -147,7 +147,7 @@ def difference(one, other):
     if one.isa != other.isa:
         return f"--isa {one.isa}, not {other.isa}"
     if one.regions != other.regions:
-        return f"{told_places(one.regions)}, not {told_places(other.regions)}"
+        return f"{told_places(one.regions, other.regions)}, not {told_places(other.regions, one.regions)}"
     for name, left, right in zip(("program", "input", "supp"), one.files, other.files):
         if left != right:
             return (f"another {name}, {left[0]} bytes with the digest {left[1][:16]}.., not {right[0]} with "

@@ -261,7 +261,8 @@ class Request:
         if source.head.isa != self.isa:
             raise Fault(f"{source}: it is of --isa {source.head.isa}, not of {self.isa}")
         if source.head.regions != self.regions:
-            raise Fault(f"{source}: it is of {told_places(source.head.regions)}, not of {told_places(self.regions)}")
+            its, own = source.head.regions, self.regions
+            raise Fault(f"{source}: it is of {told_places(its, own)}, not of {told_places(own, its)}")
         for given_file, was, now in zip(self.files, (it.digest for it in self.files), source.head.files):
             if was != now:
                 named = shown_name(given_file.name) or "a file that wasn't given"

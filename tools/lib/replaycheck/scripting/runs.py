@@ -10,7 +10,7 @@ from typing import Iterator, List, Optional, Tuple, Union
 from replaycheck.looking import ALL, MOST_SEEN, TOP
 from replaycheck.options import LAST_STEP
 from replaycheck.programs import ISAS
-from replaycheck.regions import USUAL_REGIONS
+from replaycheck.regions import USUAL_MOVED, USUAL_OUTPUT, USUAL_REGIONS
 from replaycheck.reports import Address, Lines, NoReport, Report, read_report
 from replaycheck.scripting.errors import Error, Usage
 from replaycheck.scripting.files import Source
@@ -45,9 +45,10 @@ def number(name: str, value: int, least: int = 0, greatest: int = TOP - 1) -> in
 class Run:
     """A run of a program on an input. `program`, `input` and `suppressions` are paths, or bytes that take the place of a file; each is read
     once, when the run is opened. `isa` is the instruction set that the program is read for. `heap_region` is where the heap's region
-    begins, and `stack_region` where the stack's begins and ends. Edits change the run, and reports and looks show it with all of them. It
-    is a context manager; `close` ends it otherwise. A run belongs to one thread at a time, and to the process that opened it; different
-    runs don't share anything.
+    begins, and `stack_region` where the stack's begins and ends. One call moves at most `most_moved` bytes, and the program writes at most
+    `most_output` in all, with None for no limit. Edits change the run, and reports and looks show it with all of them. It is a context
+    manager; `close` ends it otherwise. A run belongs to one thread at a time, and to the process that opened it; different runs don't share
+    anything.
 
     # Errors
 
@@ -57,8 +58,9 @@ class Run:
 
     def __init__(self, program: Source, input: Optional[Source] = None,  # noqa: A002
                  suppressions: Optional[Source] = None, *, isa: str = ISAS[0],
-                 heap_region: int = USUAL_REGIONS.heap, stack_region: Tuple[int, int] = USUAL_REGIONS.stack) -> None:
-        self._talk = Talk(program, input, suppressions, isa, regions_for(isa, heap_region, stack_region))
+                 heap_region: int = USUAL_REGIONS.heap, stack_region: Tuple[int, int] = USUAL_REGIONS.stack,
+                 most_moved: int = USUAL_MOVED, most_output: Optional[int] = USUAL_OUTPUT) -> None:
+        self._talk = Talk(program, input, suppressions, isa, regions_for(isa, heap_region, stack_region, most_moved, most_output))
         self._name = self._talk.names["image"]
 
     def __repr__(self) -> str:

@@ -14,7 +14,7 @@ from replaycheck.exploring.tables import Table
 from replaycheck.options import USUAL_STEP
 from replaycheck.programs import ISAS, built_program, isa_words, unit_of
 from replaycheck.refusals import Ended
-from replaycheck.regions import USUAL_REGIONS, Regions
+from replaycheck.regions import USUAL_MOVED, USUAL_OUTPUT, USUAL_REGIONS, Regions
 from replaycheck.scripting.errors import Error, Usage, of_end
 from replaycheck.scripting.files import Room, Source, name_of, read
 from replaycheck.scripting.regions import check_heap, regions_for
@@ -49,17 +49,18 @@ def sweep(program: Source, input: Optional[Source] = None, suppressions: Optiona
           words_values: Optional[Values] = None, function: Optional[str] = None, at: Optional[Places] = None,
           faults: Optional[Names] = None, code: Optional[Places] = None, pairs: bool = False, step: int = USUAL_STEP,
           with_output: bool = False, isa: str = ISAS[0], heap_region: int = USUAL_REGIONS.heap,
-          stack_region: Tuple[int, int] = USUAL_REGIONS.stack) -> Iterator[Tuple[str, Outcome]]:
+          stack_region: Tuple[int, int] = USUAL_REGIONS.stack, most_moved: int = USUAL_MOVED,
+          most_output: Optional[int] = USUAL_OUTPUT) -> Iterator[Tuple[str, Outcome]]:
     """Yields each edit of a sweep as a line of a session, with its outcome at a step. `bytes` of the input get `values`, and `words` of the
     program, or those of a `function`, get `words_values`; without all of these each byte of the input gets each other value. `at` are
     steps before which the machine is altered, by each of the models `faults`: only at addresses of `code`, or at those of a `function`;
-    with `pairs`, two instructions are left out as well. An edit of two lines has `; ` between them. `isa`, `heap_region`
-    and `stack_region` are as of a `Run`.
+    with `pairs`, two instructions are left out as well. An edit of two lines has `; ` between them. `isa`, `heap_region`,
+    `stack_region`, `most_moved` and `most_output` are as of a `Run`.
 
     # Errors
 
     As those of a `Run`, when the first edit is asked for."""
-    regions = regions_for(isa, heap_region, stack_region)
+    regions = regions_for(isa, heap_region, stack_region, most_moved, most_output)
     sources = {"image": program, "input": input, "suppressions": suppressions}
     there = {what: source for what, source in sources.items() if source is not None}
     data = {what: read(what, source) for what, source in there.items()}

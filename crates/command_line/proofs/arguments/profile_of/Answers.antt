@@ -10,4 +10,6 @@ returns c =
       isa = c.in_ok-get_str.ensures ∙ first_value-rows found (codes "isa");
       heap = c.in_ok-get_str-2.ensures ∙ first_value-rows found (codes "heap-region");
       stack = c.in_ok-get_str-3.ensures ∙ first_value-rows found (codes "stack-region");
+      most_moved = c.get_str-4.ensures ∙ first_value-rows found (codes "most-moved");
+      most_output = c.get_str-5.ensures ∙ first_value-rows found (codes "most-output");
     }

@@ -30,4 +30,9 @@ returns c =
         absent = λ e. c.get_flag-3.ensures.other (one_text-rows found (codes "no-require-heap") ∙ e);
       };
       not_heap = c.get_str-5.ensures ∙ first_value-rows found (codes "not-heap");
+      memory_limit = c.in_ok-number_of-4.ensures;
+      end_line = record {
+        given = λ e. c.get_flag-4.ensures.value (one_text-rows found (codes "end-line") ∙ e);
+        absent = λ e. c.get_flag-4.ensures.other (one_text-rows found (codes "end-line") ∙ e);
+      };
     }

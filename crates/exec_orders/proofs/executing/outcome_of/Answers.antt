@@ -1,10 +1,12 @@
 use Rattle.std.proofs.Common.{◌∙◌, ap, refl, subst, sym}
+use Rattle.guest_elf.specs.Images.{profile_of}
+use Rattle.guest_elf.specs.declared.profile.Profile.{Profile}
 use Rattle.guest_machine.specs.Shows.{Shows}
 use Rattle.guest_machine.specs.Streams.{is_idle}
 use Rattle.guest_machine.specs.declared.machine.Machine.{Machine}
 use Rattle.scenario.specs.Scenario.{chosen_state}
-use Rattle.executions.specs.Executions.{machine_of, refused_at, state_at}
-use Rattle.exec_orders.specs.Executed.{fails_at, told_at}
+use Rattle.executions.specs.Executions.{machine_of, needs_at, refused_at, state_at}
+use Rattle.exec_orders.specs.Executed.{fails_at, limits_told, told_at}
 use Rattle.exec_orders.proofs.Runs.{chosen-is}
 use Rattle.exec_orders.proofs.Stages.{findings-of}
 use Rattle.exec_orders.proofs.executing.outcome_of.Goals as goal
@@ -17,6 +19,7 @@ returns c =
     (subst (Shows (machine_of c.args.execution.now)) last c.requires.at.shows) in
     record {
       step = c.step.ensures;
+      ended = refl;
       status = c.status.ensures (chosen_state sc) shown;
       idles = c.is_idle.ensures (chosen_state sc) shown ∙ ap (is_idle (chosen_state sc)) c.setup.ensures;
       has_errors =
@@ -24,6 +27,12 @@ returns c =
           _ refl
           refl refl c.shown.ensures (c.in_ok-has_errors.ensures shown);
       lost = c.refused.ensures ∙ c.requires.at.refused ∙ ap (refused_at sc) c.requires.last;
+      limits = ap (λ (p : Profile). p.limits) (c.profile.ensures ∙ ap profile_of c.image.ensures);
+      limits_told =
+          c.limits_told.ensures
+          ∙ ap (limits_told c.args.plan) (c.needs_limits.ensures ∙ c.requires.at.limits ∙ ap (needs_at sc)
+          c.requires.last);
       heap_fails = c.fails_at.ensures ∙ ap (fails_at c.args.plan) (c.sight_in-sight.ensures sc shown);
+      is_open = refl;
       heap_told = c.told_at.ensures ∙ ap (told_at c.args.plan) (c.sight_in-sight.ensures sc shown);
     }

@@ -1,9 +1,11 @@
-use Rattle.std.proofs.Common.{ℕ, ◌+◌, ◌≤◌, ◌^◌, subst, sym}
+use Rattle.std.proofs.Common.{ℕ, ◌+◌, ◌≤◌, ◌^◌, ◌∙◌, ap, length, min, subst, sym}
 use Rattle.std.proofs.lemmas.Result.{IfOk-weaker}
 use Rattle.instructions.specs.Codes.{len_of}
 use Rattle.checkpoints.specs.Effects.{code_effect}
+use Rattle.checkpoints.specs.Trails.{last_held, machines_of, meter_of}
 use Rattle.checkpoints.specs.Writes.{touch_code}
-use Rattle.checkpoints.proofs.ForkSteps.{code-whole}
+use Rattle.checkpoints.proofs.ForkSteps.{at-ok, code-whole, steps-past}
+use Rattle.checkpoints.proofs.TrailSteps.{some-held}
 use Rattle.checkpoints.proofs.trail.Trail.fork_at_code.Goals as goal
 
 pub returns-clause-fork : goal.returns-clause-fork
@@ -14,3 +16,10 @@ returns-clause-fork c =
     (let P : ℕ → Type 0 = λ n. c.args.addr + n ≤ 2 ^ 32 in subst P (sym size) c.requires.code.whole))
     (c.last_without-step.ensures.step code c.args.setup.now size) start
     (c.in_ok-reach.ensures.right start h)) c.fork_at.ensures.fork
+
+pub returns-clause-meter : goal.returns-clause-meter
+unfolding last_held
+returns-clause-meter c =
+    at-ok c.fork_at.result _
+    (c.in_ok-reach.ensures.meter ∙ ap (λ n. min (meter_of c.args.self.now + n) 18446744073709551615)
+    (steps-past (length (machines_of c.args.self.now)) c.args.last (some-held c.args.self.now)))

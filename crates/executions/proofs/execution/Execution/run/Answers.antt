@@ -1,4 +1,4 @@
-use Rattle.executions.specs.Executions.{step_of}
+use Rattle.executions.specs.Executions.{held, step_of}
 use Rattle.executions.proofs.Steps.{front-then, if-err}
 use Rattle.executions.proofs.execution.Execution.run.Goals as goal
 
@@ -6,5 +6,7 @@ pub returns-in_err-next-clause-err : goal.returns-in_err-next-clause-err
 returns-in_err-next-clause-err g c =
     if-err c.from_residual.result _
     (front-then c.args.scenario.now (step_of c.args.self) (step_of c.loop-execution.execution)
-    (g.W.Write.contents c.args.writer.now) (g.W.Write.contents c.loop-execution.writer)
-    (g.W.Write.contents c.turn.new.writer) c.loop-execution.invariant.wrote c.in_err-next.ensures.err)
+    (held (g.O.Write.contents c.args.streams.now.out) (g.E.Write.contents c.args.streams.now.err))
+    (held (g.O.Write.contents c.loop-execution.streams.out) (g.E.Write.contents c.loop-execution.streams.err))
+    (held (g.O.Write.contents c.turn.new.streams.out) (g.E.Write.contents c.turn.new.streams.err))
+    c.loop-execution.invariant.wrote c.in_err-next.ensures.err)

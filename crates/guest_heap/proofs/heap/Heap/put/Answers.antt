@@ -12,9 +12,9 @@ use Rattle.guest_heap.proofs.PutSteps.{put_sound, put_shown, either_way, written
 use Rattle.guest_heap.proofs.KnownSteps.{known_put}
 use Rattle.guest_heap.proofs.heap.Heap.put.Goals as goal
 
-pub invariant_of-self : goal.invariant_of-self
+pub invariant_of-self-2 : goal.invariant_of-self-2
 unfolding blocks_of
-invariant_of-self c =
+invariant_of-self-2 c =
     let e : Entry = c.args.entry in
     let old = c.args.self.now in
     let P : Entries → Type 0 = λ f. AreSound old.begin f (entries_of old.freed) (queued old.queue) old.first in

@@ -36,6 +36,6 @@ returns-in-Err c =
         subst (ReadsFor (length (scenario_of c.args.self.now.viewer.session).setup.input) (edit_tried line)) c.in-Err.is
             (subst (λ n. ReadsFor n (edit_tried line) c.edit_tried.result) c.input_len-len.ensures
             c.edit_tried.ensures),
-        c.refuse.ensures.refused,
+        c.refuse.ensures.rejected,
       ),
     )

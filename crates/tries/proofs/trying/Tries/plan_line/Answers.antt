@@ -31,5 +31,5 @@ returns-in-Err c =
           (λ (r : Result BytePlan Fault). PlannedAs (stage_of_tries c.args.self.now) r
           (reply_of_tries c.refuse.new.self) (stage_of_tries c.refuse.new.self))
           (sym c.in-Err.is ∙ c.plan_asked.ensures.asked ∙ ap (λ (n : ℕ). plan_asked n line) c.input_len.ensures)
-          c.refuse.ensures.refused,
+          c.refuse.ensures.rejected,
     )

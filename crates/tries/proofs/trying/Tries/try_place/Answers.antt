@@ -3,18 +3,21 @@ use Rattle.replay_session.specs.Session.{scenario_of}
 use Rattle.scenario.specs.Scenario.{Scenario}
 use Rattle.sweep_plans.specs.Numbers.{below}
 use Rattle.sweep_plans.specs.Plans.{byte_values}
+use Rattle.replay_session.specs.Stages.{stage_of}
 use Rattle.tries.specs.Plans.{attempt_at, attempts_at, attempts_below}
 use Rattle.tries.specs.Stages.{stage_of_tries}
-use Rattle.tries.specs.Tries.{TriedUpTo, gathered}
+use Rattle.tries.specs.Tries.{PlanMoves, TriedUpTo, gathered}
 use Rattle.tries.proofs.KeepSteps.{base-on}
 use Rattle.tries.proofs.PlanSteps.{at-failure, ends, goes-on, more-values, of-base, same-scenario, stops, value_at}
+use Rattle.tries.proofs.WorkSteps.{plan-more}
 use Rattle.tries.proofs.trying.Tries.try_place.Goals as goal
 
 pub loop-other-init : goal.loop-other-init
-unfolding attempts_below byte_values below
+unfolding attempts_below byte_values below stage_of_tries
 loop-other-init c = record {
   base = record { session = record { turn = refl; short = refl }; range = refl };
   tried = refl;
+  moved = refl;
 }
 
 pub try_if-requires : goal.try_if-requires
@@ -50,6 +53,11 @@ loop-other-preserved c =
           c.wants_other-is_wanted.ensures
           (of-base true (λ s. if c.wants_other-is_wanted.result then attempt_at offset n ∷ [] else []) start mid before
           after inv.base c.in_ok-try_if.ensures.tried));
+      moved = plan-more (attempts_below values offset own) (value_at values offset own)
+          (more-values values offset own) n
+          start.session mid.session new.session inv.base.session inv.moved
+          (subst (λ (w : Bool). PlanMoves (if w then attempt_at offset n ∷ [] else []) mid.session new.session)
+          c.wants_other-is_wanted.ensures c.in_ok-try_if.ensures.work);
     }
 
 pub returns-in_err-try_if-clause-tried : goal.returns-in_err-try_if-clause-tried
@@ -98,6 +106,17 @@ returns-clause-tried c =
     c.byte_at-own.ensures
     (ends sc range (attempts_below values offset own) (value_at values offset own) (more-values values offset own)
     c.loop-other.other 256 begun before (omega arith) c.loop-other.invariant.tried)
+
+pub returns-clause-work : goal.returns-clause-work
+returns-clause-work c =
+    let values = c.args.values.now in
+    let offset = c.args.offset in
+    let start = stage_of c.args.self.now.viewer.session in
+    let new = stage_of c.loop-other.self.viewer.session in
+    let all : c.loop-other.other ≡ 256 = omega arith in
+    subst (λ (b : ℕ). PlanMoves (attempts_below values offset b 256) start new) c.byte_at-own.ensures
+    (subst (λ (n : ℕ). PlanMoves (attempts_below values offset c.byte_at-own.result n) start new) all
+    c.loop-other.invariant.moved)
 
 pub returns-clause-base : goal.returns-clause-base
 returns-clause-base c = c.loop-other.invariant.base

@@ -1,7 +1,8 @@
 use Rattle.replay_session.specs.Session.{scenario_of}
+use Rattle.replay_session.specs.Stages.{stage_of}
 use Rattle.tries.specs.Plans.{attempts_below}
 use Rattle.tries.specs.Stages.{stage_of_tries}
-use Rattle.tries.specs.Tries.{LeavesBase, TriedAll, gathered}
+use Rattle.tries.specs.Tries.{LeavesBase, PlanMoves, TriedAll, gathered}
 use Rattle.tries.proofs.trying.Tries.try_place.Given as goal
 
 abbrev pub invariant-loop-other : goal.invariant-loop-other
@@ -10,4 +11,6 @@ invariant-loop-other l = record {
   tried : TriedAll (scenario_of l.fn.self.viewer.session) l.fn.self.range
       (attempts_below l.values l.offset l.own l.other) (gathered (stage_of_tries l.fn.self) l.fn.text.bytes.items)
       (gathered (stage_of_tries l.self) l.text.bytes.items);
+  moved : PlanMoves (attempts_below l.values l.offset l.own l.other) (stage_of l.fn.self.viewer.session)
+      (stage_of l.self.viewer.session);
 }

@@ -3,18 +3,21 @@ use Rattle.replay_session.specs.Session.{scenario_of}
 use Rattle.scenario.specs.Scenario.{Scenario}
 use Rattle.sweep_plans.specs.Laws.{numbers_from}
 use Rattle.sweep_plans.specs.Plans.{count}
+use Rattle.replay_session.specs.Stages.{stage_of}
 use Rattle.tries.specs.Plans.{attempts_at, attempts_of}
 use Rattle.tries.specs.Stages.{stage_of_tries}
-use Rattle.tries.specs.Tries.{TriedUpTo, gathered}
+use Rattle.tries.specs.Tries.{PlanMoves, TriedUpTo, gathered}
 use Rattle.tries.proofs.KeepSteps.{base-on}
 use Rattle.tries.proofs.PlanSteps.{at-failure, attempts_to, ends, goes-on, more-places, of-base, same-scenario, stops}
+use Rattle.tries.proofs.WorkSteps.{plan-more}
 use Rattle.tries.proofs.trying.Tries.try_places.Goals as goal
 
 pub loop-i-init : goal.loop-i-init
-unfolding numbers_from
+unfolding numbers_from stage_of_tries
 loop-i-init c = record {
   base = record { session = record { turn = refl; short = refl }; range = refl };
   tried = refl;
+  moved = refl;
 }
 
 pub try_place-requires : goal.try_place-requires
@@ -49,6 +52,10 @@ loop-i-preserved c =
           after inv.tried
           (of-base true (λ (s : Scenario). attempts_at values s.setup.input (first + n)) start mid before after inv.base
           c.in_ok-try_place.ensures.tried);
+      moved = plan-more (attempts_to values sc.setup.input first) (λ k. attempts_at values sc.setup.input (first + k))
+          (more-places values sc.setup.input first) n start.session mid.session new.session inv.base.session inv.moved
+          (subst (λ (s : Scenario). PlanMoves (attempts_at values s.setup.input (first + n)) mid.session new.session)
+          (same-scenario start mid inv.base) c.in_ok-try_place.ensures.work);
     }
 
 pub returns-in_err-try_place-clause-tried : goal.returns-in_err-try_place-clause-tried
@@ -90,6 +97,16 @@ returns-clause-tried c =
     (gathered (stage_of_tries c.args.self.now) c.args.text.now.bytes.items)
     (gathered (stage_of_tries c.loop-i.self) c.loop-i.text.bytes.items) (omega (arith, c.count-i-end.ensures))
     c.loop-i.invariant.tried
+
+pub returns-clause-work : goal.returns-clause-work
+unfolding attempts_of
+returns-clause-work c =
+    let plan = c.args.plan.now in
+    let sc = scenario_of c.args.self.now.viewer.session in
+    let all : c.loop-i.i ≡ count plan.places = omega (arith, c.count-i-end.ensures) in
+    subst
+    (λ (n : ℕ). PlanMoves (attempts_to plan.values sc.setup.input plan.places.first n)
+    (stage_of c.args.self.now.viewer.session) (stage_of c.loop-i.self.viewer.session)) all c.loop-i.invariant.moved
 
 pub returns-clause-base : goal.returns-clause-base
 returns-clause-base c = c.loop-i.invariant.base

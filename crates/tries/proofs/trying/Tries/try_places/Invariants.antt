@@ -1,6 +1,7 @@
 use Rattle.replay_session.specs.Session.{scenario_of}
+use Rattle.replay_session.specs.Stages.{stage_of}
 use Rattle.tries.specs.Stages.{stage_of_tries}
-use Rattle.tries.specs.Tries.{LeavesBase, TriedAll, gathered}
+use Rattle.tries.specs.Tries.{LeavesBase, PlanMoves, TriedAll, gathered}
 use Rattle.tries.proofs.PlanSteps.{attempts_to}
 use Rattle.tries.proofs.trying.Tries.try_places.Given as goal
 
@@ -10,4 +11,6 @@ invariant-loop-i l = record {
   tried : TriedAll (scenario_of l.fn.self.viewer.session) l.fn.self.range
       (attempts_to l.plan.values (scenario_of l.fn.self.viewer.session).setup.input l.places.first l.i)
       (gathered (stage_of_tries l.fn.self) l.fn.text.bytes.items) (gathered (stage_of_tries l.self) l.text.bytes.items);
+  moved : PlanMoves (attempts_to l.plan.values (scenario_of l.fn.self.viewer.session).setup.input l.places.first l.i)
+      (stage_of l.fn.self.viewer.session) (stage_of l.self.viewer.session);
 }

@@ -4,6 +4,7 @@ use Rattle.replay_session.specs.Session.{scenario_of}
 use Rattle.tries.specs.Plans.{attempts_of}
 use Rattle.tries.specs.Stages.{reply_of_tries, stage_of_tries}
 use Rattle.tries.specs.Tries.{TriedUpTo, gathered}
+use Rattle.tries.proofs.PlanSteps.{if-ok}
 use Rattle.tries.proofs.trying.Tries.try_plan.Goals as goal
 
 pub returns-clause-planned : goal.returns-clause-planned
@@ -21,12 +22,13 @@ returns-clause-planned c =
           c.try_places-done.ensures.tried;
       replies = c.end.ensures;
       last = refl;
+      work = if-ok c.try_places-done.result _ c.try_places-done.ensures.work;
     }
 
 pub returns-in_default-clause-planned : goal.returns-in_default-clause-planned
 unfolding stage_of_tries reply_of_tries
 returns-in_default-clause-planned c =
-    let keeps = c.refuse.ensures.refused.keeps in
+    let keeps = c.refuse.ensures.rejected.0.keeps in
     record {
       all = false;
       told = [];
@@ -35,6 +37,7 @@ returns-in_default-clause-planned c =
         covers = (attempts_of c.args.plan.now (scenario_of c.args.self.now.viewer.session).setup.input, refl);
         tried = λ i. record { seen = keeps.seen i; told = keeps.told i; text = [] };
       };
-      replies = c.refuse.ensures.refused.replies;
+      replies = c.refuse.ensures.rejected.0.replies;
       last = keeps.last;
+      work = λ all. cc;
     }
