@@ -1,6 +1,6 @@
 /* What else a C library may ask of the system, mostly with answers that say no: there are no files and no more memory. Time goes by in
-   steps, so that it is the same in each run. Link it where the linker says `undefined reference`, beside system.c. newlib asks by names with an underscore.
-
+   steps, so that it is the same in each run. Link it where the linker says `undefined reference`, beside system.c. newlib asks by names
+   with an underscore.
    And calls of atomic operations on words of 4 bytes, which gcc makes where there are no instructions for them. A single processor
    without interrupts needs no more than the plain operation; with interrupts, turn these off around it. */
 #include <errno.h>

@@ -29,7 +29,8 @@ use Rattle.clean_reports.specs.Marks.{HideNothing, HidesNothing, MissTheHeap, Mi
 use Rattle.clean_reports.specs.Laws.{HeapStaysOpen, HeapStaysClosed, AccessesAreLive}
 use Rattle.clean_reports.proofs.Memory.{accessible-from}
 use Rattle.clean_reports.proofs.Blocks.{made-outside}
-use Rattle.clean_reports.proofs.HeapSteps.{Stands, LeavesHeap, as-is, goes, on, sets, steps, stores}
+use Rattle.clean_reports.proofs.HeapKept.{Stands, LeavesHeap, as-is, goes, on, sets, stores}
+use Rattle.clean_reports.proofs.HeapSteps.{steps}
 use Rattle.clean_reports.proofs.Programs.{LoadsNoneInHeap, none-in-heap}
 use Rattle.clean_reports.proofs.StartRegions.{lie, start-clear}
 

@@ -1,28 +1,21 @@
 -- Each step keeps the heap open and closed.
-use Rattle.std.proofs.Common.{◌≡◌, ℕ, ◌+◌, ◌-◌, ◌*◌, ◌/◌, ◌%◌, ◌^◌, ◌<◌, ◌≤◌, ◌&&◌, min, Bool, true, false}
-use Rattle.std.proofs.Common.{cond, length, refl, sym, ap, ap₂, ◌∙◌, subst, max, ◌⊎◌, inl, inr}
-use Rattle.std.proofs.Common.{arith, List, [], ◌∷◌, ◌++◌, Option}
+use Rattle.std.proofs.Common.{◌≡◌, ℕ, ◌+◌, ◌-◌, ◌*◌, ◌/◌, ◌%◌, ◌^◌, min, Bool, true, false}
+use Rattle.std.proofs.Common.{cond, length, refl, sym, subst, inl, inr}
+use Rattle.std.proofs.Common.{List, [], ◌∷◌, ◌++◌, Option}
 use Rattle.std.proofs.Common.{Some, None}
-use Rattle.std.proofs.Common.{◌==◌, nat_lt, nat_le, leb-true, slice_index}
-use Rattle.std.proofs.lemmas.Bool.{false≢true, cases_eq, cases_lt, and_parts, ltb-true, ltb-false}
-use Rattle.definedness.specs.declared.Bits.{Bits}
-use Rattle.shadow_memory.specs.Ranges.{is_in, offset, changed_in, above, byte_of}
-use Rattle.shadow_memory.specs.Shadows.{Shadow, shadow_of, made_so, stored_undef, stored_shadow, copied_undef}
-use Rattle.shadow_memory.specs.Shadows.{loaded_undef}
+use Rattle.std.proofs.Common.{◌==◌, slice_index}
+use Rattle.std.proofs.lemmas.Bool.{cases_eq}
+use Rattle.shadow_memory.specs.Shadows.{shadow_of}
 use Rattle.shadow_memory.specs.declared.cells.RangeKind.{RangeKind}
-use Rattle.shadow_memory.specs.declared.cells.RangeKind.TheVariants.{NoAccess, Undefined, Defined}
-use Rattle.memory_map.specs.Regions.{greatest_stack_end, heap_size, meet}
-use Rattle.memory_map.specs.declared.regions.StackRegion.{StackRegion}
-use Rattle.guest_heap.specs.Blocks.{end_of}
+use Rattle.shadow_memory.specs.declared.cells.RangeKind.TheVariants.{Undefined, Defined}
 use Rattle.heap_blocks.specs.declared.block.Block.{Block}
-use Rattle.guest_heap.specs.Blocks.{Blocks, freed_by, done_or}
+use Rattle.guest_heap.specs.Blocks.{freed_by, done_or}
 use Rattle.guest_heap.specs.Steps.{place}
 use Rattle.guest_heap.specs.declared.released.Released.TheVariants.{Done, Nothing}
 use Rattle.guest_elf.specs.declared.hook.Hook.{Hook}
 use Rattle.guest_elf.specs.declared.hook.Hook.TheVariants.{Malloc, Free, Calloc, Realloc}
 use Rattle.error_events.specs.declared.parameter.Parameter.{Parameter}
 use Rattle.instructions.specs.Codes.{len_of, row_of_code}
-use Rattle.instructions.specs.declared.hint.StackHint.{StackHint}
 use Rattle.instructions.specs.declared.instruction.Instruction.{Instruction}
 use Rattle.instructions.specs.declared.instruction.Instruction.TheVariants.{LoadUpper, AddUpper, Jump, JumpRegister}
 use Rattle.instructions.specs.declared.instruction.Instruction.TheVariants.{Branch, Load, Store, Immediate, Registers}
@@ -38,15 +31,13 @@ use Rattle.guest_machine.specs.State.{Core, State}
 use Rattle.guest_machine.specs.Registers.{known, register, set_register, tested, defined}
 use Rattle.guest_machine.specs.Errors.{here, value_errors}
 use Rattle.guest_machine.specs.Effects.{next_of, moved_to, stopped, exited, stored_core, target}
-use Rattle.guest_machine.specs.Effects.{jumped, branch_tested, raising, results_in, store}
+use Rattle.guest_machine.specs.Effects.{branch_tested, raising, results_in, store}
 use Rattle.guest_machine.specs.Atomics.{admits, admitted, atomic_effect, atomic_start, is_reserved, not_stored}
 use Rattle.guest_machine.specs.Atomics.{resulting}
 use Rattle.guest_machine.specs.Controls.{barrier, control, control_effect, controls_after, has_control}
 use Rattle.instructions.specs.declared.control.ControlAccess.{ControlAccess}
 use Rattle.instructions.specs.declared.control.ControlOperand.{ControlOperand}
-use Rattle.guest_machine.specs.Effects.{is_undefined, branched, followed, linked_jump, quiet, stops}
-use Rattle.guest_machine.specs.StackPointer.{stack_ruled, stack_moved, framed, ranged, is_stack_pointer, is_in_stack}
-use Rattle.guest_machine.specs.StackPointer.{largest_frame}
+use Rattle.guest_machine.specs.Effects.{is_undefined, quiet, stops}
 use Rattle.guest_machine.specs.Calls.{argument, answered, tested_from, call_of, call_at, read_call, write_call}
 use Rattle.guest_machine.specs.Calls.{parameters_of}
 use Rattle.guest_machine.specs.Calls.{is_output, has_room, moved_len, heap_parameters, failure, ebadf, enospc}
@@ -66,227 +57,13 @@ use Rattle.guest_machine.specs.Exec.{Deed, Takes, Cut, CallsByName, Halts, Terms
 use Rattle.guest_machine.specs.Exec.{call_effect, unfetched, jump_fault, is_running}
 use Rattle.guest_machine.specs.Exec.{fetch_fault, deed_at, exec, effect_at, outcome_at}
 use Rattle.guest_machine.specs.declared.setup.Setup.{Setup}
-use Rattle.clean_reports.specs.Heap.{HeapIsOpen, HeapIsClosed}
-use Rattle.clean_reports.proofs.Blocks.{is-outside, allocated-open, allocated-closed, released-open}
+use Rattle.clean_reports.proofs.Blocks.{allocated-open, allocated-closed, released-open}
 use Rattle.clean_reports.proofs.Blocks.{released-closed}
 use Rattle.clean_reports.proofs.HeapCalls.{is-move}
 use Rattle.clean_reports.proofs.Calls.{test-errors, answer-by, read-parameters, write-parameters}
 use Rattle.clean_reports.proofs.Rows.{other}
-
--- the heap is open, and closed where b asks for it
-abbrev pub IfClosed : Bool → Core → Type 0
-IfClosed true c = HeapIsClosed c
-IfClosed false c = Unit {0}
-
-abbrev pub Stands : Bool → Core → Type 0
-Stands b c = HeapIsOpen c × IfClosed b c
-
--- changes that leave the heap as it is --
-
-pub record LeavesHeap (c e : Core) : Type 0 where
-  pub blocks : e.blocks ≡ c.blocks
-  pub stack : e.stack ≡ c.stack
-  pub same : (a : ℕ) → c.blocks.begin ≤ a → a < end_of c.blocks → (e.shadow a).accessible ≡ (c.shadow a).accessible
-
-pub then : (c d e : Core) → LeavesHeap c d → LeavesHeap d e → LeavesHeap c e
-then c d e p q = record {
-  blocks = q.blocks ∙ p.blocks;
-  stack = q.stack ∙ p.stack;
-  same = λ a low high.
-      (let P : Blocks → Type 0 = λ x. x.begin ≤ a in
-      let Q : Blocks → Type 0 = λ x. a < end_of x in
-      q.same a (subst P (sym p.blocks) low) (subst Q (sym p.blocks) high) ∙ p.same a low high);
-}
-
-pub as-is : (c : Core) → LeavesHeap c c
-as-is c = record { blocks = refl; stack = refl; same = λ a low high. refl }
-
-open-on : (c e : Core) → LeavesHeap c e → HeapIsOpen c → HeapIsOpen e
-open-on c e l h = record {
-  region = subst (λ (x : Blocks). Rattle.guest_heap.specs.Steps.AreInRegion x) (sym l.blocks) h.region;
-  apart = subst (λ (x : Blocks). Rattle.guest_heap.specs.Steps.AreApart x) (sym l.blocks) h.apart;
-  beside = ap₂ (λ (x : Blocks) (y : StackRegion). meet x.begin y.begin y.end) l.blocks l.stack ∙ h.beside;
-  stack = subst (λ (y : StackRegion). y.end ≤ greatest_stack_end) (sym l.stack) h.stack;
-  fits = λ p b there.
-      (let P : Blocks → Type 0 = λ x. p + b.size ≤ end_of x in
-      subst P (sym l.blocks) (h.fits p b (ap (λ (x : Blocks). x.live p) (sym l.blocks) ∙ there)));
-  opened = λ p b there i k.
-      (let was = ap (λ (x : Blocks). x.live p) (sym l.blocks) ∙ there in
-      let fits = h.fits p b was in
-      let low = (h.region.live p b was).above in
-      l.same (p + i) (omega arith) (omega arith) ∙ h.opened p b was i k);
-}
-
-closed-on : (c e : Core) → LeavesHeap c e → HeapIsClosed c → HeapIsClosed e
-closed-on c e l h a low high can =
-    let P : Blocks → Type 0 = λ x. x.begin ≤ a in
-    let Q : Blocks → Type 0 = λ x. a < end_of x in
-    let over = subst P l.blocks low in
-    let under = subst Q l.blocks high in
-    let was = h a over under (sym (l.same a over under) ∙ can) in
-    record {
-      start = was.start;
-      block = was.block;
-      live = ap (λ (x : Blocks). x.live was.start) l.blocks ∙ was.live;
-      low = was.low;
-      high = was.high;
-    }
-
-pub on : (b : Bool) (c e : Core) → LeavesHeap c e → Stands b c → Stands b e
-on true c e l h = (open-on c e l h.0, closed-on c e l h.1)
-on false c e l h = (open-on c e l h.0, tt)
-
--- the parts of a step that do --
-
-pub sets : (c : Core) (r : ℕ) (x : Bits) → LeavesHeap c (set_register c r x)
-unfolding set_register
-sets c r x = record { blocks = refl; stack = refl; same = λ a low high. refl }
-
-tests : (c : Core) (r : ℕ) → LeavesHeap c (tested c r)
-unfolding tested
-tests c r = go ((register c r).undef == 0)
-  where
-    go : (b : Bool) → LeavesHeap c (cond b c (defined c r))
-    go true = as-is c
-    go false = sets c r (known (register c r).value)
-
-all-tests : (c : Core) (r : ℕ) (ps : List Parameter) → LeavesHeap c (tested_from c r ps)
-unfolding tested_from
-all-tests c r [] = as-is c
-all-tests c r (p ∷ ps) = then c (tested c r) (tested_from (tested c r) (r + 1) ps) (tests c r)
-    (all-tests (tested c r) (r + 1) ps)
-
-call-tests : (c : Core) (first : ℕ) (ps : List Parameter) → LeavesHeap c (tested_from (tested c first) 10 ps)
-call-tests c first ps = then c (tested c first) _ (tests c first) (all-tests (tested c first) 10 ps)
-
-changes : (c e : Core) (start n : ℕ) (change : ℕ → Shadow → Shadow) → e.blocks ≡ c.blocks → e.stack ≡ c.stack
-    → ((i a : ℕ) → c.blocks.begin ≤ a → a < end_of c.blocks → is_in start n a ≡ true
-    → (change i (c.shadow a)).accessible ≡ (c.shadow a).accessible)
-    → e.shadow ≡ changed_in c.shadow start n change → LeavesHeap c e
-unfolding changed_in
-changes c e start n change blocks stack each is = record {
-  blocks = blocks;
-  stack = stack;
-  same = λ a low high. ap (λ (s : ℕ → Shadow). (s a).accessible) is ∙ go a low high (is_in start n a) refl;
-}
-  where
-    go : (a : ℕ) → c.blocks.begin ≤ a → a < end_of c.blocks → (b : Bool) → is_in start n a ≡ b
-        → (cond b (change (offset start a) (c.shadow a)) (c.shadow a)).accessible ≡ (c.shadow a).accessible
-    go a low high true e = each (offset start a) a low high e
-    go a low high false e = refl
-
-stored-same : (undef : ℕ) (s : Shadow) → (stored_shadow undef s).accessible ≡ s.accessible
-stored-same undef s = go s.accessible refl
-  where
-    go : (b : Bool) → s.accessible ≡ b
-        → (cond b (record { accessible = true; undef = undef }) s).accessible ≡ s.accessible
-    go true e = sym e
-    go false e = refl
-
-pub stores : (c : Core) (start n undef : ℕ) → LeavesHeap c (stored_core c start n undef)
-unfolding stored_undef
-stores c start n undef =
-    changes c (stored_core c start n undef) start n (λ i s. stored_shadow (byte_of undef i) s) refl refl
-    (λ i a low high e. stored-same (byte_of undef i) (c.shadow a)) refl
-
-copies : (c : Core) (from to n : ℕ) → LeavesHeap c (copied c from to n)
-unfolding copied_undef
-copies c from to n =
-    changes c (copied c from to n) to n (λ i s. stored_shadow (loaded_undef (c.shadow (above from i))) s) refl refl
-    (λ i a low high e. stored-same (loaded_undef (c.shadow (above from i))) (c.shadow a)) refl
-
--- a range outside of the heap region
-misses : (c : Core) (start n : ℕ) (kind : RangeKind)
-    → ((a : ℕ) → c.blocks.begin ≤ a → a < end_of c.blocks → is_in start n a ≡ false)
-    → LeavesHeap c (ranged c start n kind)
-unfolding made_so
-misses c start n kind miss =
-    changes c (ranged c start n kind) start n (λ i s. shadow_of kind) refl refl
-    (λ i a low high e. absurd (false≢true (sym (miss a low high) ∙ e))) refl
-
--- the stack pointer rule --
-
-in-stack : (stack : StackRegion) (x : Bits) → is_stack_pointer stack x ≡ true
-    → (stack.begin ≤ x.value) × (x.value ≤ stack.end)
-in-stack stack x e =
-    let region = (and_parts (x.undef == 0) (is_in_stack stack x.value) e).1 in
-    let parts = and_parts (nat_le stack.begin x.value) (nat_le x.value stack.end) region in
-    (leb-true stack.begin x.value parts.0, leb-true x.value stack.end parts.1)
-
--- a range of the stack's region has no address of the heap's
-clear-of : (heap begin end low high a : ℕ) → meet heap begin end ≡ false → end ≤ greatest_stack_end → begin ≤ low
-    → low ≤ high → high ≤ end → heap ≤ a → a < heap + heap_size → is_in low (high - low) a ≡ false
-unfolding meet
-clear-of heap begin end low high a apart small over order under l h =
-    let none = ltb-false (max heap begin) (min (heap + heap_size) end) apart in
-    go none (cases_lt a low)
-  where
-    go : min (heap + heap_size) end ≤ max heap begin → (a < low) ⊎ (low ≤ a) → is_in low (high - low) a ≡ false
-    go none (inl less) = is-outside low (high - low) a (inl less) (omega arith)
-    go none (inr more) = is-outside low (high - low) a (inr (omega arith)) (omega arith)
-
-frames : (c : Core) (low high : ℕ) (kind : RangeKind) → HeapIsOpen c → c.stack.begin ≤ low → low ≤ high
-    → high ≤ c.stack.end → LeavesHeap c (framed c low high kind)
-unfolding framed
-frames c low high kind stands over order under = go (nat_le (high - low) largest_frame)
-  where
-    go : (b : Bool) → LeavesHeap c (cond b (ranged c low (high - low) kind) c)
-    go true =
-        misses c low (high - low) kind
-        (λ a l h. clear-of c.blocks.begin c.stack.begin c.stack.end low high a stands.beside stands.stack over order
-        under l h)
-    go false = as-is c
-
-moves : (c : Core) (old new : ℕ) → HeapIsOpen c → c.stack.begin ≤ old → old ≤ c.stack.end → c.stack.begin ≤ new
-    → new ≤ c.stack.end → LeavesHeap c (stack_moved c old new)
-unfolding stack_moved
-moves c old new stands p q r s = go (nat_lt new old) (nat_lt old new) refl refl
-  where
-    go : (b d : Bool) → nat_lt new old ≡ b → nat_lt old new ≡ d
-        → LeavesHeap c (cond b (framed c new old Undefined) (cond d (framed c old new NoAccess) c))
-    go true d e f = let less = ltb-true new old e in frames c new old Undefined stands r (omega arith) q
-    go false true e f = let less = ltb-true old new f in frames c old new NoAccess stands p (omega arith) s
-    go false false e f = as-is c
-
-rules : (c : Core) (x : Bits) → HeapIsOpen c → LeavesHeap c (stack_ruled x c)
-unfolding stack_ruled
-rules c x stands = go (is_stack_pointer c.stack x && is_stack_pointer c.stack (register c 2)) refl
-  where
-    go : (b : Bool) → (is_stack_pointer c.stack x && is_stack_pointer c.stack (register c 2)) ≡ b
-        → LeavesHeap c (cond b (stack_moved c x.value (register c 2).value) c)
-    go true e =
-        let parts = and_parts (is_stack_pointer c.stack x) (is_stack_pointer c.stack (register c 2)) e in
-        let old = in-stack c.stack x parts.0 in
-        let new = in-stack c.stack (register c 2) parts.1 in
-        moves c x.value (register c 2).value stands old.0 old.1 new.0 new.1
-    go false e = as-is c
-
--- jumps --
-
-links : (c : Core) (next : ℕ) (hint : StackHint) (rd to : ℕ) → LeavesHeap c (linked_jump c next hint rd to)
-unfolding linked_jump set_register
-links c next hint rd to = go (is_aligned c.isa to)
-  where
-    go : (b : Bool) → LeavesHeap c
-        (cond b (moved_to (set_register (followed c next hint to) rd (known next)) to)
-        (stopped c Misaligned))
-    go true = record { blocks = refl; stack = refl; same = λ a low high. refl }
-    go false = record { blocks = refl; stack = refl; same = λ a low high. refl }
-
-branches : (b : Bool) (c : Core) (next to : ℕ) → LeavesHeap c (branched b c next to)
-unfolding branched jumped
-branches true c next to = go (is_aligned c.isa to)
-  where
-    go : (b : Bool) → LeavesHeap c (cond b (moved_to c to) (stopped c Misaligned))
-    go true = record { blocks = refl; stack = refl; same = λ a low high. refl }
-    go false = record { blocks = refl; stack = refl; same = λ a low high. refl }
-branches false c next to = record { blocks = refl; stack = refl; same = λ a low high. refl }
-
-branch-tests : (c : Core) (u : Bool) (rs1 rs2 : ℕ) → LeavesHeap c (cond u (defined (defined c rs1) rs2) c)
-branch-tests c true rs1 rs2 =
-    then c (defined c rs1) (defined (defined c rs1) rs2) (sets c rs1 (known (register c rs1).value))
-    (sets (defined c rs1) rs2 (known (register (defined c rs1) rs2).value))
-branch-tests c false rs1 rs2 = as-is c
+use Rattle.clean_reports.proofs.HeapKept.{Stands, LeavesHeap, then, as-is, on, sets, tests, call-tests, stores, copies}
+use Rattle.clean_reports.proofs.HeapKept.{rules, links, branches, branch-tests, goes}
 
 -- heap calls --
 
@@ -358,9 +135,6 @@ works b Calloc c h x y redzone volume taken =
     allocates b c h (x * y) redzone Defined refl (place c.blocks (x * y) redzone) refl
 works b Realloc c h x y redzone volume taken =
     resizes b c h x y redzone volume (resizing c.blocks x y redzone) refl
-
-pub goes : (c : Core) (to : ℕ) → LeavesHeap c (moved_to c to)
-goes c to = record { blocks = refl; stack = refl; same = λ a low high. refl }
 
 heap-calls : (b : Bool) (function : Hook) (c : Core) → Stands b c → (next redzone volume : ℕ) (taken : ℕ → ℕ)
     → Stands b (heap_call function c next redzone volume taken).core

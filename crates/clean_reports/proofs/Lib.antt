@@ -17,6 +17,7 @@ pub mod Runs
 pub mod Reports
 pub mod Blocks
 pub mod StartRegions
+pub mod HeapKept
 pub mod HeapSteps
 pub mod Programs
 pub mod HeapRuns

@@ -2,14 +2,12 @@
 use crate::shelf::Shelf;
 use crate::words::USUAL_PROFILE;
 use command_line::{Order, ProfileWords, SweepWords, Task};
-use driver::{ReadFault, RunFault, read_opened, run_once, run_order, tell};
+use driver::{RunFault, run_once, run_order, tell};
 use fake_streams::{Room, Script};
 use guest_elf::{Image, read};
 use guest_programs::program;
 use replay_session::LONGEST_INPUT;
 use std::alloc::{AllocError, Global};
-use std::io;
-use std::io::ErrorKind;
 use std::process::Abort;
 
 /// Three words: exit with status 0.
@@ -557,51 +555,4 @@ const NO_SWEEPS: [Case; 4] = [
 #[test]
 fn sweeps_are_refused(rt: HostRuntime) {
     assert_carried(&rt, rt.alloc(), &NO_SWEEPS);
-}
-
-/// A file: one from which a number of bytes are read before a read fails, one that isn't there, and one for which memory runs out.
-enum Opened {
-    Script(usize),
-    Missing,
-    NoMemory,
-}
-
-/// A file of three bytes, how many are asked for, and the result: `!` for a file that can't be read, `?` if memory ran out.
-const FILES: [(Opened, usize, &[u8]); 6] = [
-    (Opened::Script(usize::MAX), 4, b"abc"),
-    (Opened::Script(usize::MAX), 3, b"abc"),
-    (Opened::Script(usize::MAX), 2, b"ab"),
-    (Opened::Script(2), 4, b"!"),
-    (Opened::Missing, 4, b"!"),
-    (Opened::NoMemory, 4, b"?"),
-];
-
-/// A file that is opened, or why it isn't.
-fn opened_of(opened: &Opened) -> io::Result<Script<'static>> {
-    match opened {
-        Opened::Script(bytes) => {
-            let mut script = Script::new(b"abc");
-            script.bytes = *bytes;
-            Ok(script)
-        }
-        Opened::Missing => Err(io::Error::from(ErrorKind::NotFound)),
-        Opened::NoMemory => Err(io::Error::from(ErrorKind::OutOfMemory)),
-    }
-}
-
-/// Whether a file gives that.
-fn gives(alloc: Global, opened: &Opened, most: usize, want: &[u8]) -> bool {
-    match read_opened(alloc, opened_of(opened), most) {
-        Ok(bytes) => bytes.as_slice() == want,
-        Err(ReadFault::Unreadable) => want == b"!".as_slice(),
-        Err(ReadFault::NoMemory) => want == b"?".as_slice(),
-    }
-}
-
-/// The first bytes of a file, or why there are none.
-#[test]
-fn files_are_read(rt: HostRuntime) {
-    for (i, (opened, most, want)) in FILES.iter().enumerate() {
-        assert!(rt; gives(rt.alloc(), opened, *most, want), "file {i}");
-    }
 }

@@ -12,6 +12,7 @@ use guest_programs::program;
 use std::alloc::{AllocError, Global};
 use std::io;
 use std::io::Write;
+use std::process::Abort;
 
 /// A place for a report, which can be opened or not, and which one is open.
 #[derive(Drop)]
@@ -70,42 +71,8 @@ const FREES: [u32; 7] = [
     0x0000_0013,
 ];
 
-/// Writes `a` to descriptor 1, `b` to 2, `c` to 1 and `c` to 2, and exits with status 0. The first write to 2 is in step 9.
-const BOTH: [u32; 18] = [
-    0x0000_0597,
-    0x0445_8593,
-    0x0010_0613,
-    0x0400_0893,
-    0x0010_0513,
-    0x0000_0073,
-    0x0015_8593,
-    0x0020_0513,
-    0x0000_0073,
-    0x0015_8593,
-    0x0010_0513,
-    0x0000_0073,
-    0x0020_0513,
-    0x0000_0073,
-    0x05D0_0893,
-    0x0000_0513,
-    0x0000_0073,
-    0x2163_6261,
-];
-
-/// Makes call 500 twice and call 501 once, and exits with status 0.
-const UNKNOWN: [u32; 8] = [
-    0x1F40_0893,
-    0x0000_0073,
-    0x0000_0073,
-    0x1F50_0893,
-    0x0000_0073,
-    0x05D0_0893,
-    0x0000_0513,
-    0x0000_0073,
-];
-
 /// The arguments of `exec` that ask for nothing but a quiet report at step 1000.
-pub(crate) const PLAIN: ExecWords<'static> = ExecWords {
+const PLAIN: ExecWords<'static> = ExecWords {
     step: 1000,
     patches: None,
     report: None,
@@ -127,100 +94,171 @@ pub(crate) const PLAIN: ExecWords<'static> = ExecWords {
 /// What there is room for: the bytes of output, of standard error and of a report that are taken, and whether the report's file can be
 /// opened.
 #[derive(Clone, Copy)]
-pub(crate) struct Rooms {
+struct Rooms {
     output: usize,
     error: usize,
     report: usize,
     opens: bool,
 }
 
-const ENOUGH: Rooms = Rooms {
-    output: 1 << 20,
-    error: 1 << 20,
-    report: 1 << 20,
-    opens: true,
-};
+/// What a case asks for that isn't usual.
+#[derive(Clone, Copy)]
+pub(crate) enum Ask {
+    /// An instruction set.
+    Isa(&'static str),
+    /// Where the heap's region begins.
+    Heap(&'static str),
+    /// The stack's region.
+    Stack(&'static str),
+    /// The last step.
+    Step(u32),
+    /// Patches.
+    Patches(&'static str),
+    /// The status of errors.
+    ErrorStatus(u32),
+    /// The status of a jump to itself.
+    IdleStatus(u32),
+    /// A report that isn't quiet.
+    Report,
+    /// The same, to the file `log`.
+    Log,
+    /// A file `log` that can't be opened.
+    NoLog,
+    /// The end of an open line before a report in a file.
+    EndLine,
+    /// A heap of which errors can be found.
+    SeenHeap,
+    /// The most memory, in MiB.
+    Memory(u32),
+    /// Standard input.
+    Input(&'static [u8]),
+    /// How many bytes of output are taken.
+    OutputRoom(usize),
+    /// How many bytes of standard error are taken.
+    ErrorRoom(usize),
+}
 
-/// A label; a program's words, what its file is read for, its arguments, standard input and the rooms; the exit status, the output,
-/// what standard error is given by the run, what is said after it, if that is compared, and the fronts of the report and of what is said.
+/// What is said after a run: all of it, or a front.
+#[derive(Clone, Copy)]
+pub(crate) enum Said {
+    All(&'static [u8]),
+    Front(&'static [u8]),
+}
+
+/// A label; a program's words and what is asked for; the exit status; what the run writes to standard output and to standard error; the
+/// front of the report, which is empty where there is none; and what is said.
 #[derive(Clone, Copy)]
 pub(crate) struct Case {
     pub(crate) label: &'static str,
     pub(crate) words: &'static [u32],
-    pub(crate) profile: ProfileWords<'static>,
-    pub(crate) asked: ExecWords<'static>,
-    pub(crate) input: &'static [u8],
-    pub(crate) rooms: Rooms,
+    pub(crate) asks: &'static [Ask],
     pub(crate) status: u8,
     pub(crate) output: &'static [u8],
     pub(crate) error: &'static [u8],
-    pub(crate) told: Option<&'static [u8]>,
     pub(crate) report: &'static [u8],
-    pub(crate) said: &'static [u8],
+    pub(crate) said: Said,
 }
 
-/// A case of a program that is run with no input, with the usual arguments and enough room, and ends with 0 and nothing written.
-pub(crate) const QUIET: Case = Case {
-    label: "",
-    words: &WRITES,
-    profile: USUAL_PROFILE,
-    asked: PLAIN,
-    input: b"",
-    rooms: ENOUGH,
-    status: 0,
-    output: b"",
-    error: b"",
-    told: None,
-    report: b"",
-    said: b"",
-};
+/// What a file is read for, the arguments, standard input and the rooms.
+#[derive(Clone, Copy)]
+struct Setting {
+    profile: ProfileWords<'static>,
+    asked: ExecWords<'static>,
+    input: &'static [u8],
+    rooms: Rooms,
+}
 
-/// Whether the place that is open is the one that a case asks for. None is where `exec` fails before the run.
-fn is_place(opened: &Option<Option<String>>, case: &Case) -> bool {
-    match (opened, case.asked.report) {
+/// Puts into a setting what is asked for.
+fn put(setting: &mut Setting, ask: Ask) {
+    match ask {
+        Ask::Isa(isa) => setting.profile.isa = isa,
+        Ask::Heap(heap) => setting.profile.heap = heap,
+        Ask::Stack(stack) => setting.profile.stack = stack,
+        Ask::Step(step) => setting.asked.step = step,
+        Ask::Patches(patches) => setting.asked.patches = Some(patches),
+        Ask::ErrorStatus(status) => setting.asked.error_exitcode = Some(status),
+        Ask::IdleStatus(status) => setting.asked.idle_exitcode = Some(status),
+        Ask::Report => setting.asked.quiet = false,
+        Ask::Log => {
+            setting.asked.quiet = false;
+            setting.asked.report = Some("log");
+        }
+        Ask::NoLog => setting.rooms.opens = false,
+        Ask::EndLine => setting.asked.end_line = true,
+        Ask::SeenHeap => setting.asked.no_require_heap = false,
+        Ask::Memory(limit) => setting.asked.memory_limit = limit,
+        Ask::Input(input) => setting.input = input,
+        Ask::OutputRoom(room) => setting.rooms.output = room,
+        Ask::ErrorRoom(room) => setting.rooms.error = room,
+    }
+}
+
+/// What is usual, but for what is asked for.
+fn setting_of(asks: &[Ask]) -> Setting {
+    let mut setting = Setting {
+        profile: USUAL_PROFILE,
+        asked: PLAIN,
+        input: b"",
+        rooms: Rooms {
+            output: 1 << 20,
+            error: 1 << 20,
+            report: 1 << 20,
+            opens: true,
+        },
+    };
+    for ask in asks {
+        put(&mut setting, *ask);
+    }
+    setting
+}
+
+/// Whether the place that is open is the one that is asked for. None is where `exec` fails before the run.
+fn is_place(opened: &Option<Option<String>>, asked: Option<&str>, status: u8) -> bool {
+    match (opened, asked) {
         (Some(Some(path)), Some(asked)) => path.as_str() == asked,
         (Some(None), None) => true,
-        (None, _) => case.status == 125,
+        (None, _) => status == 125,
         _ => false,
     }
 }
 
-/// Whether a text is the one that is asked for, if one is.
-fn is_told(said: &[u8], told: Option<&[u8]>) -> bool {
-    match told {
-        Some(told) => said == told,
-        None => true,
+/// Whether a text is what is said.
+fn is_said(text: &[u8], said: Said) -> bool {
+    match said {
+        Said::All(all) => text == all,
+        Said::Front(front) => text.starts_with(front),
     }
 }
 
 /// Whether a case of a file comes out so.
 fn comes_out(alloc: Global, file: &[u8], case: &Case) -> bool {
+    let setting = setting_of(case.asks);
     let order = Order {
         file: "program",
         input: None,
         suppressions: None,
-        profile: case.profile,
-        task: Task::Exec(case.asked),
+        profile: setting.profile,
+        task: Task::Exec(setting.asked),
     };
     let shelf = Shelf {
         program: file,
         rules: b"",
     };
-    let mut reader = Script::new(case.input);
+    let mut reader = Script::new(setting.input);
     let mut streams = Streams {
-        out: Room::new(alloc, case.rooms.output),
-        err: Room::new(alloc, case.rooms.error),
+        out: Room::new(alloc, setting.rooms.output),
+        err: Room::new(alloc, setting.rooms.error),
     };
     let mut log = Paper {
-        room: Room::new(alloc, case.rooms.report),
-        opens: case.rooms.opens,
+        room: Room::new(alloc, setting.rooms.report),
+        opens: setting.rooms.opens,
         opened: None,
         alloc,
     };
     let done = exec_order(
         alloc,
         &order,
-        &case.asked,
+        &setting.asked,
         &shelf,
         &mut reader,
         &mut streams,
@@ -228,261 +266,156 @@ fn comes_out(alloc: Global, file: &[u8], case: &Case) -> bool {
     );
     let mut said = Room::new(alloc, 1 << 20);
     let status = tell_exec(&done, &mut said);
-    is_place(&log.opened, case)
+    is_place(&log.opened, setting.asked.report, case.status)
         && status == case.status
         && streams.out.taken.as_slice() == case.output
         && streams.err.taken.as_slice() == case.error
-        && is_told(said.taken.as_slice(), case.told)
-        && said.taken.starts_with(case.said)
+        && is_said(said.taken.as_slice(), case.said)
         && log.room.taken.starts_with(case.report)
         && log.room.taken.is_empty() == case.report.is_empty()
 }
 
 /// Whether a case comes out so.
-pub(crate) fn is_executed(alloc: Global, case: &Case) -> Result<bool, AllocError> {
+fn is_executed(alloc: Global, case: &Case) -> Result<bool, AllocError> {
     let file = program(alloc, case.words)?;
     Ok(comes_out(alloc, &file, case))
 }
 
-/// Cases of both descriptors and of calls that aren't known.
-const STREAMS: [Case; 9] = [
-    Case {
-        label: "each descriptor has its stream",
-        words: &BOTH,
-        output: b"ac",
-        error: b"bc",
-        told: Some(b""),
-        ..QUIET
-    },
-    Case {
-        label: "standard output that can't be written in the middle",
-        words: &BOTH,
-        rooms: Rooms {
-            output: 1,
-            ..ENOUGH
-        },
-        status: 125,
-        output: b"a",
-        error: b"b",
-        told: Some(b"replaycheck: cannot write\n"),
-        ..QUIET
-    },
-    Case {
-        label: "standard error that can't be written in the middle",
-        words: &BOTH,
-        rooms: Rooms { error: 1, ..ENOUGH },
-        status: 125,
-        output: b"ac",
-        error: b"b",
-        told: Some(b"replaycheck: cannot write\n"),
-        ..QUIET
-    },
-    Case {
-        label: "a report after an open line",
-        words: &BOTH,
-        asked: ExecWords {
-            quiet: false,
-            ..PLAIN
-        },
-        output: b"ac",
-        error: b"bc\n",
-        report: b"step 1000\nstate exited 0\n",
-        ..QUIET
-    },
-    Case {
-        label: "a report in a file after an open line",
-        words: &BOTH,
-        asked: ExecWords {
-            report: Some("log"),
-            quiet: false,
-            ..PLAIN
-        },
-        output: b"ac",
-        error: b"bc",
-        report: b"step 1000\nstate exited 0\n",
-        ..QUIET
-    },
-    Case {
-        label: "an open line that is ended before a report in a file",
-        words: &BOTH,
-        asked: ExecWords {
-            report: Some("log"),
-            quiet: false,
-            end_line: true,
-            ..PLAIN
-        },
-        output: b"ac",
-        error: b"bc\n",
-        report: b"step 1000\nstate exited 0\n",
-        ..QUIET
-    },
-    Case {
-        label: "a line of exec after an open line",
-        words: &BOTH,
-        asked: ExecWords { step: 10, ..PLAIN },
-        status: 124,
-        output: b"a",
-        error: b"b",
-        told: Some(b"\nreplaycheck exec: still running at step 10\n"),
-        ..QUIET
-    },
-    Case {
-        label: "a line of exec after a report that ended an open line",
-        words: &BOTH,
-        asked: ExecWords {
-            step: 10,
-            quiet: false,
-            ..PLAIN
-        },
-        status: 124,
-        output: b"a",
-        error: b"b\n",
-        report: b"step 10\nstate running ",
-        ..QUIET
-    },
-    Case {
-        label: "calls that aren't known",
-        words: &UNKNOWN,
-        told: Some(
-            b"replaycheck: call 500 isn't known (2 times)\nreplaycheck: call 501 isn't known (1 time)\n",
-        ),
-        ..QUIET
-    },
-];
+/// Asserts that each case comes out as its row says.
+pub(crate) fn assert_executed(rt: &impl Abort, alloc: Global, cases: &[Case]) {
+    for case in cases {
+        assert!(rt;
+            matches!(is_executed(alloc, case), Ok(true)),
+            "{}",
+            case.label
+        );
+    }
+}
 
 const RUNS: [Case; 12] = [
     Case {
         label: "output and status",
+        words: &WRITES,
+        asks: &[],
         status: 7,
         output: b"ok!\n",
-        ..QUIET
+        error: b"",
+        report: b"",
+        said: Said::Front(b""),
     },
     Case {
         label: "a patch of the status",
-        asked: ExecWords {
-            patches: Some("0x1001C=0x00900513"),
-            ..PLAIN
-        },
+        words: &WRITES,
+        asks: &[Ask::Patches("0x1001C=0x00900513")],
         status: 9,
         output: b"ok!\n",
-        ..QUIET
+        error: b"",
+        report: b"",
+        said: Said::Front(b""),
     },
     Case {
         label: "a named instruction set",
-        profile: ProfileWords {
-            isa: "rv32imc",
-            ..USUAL_PROFILE
-        },
+        words: &WRITES,
+        asks: &[Ask::Isa("rv32imc")],
         status: 7,
         output: b"ok!\n",
-        ..QUIET
+        error: b"",
+        report: b"",
+        said: Said::Front(b""),
     },
     Case {
         label: "an unknown instruction set",
-        profile: ProfileWords {
-            isa: "rv32gc",
-            ..USUAL_PROFILE
-        },
+        words: &WRITES,
+        asks: &[Ask::Isa("rv32gc")],
         status: 125,
-        ..QUIET
+        output: b"",
+        error: b"",
+        report: b"",
+        said: Said::Front(b""),
     },
     Case {
         label: "no region of a stack",
-        profile: ProfileWords {
-            stack: "0x10000",
-            ..USUAL_PROFILE
-        },
+        words: &WRITES,
+        asks: &[Ask::Stack("0x10000")],
         status: 125,
-        ..QUIET
+        output: b"",
+        error: b"",
+        report: b"",
+        said: Said::Front(b""),
     },
     Case {
         label: "an illegal instruction",
         words: &[0],
+        asks: &[],
         status: 132,
+        output: b"",
+        error: b"",
         report: b"step 1000\nstate stopped illegal",
-        ..QUIET
+        said: Said::Front(b""),
     },
     Case {
         label: "standard input is read",
         words: &COPIES,
-        input: b"xyz",
-        output: b"x",
+        asks: &[Ask::Input(b"xyz")],
         status: 0,
-        ..QUIET
+        output: b"x",
+        error: b"",
+        report: b"",
+        said: Said::Front(b""),
     },
     Case {
         label: "a bad free that fails",
         words: &FREES,
-        asked: ExecWords {
-            error_exitcode: Some(99),
-            ..PLAIN
-        },
+        asks: &[Ask::ErrorStatus(99)],
         status: 99,
+        output: b"",
+        error: b"",
         report: b"step 1000\nstate exited 0\n",
-        ..QUIET
+        said: Said::Front(b""),
     },
     Case {
         label: "output that can't be written",
-        rooms: Rooms {
-            output: 2,
-            ..ENOUGH
-        },
+        words: &WRITES,
+        asks: &[Ask::OutputRoom(2)],
         status: 125,
         output: b"ok",
-        ..QUIET
+        error: b"",
+        report: b"",
+        said: Said::Front(b""),
     },
     Case {
         label: "a report in a file",
-        asked: ExecWords {
-            report: Some("log"),
-            quiet: false,
-            ..PLAIN
-        },
+        words: &WRITES,
+        asks: &[Ask::Log],
         status: 7,
         output: b"ok!\n",
+        error: b"",
         report: b"step 1000\nstate exited 7\n",
-        ..QUIET
+        said: Said::Front(b""),
     },
     Case {
         label: "a file without symbols, of which it is asked for that errors of its heap can be found",
-        asked: ExecWords {
-            error_exitcode: Some(99),
-            no_require_heap: false,
-            ..PLAIN
-        },
+        words: &WRITES,
+        asks: &[Ask::ErrorStatus(99), Ask::SeenHeap],
         status: 99,
         output: b"ok!\n",
-        ..QUIET
+        error: b"",
+        report: b"",
+        said: Said::Front(b""),
     },
     Case {
         label: "a report that can't be opened",
-        rooms: Rooms {
-            opens: false,
-            ..ENOUGH
-        },
+        words: &WRITES,
+        asks: &[Ask::NoLog],
         status: 125,
-        ..QUIET
+        output: b"",
+        error: b"",
+        report: b"",
+        said: Said::Front(b""),
     },
 ];
 
 #[test]
 fn programs_are_executed(rt: HostRuntime) {
-    for case in &RUNS {
-        assert!(rt;
-            matches!(is_executed(rt.alloc(), case), Ok(true)),
-            "{}",
-            case.label
-        );
-    }
-}
-
-#[test]
-fn descriptors_have_streams_of_their_own(rt: HostRuntime) {
-    for case in &STREAMS {
-        assert!(rt;
-            matches!(is_executed(rt.alloc(), case), Ok(true)),
-            "{}",
-            case.label
-        );
-    }
+    assert_executed(&rt, rt.alloc(), &RUNS);
 }

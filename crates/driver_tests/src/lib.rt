@@ -10,6 +10,8 @@ mod endings;
 #[cfg(test)]
 mod exec_cases;
 #[cfg(test)]
+mod file_reads;
+#[cfg(test)]
 mod orders;
 #[cfg(test)]
 mod overflow_cases;
@@ -17,5 +19,7 @@ mod overflow_cases;
 mod programs;
 #[cfg(test)]
 mod shelf;
+#[cfg(test)]
+mod stream_cases;
 #[cfg(test)]
 mod words;

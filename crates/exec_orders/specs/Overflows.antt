@@ -69,12 +69,14 @@ KeepsStack sc n = (k : ℕ) → k < n → IsKept sc k
 -- ---- the end
 
 -- why a run ends at a step, by what is found there: the last step; or a look finds that the stack overflows, or else
--- that more memory is needed than there may be, for which there is a limit
+-- that a machine that runs needs more memory than there may be, for which there is a limit
 abbrev pub Finds : Scenario → ℕ → ℕ → Ended → Type 0
 Finds sc limit n AtLast = (n ≡ sc.step) × IsKept sc n
 Finds sc limit n (Overflow pointer) =
     (is_look n ≡ true) × (overflows sc.image (state_at sc n) ≡ true) × (pointer ≡ (pointer_of (state_at sc n)).value)
-Finds sc limit n (OverLimit most) = (is_look n ≡ true) × IsKept sc n × (most ≡ limit) × (limit ≡ 0 → ⊥)
+Finds sc limit n (OverLimit most) =
+    (is_look n ≡ true) × IsKept sc n × (is_running (state_at sc n).core.status ≡ true) × (most ≡ limit)
+    × (limit ≡ 0 → ⊥)
 
 -- it ends at a step for a reason: the step isn't above the last one, and no look before it finds that the stack
 -- overflows

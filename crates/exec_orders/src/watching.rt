@@ -3,6 +3,7 @@ ghost use Rattle.std.specs.Prelude.{◌≡◌, ◌≤◌, ◌<◌, IfErr, IfOk, 
 ghost use Rattle.std.specs.List.{list_any};
 ghost use Rattle.guest_elf.specs.Images.{loaded_at};
 ghost use Rattle.guest_elf.specs.Segments.{has_address};
+ghost use Rattle.guest_machine.specs.Exec.{is_running};
 ghost use Rattle.guest_machine.specs.Shows.{Shows};
 ghost use Rattle.guest_machine.specs.State.{State};
 ghost use Rattle.executions.specs.Executions.{held, step_of, IsAt, WroteFront};
@@ -104,7 +105,8 @@ fn needed(machine: &Machine) -> u64 {
 
 /// Returns whether a machine runs and needs more memory than it may have, in MiB; if there is a limit.
 fn is_over(machine: &Machine, limit: u32) -> bool
-    ensures { IsTrue result → limit ≡ 0 → ⊥ }
+    ensures limited { IsTrue result → limit ≡ 0 → ⊥ }
+    ensures runs { IsTrue result → (s : State) → Shows machine.now s → is_running s.core.status ≡ true }
 {
     let most = u64::from(limit) * MIB;
     limit > 0 && matches!(machine.status(), Status::Running) && needed(machine) > most

@@ -1,12 +1,13 @@
 //! An execution, and how it is run.
-ghost use Rattle.std.specs.Prelude.{◌≡◌, ◌+◌, ◌≤◌, ◌<◌, ◌||◌, ◌⊎◌, if◌then◌else◌, None};
+ghost use Rattle.std.specs.Prelude.{◌≡◌, ◌+◌, ◌≤◌, ◌<◌, ◌||◌, if◌then◌else◌};
 ghost use Rattle.unknown_calls.specs.UnknownCalls.{Within};
 
 use crate::fault::ExecutionFault;
 use crate::speaking::speak;
+use crate::stepping::step_of_machine;
 use crate::streams::Streams;
-use guest_machine::laws::{only_calls_speak, stays_at_rest, writes_what_it_reads};
-use guest_machine::{Machine, Register, Span};
+use guest_machine::laws::{only_calls_speak, stays_at_rest};
+use guest_machine::{Machine, Register};
 use scenario::Scenario;
 use std::alloc::{AllocError, Global};
 use std::io::Write;
@@ -48,13 +49,6 @@ fn either(one: bool, other: bool) -> bool
     ensures { result ≡ (one || other) }
 {
     one || other
-}
-
-/// Returns the range of the bytes that a step writes out: the one that it reads, if the output is longer after it.
-fn piece_range(before: u64, after: u64, reads: Option<Span>) -> Option<Span>
-    ensures { ((after ≡ before) × (result ≡ None)) ⊎ ((after ≡ before → ⊥) × (result ≡ reads)) }
-{
-    if after == before { None } else { reads }
 }
 
 impl Execution {
@@ -193,7 +187,6 @@ impl Execution {
             (held (O.contents streams.old.out) (E.contents streams.old.err))
             (held (O.contents streams.new.out) (E.contents streams.new.err))) }
     {
-        writes_what_it_reads();
         let Execution {
             machine,
             at,
@@ -207,10 +200,8 @@ impl Execution {
         meet(&mut unknown, machine.unknown_call(scenario.setup()))?;
         let refused = counted(refused, machine.refuses_write(scenario.setup()));
         let needs_limits = either(needs_limits, machine.needs_limits(scenario.setup()));
-        let written = machine.output_len();
         let descriptor = machine.register(Register::new(DESCRIPTOR)).value;
-        let (machine, touched) = machine.step_on(scenario.setup())?;
-        let range = piece_range(written, machine.output_len(), touched.reads);
+        let (machine, range) = step_of_machine(machine, scenario)?;
         let is_open = speak(alloc, machine.memory(), range, descriptor, is_open, streams)?;
         Ok(Execution {
             machine,

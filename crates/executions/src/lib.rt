@@ -16,8 +16,8 @@
 //! An execution is at a step of the run of a scenario without marks (`IsAt`): its machine shows the state before that step of one run from
 //! step zero. [`Execution::run`] leaves it so. Standard output was given what that run writes to descriptor 1 between the two steps, and
 //! standard error what it writes to descriptor 2 (`Wrote`). Where it fails, each was given what was written to it before some step, and a
-//! front of what that step writes (`WroteFront`). No step is made twice, and nothing is written twice. A run that may wait stops before the first step that
-//! would see the end of the input; with more input it goes on from there.
+//! front of what that step writes (`WroteFront`). No step is made twice, and nothing is written twice. A run that may wait stops before the
+//! first step that would see the end of the input; with more input it goes on from there.
 //!
 //! The definitions stand in `specs/Executions`; steps, and what they have to do with input and output, are those of `guest_machine`.
 #![tactic(auto)]
@@ -26,6 +26,7 @@ mod execution;
 mod fault;
 pub mod laws;
 mod speaking;
+mod stepping;
 mod streams;
 
 pub use execution::Execution;

@@ -14,5 +14,6 @@ pub fn usual_whole()
 /// Where no program header that is to be loaded is bad, no piece of one is.
 #[tactic(auto, using(crate::proofs::Splitting::loads_good))]
 pub fn pieces_stay_good()
-    ensures { (regions : Regions) (file : List ℕ) → list_any (is_bad_segment (length file)) (loadable_of file) ≡ false → list_any (is_bad_segment (length file)) (loads_of regions file) ≡ false }
+    ensures { (regions : Regions) (file : List ℕ) → list_any (is_bad_segment (length file)) (loadable_of file) ≡ false
+        → list_any (is_bad_segment (length file)) (loads_of regions file) ≡ false }
 {}

@@ -43,6 +43,7 @@ fn place_in(calls: &[UnknownCall], number: u32) -> usize
 fn count(calls: &mut Vec<UnknownCall>, number: u32) -> Result<(), AllocError>
     requires { Within (2 ^ 32 - 2) calls.old.items }
     ensures ok { OnOk result (calls.new.items ≡ after_call calls.old.items number) }
+    ensures err { OnErr result (calls.new.items ≡ calls.old.items) }
 {
     let place = place_in(calls, number);
     if place < calls.len() {
@@ -53,10 +54,11 @@ fn count(calls: &mut Vec<UnknownCall>, number: u32) -> Result<(), AllocError>
     Ok(())
 }
 
-/// Counts a call, if there is one, unless its number is a new one and ten numbers are kept.
+/// Counts a call, if there is one, unless its number is a new one and ten numbers are kept. If memory runs out, the list stays as it was.
 pub fn meet(calls: &mut Vec<UnknownCall>, number: Option<u32>) -> Result<(), AllocError>
     requires { Within (2 ^ 32 - 2) calls.old.items }
     ensures ok { OnOk result (calls.new.items ≡ after_maybe calls.old.items number) }
+    ensures err { OnErr result (calls.new.items ≡ calls.old.items) }
     ensures within { OnOk result ((n : ℕ) → Within n calls.old.items → Within (n + 1) calls.new.items) }
 {
     match number {
