@@ -1,8 +1,9 @@
-"""What the lanes of tests share: checks that are run, measured and counted.
+"""What the lanes of tests share: the list of the gate's checks, and checks that are run, measured and counted.
 
 A check is one command line, or some in turn. The last one prints `N passed, M failed` last, and its exit status agrees with that; or it
 counts nothing, and passes by its status. What a check prints goes to out/lanes/NAME.log. Each command has a process group of its own, which
 ends with the lane."""
+import concurrent.futures
 import dataclasses
 import os
 import pathlib
@@ -12,6 +13,7 @@ import subprocess
 import sys
 import threading
 import time
+from collections.abc import Iterator
 
 sys.path.insert(0, os.path.realpath(f"{__file__}/../../lib"))
 from replaycheck.guest_files import TOP  # noqa: E402
@@ -42,13 +44,82 @@ class Check:
         return OUT / f"{self.name}.log"
 
 
+@dataclasses.dataclass(frozen=True)
+class GateCheck:
+    """A check of the gate: its command line below the top, in which PROGRAM is the program, and whether it proves.
+
+    `seconds` is about how long one of the longest takes: these begin first. `without_proofs` is its command line in a lane that proves
+    nothing, if that is another one. `quick` leaves it out if `is_quick` is false."""
+
+    line: str
+    proves: bool = False
+    seconds: int = 0
+    without_proofs: str = ""
+    is_quick: bool = True
+
+    def check(self, program: str, is_proving: bool = True) -> Check:
+        """Returns the check of a program, in a lane that proves or in one that proves nothing."""
+        line = self.line if is_proving else self.without_proofs or self.line
+        words = [program if it == "PROGRAM" else it for it in line.split()]
+        return Check(os.path.basename(words[0]), [words])
+
+
+# The checks of the gate beside `rt ci`.
+GATE = (
+    GateCheck("tools/test/try-bodies", proves=True),
+    GateCheck("tools/test/test-bodies", proves=True),
+    GateCheck("tools/test/test-program PROGRAM"),
+    GateCheck("tools/test/test-guests PROGRAM"),
+    GateCheck("tools/test/test-files PROGRAM"),
+    GateCheck("tools/test/test-sessions PROGRAM"),
+    GateCheck("tools/test/check-definitions"),
+    GateCheck("tools/test/check-format"),
+    GateCheck("tools/test/check-pages"),
+    GateCheck("tools/test/try-bodies --applies"),
+    GateCheck("tools/test/test-halves"),
+    GateCheck("tools/test/test-extensions"),
+    GateCheck("tools/test/test-profiles PROGRAM", seconds=60),
+    GateCheck("tools/test/test-lanes"),
+    GateCheck("tools/test/test-launcher", seconds=100),
+    GateCheck("tools/test/test-tools PROGRAM", seconds=65),
+    GateCheck("tools/test/test-exec PROGRAM"),
+    GateCheck("tools/test/test-python PROGRAM"),
+    GateCheck("tools/test/test-runners PROGRAM", seconds=55),
+    GateCheck("tools/test/test-rust PROGRAM"),
+    GateCheck("tools/test/test-explore PROGRAM", seconds=200),
+    GateCheck("tools/test/test-sweep-table PROGRAM"),
+    GateCheck("tools/test/test-manual PROGRAM"),
+    GateCheck("tools/test/test-man PROGRAM"),
+    GateCheck("tools/test/test-adopt PROGRAM", seconds=55),
+    GateCheck("tools/test/test-origin PROGRAM"),
+    GateCheck("tools/test/test-coverage PROGRAM"),
+    GateCheck("tools/test/test-search PROGRAM"),
+    GateCheck("tools/test/test-look PROGRAM"),
+    GateCheck("tools/test/test-tries PROGRAM"),
+    GateCheck("tools/test/test-changes PROGRAM 15"),
+    GateCheck("tools/test/test-faults PROGRAM 15"),
+    GateCheck("tools/test/test-clean PROGRAM"),
+    GateCheck("tools/test/test-gdb PROGRAM", seconds=40),
+    GateCheck("tools/test/test-page PROGRAM", seconds=270, without_proofs="tools/test/test-page --kept PROGRAM"),
+    GateCheck("examples/firmware/check.sh PROGRAM"),
+)
+
+
+def proving_nothing(program: str, is_proving: bool = False, is_quick: bool = False) -> list[Check]:
+    """Returns the checks of the gate that prove nothing, or those of them that are quick, the longest first."""
+    rows = [it for it in GATE if not it.proves and (it.is_quick or not is_quick)]
+    return [it.check(program, is_proving) for it in sorted(rows, key=lambda it: -it.seconds)]
+
+
 @dataclasses.dataclass
 class Result:
-    """How often a check passed and failed, what its last line was, and the seconds that it took: by the clock, and of processors."""
+    """How often a check passed and failed, what its last line was, why it failed if its count doesn't say that, and the seconds that it
+    took: by the clock, and of processors."""
 
     passed: int
     failed: int
     last: str
+    fault: str = ""
     clock: float = 0
     processor: float = 0
 
@@ -57,34 +128,47 @@ def processors() -> int:
     return len(os.sched_getaffinity(0))
 
 
-def judged(check: Check, status: int) -> Result:
+def judged(printed: str, status: int, is_counted: bool = True) -> Result:
     """What a check has come to, by its status and the last line of what it printed."""
-    lines = check.log.read_text(errors="replace").splitlines()
+    lines = printed.splitlines()
     last = lines[-1] if lines else ""
-    count = COUNT.fullmatch(last)
-    if not check.is_counted:
+    if not is_counted:
         return Result(int(status == 0), int(status != 0), last)
-    if count and (status != 0) == (count[2] != "0"):
+    count = COUNT.fullmatch(last)
+    if count and (status != 0) == (int(count[2]) != 0):
         return Result(int(count[1]), int(count[2]), last)
-    return Result(0, 1, f"it ended with status {status} and no count that agrees")
+    return Result(0, 1, last, f"ended with status {status} and no count that agrees")
 
 
-def measured(words: list[str], log: int) -> tuple[int, float]:
-    """A command's status, and the seconds of processors that it took with all that it started."""
+def start(words: list[str], output: int, errors: int | None) -> subprocess.Popen[bytes]:
+    """Starts a command in a process group of its own, with these descriptors for what it prints."""
     try:
         with starting:
-            child = subprocess.Popen(words, cwd=TOP, stdin=subprocess.DEVNULL, stdout=log, stderr=subprocess.STDOUT, start_new_session=True)
+            child = subprocess.Popen(words, cwd=TOP, stdin=subprocess.DEVNULL, stdout=output, stderr=errors, start_new_session=True)
             groups.add(child.pid)
-    except OSError as fault:
-        os.write(log, f"cannot run {words[0]}: {fault.strerror}\n".encode())
-        return 127, 0
+            return child
     finally:
         if come:
             os.kill(os.getpid(), come[0])
+
+
+def ended(child: subprocess.Popen[bytes]) -> tuple[int, float]:
+    """A command's status once it has ended, and the seconds of processors that it took with all that it started. The status of one that a
+    signal ended is the shell's for it."""
     _, status, used = os.wait4(child.pid, 0)
     groups.discard(child.pid)
     child.returncode = os.waitstatus_to_exitcode(status)
-    return child.returncode, used.ru_utime + used.ru_stime
+    return child.returncode if child.returncode >= 0 else 128 - child.returncode, used.ru_utime + used.ru_stime
+
+
+def measured(words: list[str], log: int) -> tuple[int, float]:
+    """A command's status and seconds of processors. What it prints goes to a log."""
+    try:
+        child = start(words, log, subprocess.STDOUT)
+    except OSError as fault:
+        os.write(log, f"cannot run {words[0]}: {fault.strerror}\n".encode())
+        return 127, 0
+    return ended(child)
 
 
 def run(check: Check) -> Result:
@@ -97,9 +181,17 @@ def run(check: Check) -> Result:
             processor += used
             if status:
                 break
-    result = judged(check, status)
+    result = judged(check.log.read_text(errors="replace"), status, check.is_counted)
     result.clock, result.processor = time.monotonic() - begun, processor
     return result
+
+
+def side_by_side(checks: list[Check]) -> Iterator[tuple[Check, Result]]:
+    """Runs checks, as many at a time as there are processors, and begins them in their order. Gives each when it has ended."""
+    with concurrent.futures.ThreadPoolExecutor(processors()) as pool:
+        running = {pool.submit(run, it): it for it in checks}
+        for done in concurrent.futures.as_completed(running):
+            yield running[done], done.result()
 
 
 def tell(check: Check, result: Result) -> None:
@@ -107,7 +199,7 @@ def tell(check: Check, result: Result) -> None:
     if result.failed:
         told = check.log.read_text(errors="replace").splitlines()
         print(f"== {check.name}: the end of {check.log.relative_to(TOP)}", *told[-MOST_LINES:], "==", sep="\n")
-    print(f"{check.name}: {result.last}, {took(result)}", flush=True)
+    print(f"{check.name}: {f'it {result.fault}' if result.fault else result.last}, {took(result)}", flush=True)
 
 
 def took(result: Result) -> str:
@@ -117,7 +209,8 @@ def took(result: Result) -> str:
 def end(lane: str, results: list[Result], begun: float) -> int:
     """Prints what all took, and last the sum. Gives the exit status."""
     passed, failed = sum(it.passed for it in results), sum(it.failed for it in results)
-    print(f"{lane}: {took(Result(passed, failed, '', time.monotonic() - begun, sum(it.processor for it in results)))} in all")
+    every = Result(passed, failed, "", clock=time.monotonic() - begun, processor=sum(it.processor for it in results))
+    print(f"{lane}: {took(every)} in all")
     print(f"{passed} passed, {failed} failed")
     return int(failed > 0)
 
@@ -137,16 +230,21 @@ def send(number: int) -> None:
             pass
 
 
-def stop(number: int, _: object) -> None:
-    """Ends all that the lane has started, and then the lane by the same signal."""
-    come.append(number)
-    if not starting.acquire(blocking=False):
-        return
+def end_all() -> None:
+    """Ends all that the lane has started. Nothing starts any more: whoever calls this holds `starting`."""
     send(signal.SIGTERM)
     until = time.monotonic() + SECONDS_TO_END
     while not all(has_ended(it) for it in [*groups]) and time.monotonic() < until:
         time.sleep(0.02)
     send(signal.SIGKILL)
+
+
+def stop(number: int, _: object) -> None:
+    """Ends all that the lane has started, and then the lane by the same signal."""
+    come.append(number)
+    if not starting.acquire(blocking=False):
+        return
+    end_all()
     signal.signal(number, signal.SIG_DFL)
     os.kill(os.getpid(), number)
 
