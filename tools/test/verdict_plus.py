@@ -39,7 +39,8 @@ int main()
 {
     List<long long> list;
     long long sum = 0;
-    for (long long level : { 3, 1, 4, 1, 5, 9 })
+    static const int levels[] = { 3, 1, 4, 1, 5, 9 };
+    for (int level : levels)
         list.add(level);
     list.visit([&sum](const long long &level) { sum = sum * 10 + level; });
     printf("%lld\n", sum);
