@@ -38,6 +38,8 @@ SOURCES = {
     "idles": f"{SAY} again: j again",
     # What an emulator ends with a signal, and passes here.
     "writes-code": f"{SAY} li t0, {ENTRY}; sw zero, 0(t0); {END}",
+    # A return, 0x8067, that it writes on the stack.
+    "executes-stack": f"{SAY} li t1, 0x8067; addi sp, sp, -16; sw t1, 0(sp); jalr ra, 0(sp); {END}",
     "says-on-2": f"{SAY} li a0, 2; li a7, 64; ecall; {END}",
     # A line on 2 that isn't ended, and an error after it.
     "says-half-on-2": f"{SAY} li a0, 2; li a2, 2; li a7, 64; ecall; sw zero, 0(zero); {END}",

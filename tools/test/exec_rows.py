@@ -260,6 +260,7 @@ OPTIONS = [
 # What the manual says that passes here and fails elsewhere.
 ELSEWHERE = [
     Row("a write to code passes", [*QUIET, "writes-code.elf"], 0),
+    Row("instructions on the stack are executed", [*QUIET, "executes-stack.elf"], 0),
     Row("a call that isn't known", [*QUIET, "calls-unknown.elf"], 0, said=["replaycheck: call 66 isn't known (1 time)\n"]),
     Row("bytes that may not be accessed are written", ["-q", "writes-past.elf"], 0, "\0" * 4096, ["Syscall param write(buf)"]),
 ]

@@ -16,7 +16,7 @@ from rows import SIGNALS, Rows
 LISTED = str(PROGRAM.relative_to(TOP))
 PROVING = [it for it in GATE if it.proves]
 # The others, in the order in which they begin.
-REST = sorted((it for it in GATE if not it.proves), key=lambda it: -it.seconds)
+REST = sorted((it for it in GATE if not it.proves), key=lambda it: (it.is_alone, -it.seconds))
 # A stand-in notes that it runs, and does what a script of its name says. There `await` waits for a file, for half a minute at most.
 STAND_IN = """#!/bin/sh
 room='{}' name=${{0##*/}}

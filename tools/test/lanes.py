@@ -33,11 +33,12 @@ come: list[int] = []
 
 @dataclasses.dataclass
 class Check:
-    """A check's name, its command lines, and whether it counts what passes."""
+    """A check's name, its command lines, whether it counts what passes, and whether nothing may run beside it."""
 
     name: str
     commands: list[list[str]]
     is_counted: bool = True
+    is_alone: bool = False
 
     @property
     def log(self) -> pathlib.Path:
@@ -49,19 +50,21 @@ class GateCheck:
     """A check of the gate: its command line below the top, in which PROGRAM is the program, and whether it proves.
 
     `seconds` is about how long one of the longest takes: these begin first. `without_proofs` is its command line in a lane that proves
-    nothing, if that is another one. `quick` leaves it out if `is_quick` is false."""
+    nothing, if that is another one. `quick` leaves it out if `is_quick` is false. One whose rows stop processes at a time by the clock runs
+    alone, after the others."""
 
     line: str
     proves: bool = False
     seconds: int = 0
     without_proofs: str = ""
     is_quick: bool = True
+    is_alone: bool = False
 
     def check(self, program: str, is_proving: bool = True) -> Check:
         """Returns the check of a program, in a lane that proves or in one that proves nothing."""
         line = self.line if is_proving else self.without_proofs or self.line
         words = [program if it == "PROGRAM" else it for it in line.split()]
-        return Check(os.path.basename(words[0]), [words])
+        return Check(os.path.basename(words[0]), [words], is_alone=self.is_alone)
 
 
 # The checks of the gate beside `rt ci`.
@@ -80,7 +83,7 @@ GATE = (
     GateCheck("tools/test/test-extensions"),
     GateCheck("tools/test/test-profiles PROGRAM", seconds=60),
     GateCheck("tools/test/test-lanes"),
-    GateCheck("tools/test/test-launcher", seconds=100),
+    GateCheck("tools/test/test-launcher", seconds=100, is_alone=True),
     GateCheck("tools/test/test-tools PROGRAM", seconds=65),
     GateCheck("tools/test/test-exec PROGRAM"),
     GateCheck("tools/test/test-python PROGRAM"),
@@ -106,9 +109,10 @@ GATE = (
 
 
 def proving_nothing(program: str, is_proving: bool = False, is_quick: bool = False) -> list[Check]:
-    """Returns the checks of the gate that prove nothing, or those of them that are quick, the longest first."""
+    """Returns the checks of the gate that prove nothing, or those of them that are quick, the longest first, and last those that run
+    alone."""
     rows = [it for it in GATE if not it.proves and (it.is_quick or not is_quick)]
-    return [it.check(program, is_proving) for it in sorted(rows, key=lambda it: -it.seconds)]
+    return [it.check(program, is_proving) for it in sorted(rows, key=lambda it: (it.is_alone, -it.seconds))]
 
 
 @dataclasses.dataclass
@@ -187,11 +191,14 @@ def run(check: Check) -> Result:
 
 
 def side_by_side(checks: list[Check]) -> Iterator[tuple[Check, Result]]:
-    """Runs checks, as many at a time as there are processors, and begins them in their order. Gives each when it has ended."""
+    """Runs checks, as many at a time as there are processors, and begins them in their order; then those that run alone, in turn. Gives
+    each when it has ended."""
     with concurrent.futures.ThreadPoolExecutor(processors()) as pool:
-        running = {pool.submit(run, it): it for it in checks}
+        running = {pool.submit(run, it): it for it in checks if not it.is_alone}
         for done in concurrent.futures.as_completed(running):
             yield running[done], done.result()
+    for check in (it for it in checks if it.is_alone):
+        yield check, run(check)
 
 
 def tell(check: Check, result: Result) -> None:
