@@ -44,9 +44,14 @@ LIBRARIES = [
     Library("zlib", "adler32.c crc32.c inf[flt]*.c uncompr.c zutil.c", ".", zlib.compress(PACKED), PACKED)]
 
 
+def made_folder(library: Library, room: pathlib.Path) -> pathlib.Path:
+    """The folder, below another one, of the headers that a library's own build makes."""
+    return room / f"{library.name}-made"
+
+
 def made_for(library: Library, room: pathlib.Path) -> pathlib.Path:
-    """Makes the folder, below another one, of the headers that a library's own build makes. Returns its path."""
-    folder = room / f"{library.name}-made"
+    """Makes that folder, of sources that were fetched. Returns its path."""
+    folder = made_folder(library, room)
     folder.mkdir(parents=True, exist_ok=True)
     (folder / "expat_config.h").touch()
     if library.name == "yajl":

@@ -3,10 +3,11 @@ import dataclasses
 import pathlib
 import struct
 import zlib
+from collections.abc import Container
 
 import debian_sources
 from debian_sources import PARTS, TOP
-from library_cases import LIBRARIES, Library, made_for, matched
+from library_cases import LIBRARIES, Library, made_folder, made_for, matched
 from verdict_builds import BUILDS, BUILDS_PLUS, PLUS_WORDS, ROOM, WITH_HEAP, WITH_NEW, Build, built
 
 BOTH = (BUILDS[1], BUILDS[3])
@@ -37,7 +38,7 @@ class Clean:
 def known(library: Library) -> Clean:
     """The program over a library that `test-libraries` has, too."""
     return Clean(f"{library.name}.c", {"an input": library.given}, library.name, library.sources,
-                 (str(made_for(library, ROOM)), library.include), library.options)
+                 (str(made_folder(library, ROOM)), library.include), library.options)
 
 
 # ---- images
@@ -105,6 +106,13 @@ CLEAN = [
     Clean("mbedtls.c", TLS_TESTS, "mbedtls", " ".join(f"library/{it}.c" for it in TLS), ("include",),
           (f"-I{PARTS}", '-DMBEDTLS_CONFIG_FILE="mbedtls_config.h"', *DROPPED)),
 ]
+
+
+def put_headers(missing: Container[str]) -> None:
+    """Puts the headers that the builds of libraries make, but of those whose sources are missing."""
+    for library in LIBRARIES:
+        if library.name not in missing:
+            made_for(library, ROOM)
 
 
 def put_clean(clean: Clean, build: Build) -> pathlib.Path:
