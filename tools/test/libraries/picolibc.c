@@ -1,5 +1,6 @@
 /* A good part of picolibc: stdio, the heap, texts, numbers, sorting, time and long jumps. Prints what each gives. It prints no infinity and
-   no NaN: of these picolibc 1.8 tests an exponent that is never set (vfprintf.c:843), which changes nothing and is an error all the same. */
+   no NaN: of these picolibc 1.8 tests an exponent that is never set (vfprintf.c:843). That changes nothing, and is an error all the
+   same. */
 #include <ctype.h>
 #include <errno.h>
 #include <inttypes.h>
