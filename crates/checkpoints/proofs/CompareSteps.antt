@@ -7,7 +7,7 @@ use Rattle.guest_elf.specs.declared.hook.Hook.{Hook}
 use Rattle.guest_elf.specs.Hooks.{hook_at}
 use Rattle.guest_elf.specs.Profiles.{is_aligned, is_half}
 use Rattle.guest_machine.specs.State.{State}
-use Rattle.guest_machine.specs.Exec.{Deed, code_in, called_here, deed_by, fetch_by, fetch_fault, fetched, fetches}
+use Rattle.guest_machine.specs.Exec.{Action, code_in, called_here, action_by, fetch_by, fetch_fault, fetched, fetches}
 use Rattle.guest_machine.specs.Exec.{half_at, is_ready, is_running, word_at, word_fault}
 use Rattle.guest_machine.specs.Laws.{StaysHalted}
 use Rattle.guest_machine.specs.Run.{pre, post}
@@ -23,7 +23,7 @@ use Rattle.checkpoints.proofs.Listing.{ended, enough, fell-silent, is-below, is-
 
 -- none where a function is called by name
 no-code : (function : Hook) (runs aligned may short whole : Bool) (half word : ℕ)
-    → code_in (deed_by (cond (runs && aligned) (Some function) None)
+    → code_in (action_by (cond (runs && aligned) (Some function) None)
     (fetch_by (runs && (aligned && may)) short whole half word)) ≡ None
 no-code function true true may short whole half word = refl
 no-code function true false may short whole half word = refl
@@ -33,27 +33,27 @@ pub by-name : (s : State) (setup : Setup) (function : Hook) → hook_at setup.ho
     → code_at s setup ≡ None
 unfolding called_here fetched fetches
 by-name s setup function h =
-    ap (λ found. code_in (deed_by (cond (is_ready s.core) found None) (fetched s.core s.bytes))) h
+    ap (λ found. code_in (action_by (cond (is_ready s.core) found None) (fetched s.core s.bytes))) h
     ∙ no-code function (is_running s.core.status) (is_aligned s.core.isa s.core.pc) (is_none (fetch_fault s.core))
     (is_half s.core.isa (half_at s.core s.bytes)) (is_none (word_fault s.core)) (half_at s.core s.bytes)
     (word_at s.core s.bytes)
 
 -- the one that can be fetched, elsewhere
-same-deed : (ready : Bool) (deed : Deed) → deed_by (cond ready None None) deed ≡ deed
-same-deed true deed = refl
-same-deed false deed = refl
+same-action : (ready : Bool) (action : Action) → action_by (cond ready None None) action ≡ action
+same-action true action = refl
+same-action false action = refl
 
 pub by-code : (s : State) (setup : Setup) → hook_at setup.hooks s.core.pc ≡ None
     → code_at s setup ≡ code_in (fetched s.core s.bytes)
 unfolding called_here
 by-code s setup h =
-    ap (λ found. code_in (deed_by (cond (is_ready s.core) found None) (fetched s.core s.bytes))) h
-    ∙ ap code_in (same-deed (is_ready s.core) (fetched s.core s.bytes))
+    ap (λ found. code_in (action_by (cond (is_ready s.core) found None) (fetched s.core s.bytes))) h
+    ∙ ap code_in (same-action (is_ready s.core) (fetched s.core s.bytes))
 
 -- none where the machine doesn't run
 no-compare : (k : ℕ) (s : State) (setup : Setup) → is_running s.core.status ≡ false → compare_at k s setup ≡ None
 no-compare k s setup h =
-    ap (λ deed. option_map (compare_by k s.core.pc) (option_and_then (operands_in s.core) (code_in deed)))
+    ap (λ action. option_map (compare_by k s.core.pc) (option_and_then (operands_in s.core) (code_in action)))
     (halts s.core s.bytes setup.hooks h)
 
 -- ---- lists of compares

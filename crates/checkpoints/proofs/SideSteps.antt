@@ -9,7 +9,7 @@ use Rattle.guest_elf.specs.Profiles.{unit}
 use Rattle.guest_elf.specs.declared.profile.Isa.{Isa}
 use Rattle.guest_elf.specs.declared.profile.Isa.TheVariants.{Rv32im, Rv32imc, Rv32imac}
 use Rattle.guest_machine.specs.State.{State}
-use Rattle.guest_machine.specs.Exec.{deed_at, exec, is_running, fetch_span, touched_at}
+use Rattle.guest_machine.specs.Exec.{action_at, exec, is_running, fetch_span, touched_at}
 use Rattle.guest_machine.specs.Laws.{StaysHalted}
 use Rattle.guest_machine.specs.Run.{after_marks, pre, post}
 use Rattle.guest_machine.specs.declared.setup.Setup.{Setup}
@@ -158,7 +158,7 @@ module _ (start : State) (setup : Setup) (marks : List Alteration) where
   no-side : (s : State) → is_running s.core.status ≡ false → side_of s setup ≡ None
   unfolding touched_at
   no-side s h =
-      ap (λ deed. side_by (fetch_span s.core deed) (exec s setup).core.pc) (halts s.core s.bytes setup.hooks h)
+      ap (λ action. side_by (fetch_span s.core action) (exec s setup).core.pc) (halts s.core s.bytes setup.hooks h)
 
   pub covers-halted : StaysHalted → (k n : ℕ) (addr : ℕ) (on told : Bool) → k ≤ n
       → is_running (pre start setup marks k).core.status ≡ false
@@ -202,7 +202,7 @@ same-side : (s t : State) (one other : Setup) → s ≡ t → one.hooks ≡ othe
     → side_of s one ≡ side_of t other
 unfolding touched_at
 same-side s t one other states hooks after =
-    ap₂ side_by (ap₂ (λ (u : State) h. fetch_span u.core (deed_at u.core u.bytes h)) states hooks)
+    ap₂ side_by (ap₂ (λ (u : State) h. fetch_span u.core (action_at u.core u.bytes h)) states hooks)
     (ap (λ (u : State). u.core.pc) after)
 
 -- an edit of the setup leaves the marks and the functions of the heap

@@ -2,7 +2,7 @@
 use Rattle.std.specs.Prelude.{ℕ, ◌++◌, if◌then◌else◌, nat_lt, zero, suc, List, [], Option, Some, None}
 use Rattle.std.specs.Prelude.{option_and_then, option_map, option_to_list}
 use Rattle.guest_machine.specs.State.{Core, State}
-use Rattle.guest_machine.specs.Exec.{code_in, deed_at}
+use Rattle.guest_machine.specs.Exec.{code_in, action_at}
 use Rattle.guest_machine.specs.Registers.{register}
 use Rattle.guest_machine.specs.Run.{post}
 use Rattle.guest_machine.specs.declared.setup.Setup.{Setup}
@@ -44,7 +44,7 @@ operands_in core code = option_and_then (operands_of core) (row_of_code code)
 -- the code that the step of a state takes, if it takes one: one that calls a function of the heap by name takes none,
 -- nor does that of a machine that is halted
 abbrev pub code_at : State → Setup → Option Code
-code_at s setup = code_in (deed_at s.core s.bytes setup.hooks)
+code_at s setup = code_in (action_at s.core s.bytes setup.hooks)
 
 -- the compare of a step at an address, by its operands
 abbrev pub compare_by : ℕ → ℕ → ℕ × ℕ → Compare

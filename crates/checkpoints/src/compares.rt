@@ -45,7 +45,7 @@ impl Fork {
         ensures { IfOk result (λ found. (start : State) → Shows self.now.machine (pre start setup.now marks.now self.now.step)
             → found.items ≡ take most (compares_between start setup.now marks.now self.now.step step)) }
     {
-        let copy = self.machine.share_ready()?;
+        let copy = self.machine.share_warm()?;
         compares_from(alloc, copy, setup, marks, self.step, step, most)
     }
 

@@ -4,17 +4,17 @@ ghost use Rattle.std.specs.List.{list_any};
 ghost use Rattle.std.specs.List.Sorted.{IsNonDecreasingBy};
 ghost use Rattle.run_values.specs.declared.span.Span.{Span as SpanOf};
 ghost use Rattle.checkpoints.specs.declared.uses.Row.{Row as RowOf};
-ghost use Rattle.checkpoints.specs.declared.uses.Place.TheVariants.{At};
+ghost use Rattle.checkpoints.specs.declared.uses.Lookup.TheVariants.{At};
 ghost use Rattle.guest_elf.specs.Segments.{has_address};
 ghost use Rattle.guest_machine.specs.Exec.{has_touched};
 ghost use Rattle.guest_machine.specs.Spans.{covers, span_at, IsCodeSpan};
 ghost use Rattle.guest_elf.specs.declared.segment.Segment.{Segment as SegmentOf};
-ghost use Rattle.checkpoints.specs.Words.{meets, is_among, is_from, words_in, word_end, words_of, IsPlaced, IsPlace, never, kept_below, group_size, AreBelowBounds, DropsAt, IsEntered, is_in_group};
+ghost use Rattle.checkpoints.specs.Words.{meets, is_among, is_from, words_in, word_end, words_of, IsPlaced, IsLookup, never, kept_below, group_size, AreBelowBounds, DropsAt, IsEntered, is_in_group};
 ghost use Rattle.checkpoints.specs.Entries.{ranges_of, entry_of, below, EntersAt, IsClean};
 ghost use Rattle.checkpoints.specs.FirstUses.{earliest, first_of_code};
 
 use crate::searches::later;
-use crate::uses::{FirstUses, GROUP, Place, REMEMBERED, Row};
+use crate::uses::{FirstUses, GROUP, Lookup, REMEMBERED, Row};
 use guest_elf::Segment;
 use guest_machine::{Span, Touched};
 use std::alloc::{AllocError, Global};
@@ -170,18 +170,18 @@ impl FirstUses {
     /// The place of a word in the table.
     #[inline(always)]
     #[tactic(auto, unfolding(crate::specs::Entries::ranges_of))]
-    fn place_of(&self, word: u32) -> Place
-        ensures { IsPlace (ranges_of self.now) word result }
+    fn place_of(&self, word: u32) -> Lookup
+        ensures { IsLookup (ranges_of self.now) word result }
     {
         let index = ended_by(&self.rows, word);
         if index == self.rows.len() {
-            return Place::NoneBelow(ALL_WORDS);
+            return Lookup::NoneBelow(ALL_WORDS);
         }
         let row = self.rows[index];
         if word < row.first {
-            return Place::NoneBelow(row.first.min(ALL_WORDS));
+            return Lookup::NoneBelow(row.first.min(ALL_WORDS));
         }
-        Place::At(row.before + (word - row.first) as usize)
+        Lookup::At(row.before + (word - row.first) as usize)
     }
 
     /// The first step that was entered for a word, if it lies below another.
@@ -190,11 +190,11 @@ impl FirstUses {
         ensures { result ≡ below step (entry_of self.now word) }
     {
         match self.place_of(word) {
-            Place::At(place) => {
+            Lookup::At(place) => {
                 let first = self.steps[place];
                 if first < step { Some(first) } else { None }
             }
-            Place::NoneBelow(_) => None,
+            Lookup::NoneBelow(_) => None,
         }
     }
 
@@ -225,11 +225,11 @@ impl FirstUses {
             → entry_of self.new w ≡ (if is_from word result w then min (entry_of self.old w) step else entry_of self.old w) }
     {
         match self.place_of(word) {
-            Place::At(place) => {
+            Lookup::At(place) => {
                 self.enter_at(word, place, step);
                 1
             }
-            Place::NoneBelow(end) => {
+            Lookup::NoneBelow(end) => {
                 self.remember(word);
                 end.saturating_sub(word).min(most)
             }
@@ -247,8 +247,8 @@ impl FirstUses {
             → entry_of self.new w ≡ (if is_from word 1 w then min (entry_of self.old w) step else entry_of self.old w) }
     {
         match self.place_of(word) {
-            Place::At(place) => self.enter_at(word, place, step),
-            Place::NoneBelow(_) => self.remember(word),
+            Lookup::At(place) => self.enter_at(word, place, step),
+            Lookup::NoneBelow(_) => self.remember(word),
         }
     }
 
@@ -257,7 +257,7 @@ impl FirstUses {
     #[tactic(auto, unfolding(crate::specs::Entries::ranges_of, crate::specs::Entries::entry_of))]
     fn enter_at(&mut self, word: u32, place: usize, step: u32)
         requires small { word < 2 ^ 30 }
-        requires place { IsPlace (ranges_of self.old) word (At place) }
+        requires place { IsLookup (ranges_of self.old) word (At place) }
         ensures ranges { ranges_of self.new ≡ ranges_of self.old }
         ensures clean { IsClean self.old (step + 1) → IsClean self.new (step + 1) }
         ensures entries { (w : ℕ) → w < 2 ^ 30 → IsPlaced (ranges_of self.old) w

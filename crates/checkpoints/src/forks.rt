@@ -82,7 +82,7 @@ impl Fork {
         keeps_heap();
         keeps_pokes();
         keeps_isa();
-        let copy = self.machine.share_ready()?;
+        let copy = self.machine.share_warm()?;
         let machine = run_on(copy, setup, marks, self.step, step, &mut Meter::new())?;
         Ok(Fork { machine, step })
     }
@@ -96,7 +96,7 @@ pub(crate) fn written_copy(machine: &Machine, effect: Effect) -> Result<Machine,
         Effect::Patch { addr, code } | Effect::Anew { addr, code } => poked_copy(
             machine, addr, code,
         ),
-        _ => machine.share_ready(),
+        _ => machine.share_warm(),
     }
 }
 
@@ -216,7 +216,7 @@ impl Trail {
     {
         let kept = self.held_before(effect);
         let place = lesser((kept - 1) as u32, last / SPACING);
-        let copy = self.copy_of(place as usize)?;
+        let copy = self.warm_copy(place as usize)?;
         hidden_until(copy, effect, setup, marks, place * SPACING, last)
     }
 
@@ -253,7 +253,7 @@ impl Trail {
         ensures fork { IfOk result (λ fork. (effect : EffectOf) (last : ℕ) → WritesWhole effect → IsStepOf effect self.now setup.now marks.now last step
             → IsForkOf effect self.now setup.now marks.now last fork) }
     {
-        let copy = self.copy_of((step / SPACING) as usize)?;
+        let copy = self.warm_copy((step / SPACING) as usize)?;
         let mut meter = Meter::new();
         let from = step / SPACING * SPACING;
         let machine = run_on(copy, setup, marks, from, step, &mut meter)?;

@@ -116,7 +116,7 @@ impl Trail {
             return Ok(Vec::new(alloc));
         }
         let place = from / SPACING;
-        let copy = self.copy_of(place as usize)?;
+        let copy = self.warm_copy(place as usize)?;
         let machine = run_on(copy, setup, marks, place * SPACING, from, &mut Meter::new())?;
         happened_from(alloc, machine, setup, marks, from, before, most)
     }

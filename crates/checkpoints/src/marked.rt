@@ -13,7 +13,8 @@ use guest_machine::{Alteration, Machine, Mark, Setup};
 use std::alloc::{AllocError, Global};
 
 impl Trail {
-    /// Returns the machine at a step of the run, after the step's marks. Each step executed for it counts on the trail's meter.
+    /// Returns the machine at a step of the run, after the step's marks. Each step executed for it counts on the trail's meter. This is
+    /// [`Trail::at_altered`] for callers that have marks and no other alterations.
     pub fn at(&mut self, step: u32, setup: &Setup, marks: &[Mark]) -> Result<Machine, AllocError>
         ensures shows { IfOk result (λ machine. (start : State) → IsRightFor self.old start setup.now marks.now
             → Shows machine (post start setup.now marks.now step)) }

@@ -65,7 +65,7 @@ impl Trail {
     {
         let end = lesser(u64::from(range.start) + u64::from(range.len), written);
         let place = self.place_before((step / SPACING) as usize, range.start);
-        let copy = self.copy_of(place)?;
+        let copy = self.warm_copy(place)?;
         collect(
             alloc,
             copy,

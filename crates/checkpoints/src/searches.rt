@@ -70,7 +70,7 @@ impl Trail {
     {
         let _turns = meter.read();
         let mut machine = self.before(from, setup, marks)?;
-        self.make_ready(&mut machine);
+        self.copy_decoded_to(&mut machine);
         let found = next_from(machine, sought, setup, marks, from, end, meter)?;
         Ok(found)
     }
@@ -151,7 +151,7 @@ impl Trail {
     {
         let place = (end - 1) / SPACING;
         let first = later(from, place * SPACING);
-        let copy = self.copy_of(place as usize)?;
+        let copy = self.warm_copy(place as usize)?;
         let machine = run_on(copy, setup, marks, place * SPACING, first, meter)?;
         last_from(machine, sought, setup, marks, first, end, meter)
     }

@@ -64,7 +64,7 @@ impl Trail {
         ensures { IfOk result (λ table. (start : State) → IsRightFor self.now start setup.now marks.now
             → IsSides start setup.now marks.now step range table.items) }
     {
-        let machine = self.copy_of(0)?;
+        let machine = self.warm_copy(0)?;
         let apart = machine.isa().unit();
         let mut table = empty_table(alloc, rows(apart, range.len))?;
         enter_sides(

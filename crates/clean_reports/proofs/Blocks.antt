@@ -7,7 +7,7 @@ use Rattle.shadow_memory.specs.Ranges.{is_in, changed_in}
 use Rattle.shadow_memory.specs.Shadows.{Shadow, shadow_of, made_so}
 use Rattle.shadow_memory.specs.declared.cells.RangeKind.{RangeKind}
 use Rattle.shadow_memory.specs.declared.cells.RangeKind.TheVariants.{NoAccess}
-use Rattle.heap_blocks.specs.declared.block.Block.{Block}
+use Rattle.call_stacks.specs.declared.block.Block.{Block}
 use Rattle.guest_heap.specs.Blocks.{IsPlace, IsKept, Places, allocated, freed_by, with_live, released_at, done_or}
 use Rattle.guest_heap.specs.Steps.{place, after_release, AreInRegion, AreApart}
 use Rattle.guest_heap.specs.declared.released.Released.TheVariants.{Done, Nothing}

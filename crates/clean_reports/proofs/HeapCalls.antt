@@ -15,7 +15,7 @@ use Rattle.shadow_memory.specs.declared.cells.RangeKind.TheVariants.{NoAccess, U
 use Rattle.run_values.specs.declared.span.Span.{Span}
 use Rattle.run_values.specs.declared.status.Stop.TheVariants.{Misaligned}
 use Rattle.memory_map.specs.Regions.{greatest_heap_begin}
-use Rattle.heap_blocks.specs.declared.block.Block.{Block}
+use Rattle.call_stacks.specs.declared.block.Block.{Block}
 use Rattle.guest_elf.specs.declared.hook.Hook.{Hook}
 use Rattle.guest_elf.specs.declared.hook.Hook.TheVariants.{Malloc, Free, Calloc, Realloc}
 use Rattle.guest_heap.specs.Blocks.{Blocks, end_of, greatest_size, IsPlace, Meets, IsKept, Places}

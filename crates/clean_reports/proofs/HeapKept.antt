@@ -10,7 +10,7 @@ use Rattle.shadow_memory.specs.Shadows.{Shadow, copied_undef, loaded_undef, made
 use Rattle.shadow_memory.specs.Shadows.{stored_undef}
 use Rattle.shadow_memory.specs.declared.cells.RangeKind.{RangeKind}
 use Rattle.shadow_memory.specs.declared.cells.RangeKind.TheVariants.{NoAccess, Undefined}
-use Rattle.memory_map.specs.Regions.{greatest_stack_end, heap_size, meet}
+use Rattle.memory_map.specs.Regions.{greatest_stack_end, heap_size, overlap}
 use Rattle.memory_map.specs.declared.regions.StackRegion.{StackRegion}
 use Rattle.guest_heap.specs.Blocks.{Blocks, end_of}
 use Rattle.guest_heap.specs.Steps.{AreApart, AreInRegion}
@@ -60,7 +60,7 @@ open-on : (c e : Core) → LeavesHeap c e → HeapIsOpen c → HeapIsOpen e
 open-on c e l h = record {
   region = subst (λ (x : Blocks). AreInRegion x) (sym l.blocks) h.region;
   apart = subst (λ (x : Blocks). AreApart x) (sym l.blocks) h.apart;
-  beside = ap₂ (λ (x : Blocks) (y : StackRegion). meet x.begin y.begin y.end) l.blocks l.stack ∙ h.beside;
+  beside = ap₂ (λ (x : Blocks) (y : StackRegion). overlap x.begin y.begin y.end) l.blocks l.stack ∙ h.beside;
   stack = subst (λ (y : StackRegion). y.end ≤ greatest_stack_end) (sym l.stack) h.stack;
   fits = λ p b there.
       (let P : Blocks → Type 0 = λ x. p + b.size ≤ end_of x in
@@ -169,9 +169,9 @@ in-stack stack x e =
     (leb-true stack.begin x.value parts.0, leb-true x.value stack.end parts.1)
 
 -- a range of the stack's region has no address of the heap's
-clear-of : (heap begin end low high a : ℕ) → meet heap begin end ≡ false → end ≤ greatest_stack_end → begin ≤ low
+clear-of : (heap begin end low high a : ℕ) → overlap heap begin end ≡ false → end ≤ greatest_stack_end → begin ≤ low
     → low ≤ high → high ≤ end → heap ≤ a → a < heap + heap_size → is_in low (high - low) a ≡ false
-unfolding meet
+unfolding overlap
 clear-of heap begin end low high a apart small over order under l h =
     let none = ltb-false (max heap begin) (min (heap + heap_size) end) apart in
     go none (cases_lt a low)

@@ -8,7 +8,7 @@ use Rattle.std.proofs.lemmas.Bool.{cases_eq}
 use Rattle.shadow_memory.specs.Shadows.{shadow_of}
 use Rattle.shadow_memory.specs.declared.cells.RangeKind.{RangeKind}
 use Rattle.shadow_memory.specs.declared.cells.RangeKind.TheVariants.{Undefined, Defined}
-use Rattle.heap_blocks.specs.declared.block.Block.{Block}
+use Rattle.call_stacks.specs.declared.block.Block.{Block}
 use Rattle.guest_heap.specs.Blocks.{freed_by, done_or}
 use Rattle.guest_heap.specs.Steps.{place}
 use Rattle.guest_heap.specs.declared.released.Released.TheVariants.{Done, Nothing}
@@ -53,9 +53,9 @@ use Rattle.guest_machine.specs.HeapCalls.{placed, carved, block_at, freed, relea
 use Rattle.guest_machine.specs.HeapCalls.{Refuses, Frees, Keeps, Moves, resizing, copied, moved_block, resized}
 use Rattle.guest_machine.specs.HeapCalls.{heap_work, heap_call}
 use Rattle.guest_machine.specs.NamedCalls.{named_by, returns, returned_to, return_address}
-use Rattle.guest_machine.specs.Exec.{Deed, Takes, Cut, CallsByName, Halts, Terms, outcome, row_effect, word_fault}
+use Rattle.guest_machine.specs.Exec.{Action, Takes, Cut, CallsByName, Halts, Terms, outcome, row_effect, word_fault}
 use Rattle.guest_machine.specs.Exec.{call_effect, unfetched, jump_fault, is_running}
-use Rattle.guest_machine.specs.Exec.{fetch_fault, deed_at, exec, effect_at, outcome_at}
+use Rattle.guest_machine.specs.Exec.{fetch_fault, action_at, exec, effect_at, outcome_at}
 use Rattle.guest_machine.specs.declared.setup.Setup.{Setup}
 use Rattle.clean_reports.proofs.Blocks.{allocated-open, allocated-closed, released-open}
 use Rattle.clean_reports.proofs.Blocks.{released-closed}
@@ -369,21 +369,21 @@ fault-left : (c : Core) (fault : Option ℕ) → LeavesHeap c (jump_fault c faul
 fault-left c None = as-is c
 fault-left c (Some n) = record { blocks = refl; stack = refl; same = λ a low high. refl }
 
-deeds : (b : Bool) (c : Core) → Stands b c → (terms : Terms) (deed : Deed) (given : List ℕ) (taken : ℕ → ℕ)
-    → Stands b (outcome c terms deed given taken).core
-deeds b c h terms (Takes code) given taken =
+actions : (b : Bool) (c : Core) → Stands b c → (terms : Terms) (action : Action) (given : List ℕ) (taken : ℕ → ℕ)
+    → Stands b (outcome c terms action given taken).core
+actions b c h terms (Takes code) given taken =
     let next = next_of c (len_of code) in
     let row = rows b c h next terms given taken (row_of_code code) in
     on b (row_effect c next (row_of_code code) terms given taken).core _
     (rules (row_effect c next (row_of_code code) terms given taken).core (register c 2) row.0) row
-deeds b c h terms Cut given taken = on b c _ (fault-left c (word_fault c)) h
-deeds b c h terms (CallsByName function) given taken =
+actions b c h terms Cut given taken = on b c _ (fault-left c (word_fault c)) h
+actions b c h terms (CallsByName function) given taken =
     named-calls b (returns c) function c h terms.redzone terms.volume taken
-deeds b c h terms Halts given taken = on b c _ (none-taken c) h
+actions b c h terms Halts given taken = on b c _ (none-taken c) h
 
 pub steps : (b : Bool) (setup : Setup) (s : State) → Stands b s.core → Stands b (exec s setup).core
 unfolding exec effect_at outcome_at
 steps b setup s h =
     let effect = outcome_at s.core s.bytes s.position (length s.output) setup in
     on b effect.core _ (record { blocks = refl; stack = refl; same = λ a low high. refl })
-    (deeds b s.core h _ (deed_at s.core s.bytes setup.hooks) _ _)
+    (actions b s.core h _ (action_at s.core s.bytes setup.hooks) _ _)

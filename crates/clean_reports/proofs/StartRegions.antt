@@ -4,7 +4,7 @@ use Rattle.std.proofs.Common.{arith, inl, inr}
 use Rattle.std.specs.Prelude.{not}
 use Rattle.std.proofs.lemmas.Bool.{and_parts, cases_lt, false≢true, leb-true, ltb-false}
 use Rattle.memory_map.specs.Regions.{greatest_heap_begin, greatest_stack_end, heap_size, is_heap_begin}
-use Rattle.memory_map.specs.Regions.{is_stack_region, meet}
+use Rattle.memory_map.specs.Regions.{is_stack_region, overlap}
 use Rattle.memory_map.specs.declared.regions.Regions.{Regions}
 use Rattle.shadow_memory.specs.Ranges.{is_in}
 use Rattle.guest_heap.proofs.Beginnings.{beginning}
@@ -14,7 +14,7 @@ pub record Lie (regions : Regions) : Type 0 where
   pub grid : regions.heap % 16 ≡ 0
   pub some : 0 < regions.heap
   pub within : regions.heap ≤ greatest_heap_begin
-  pub beside : meet regions.heap regions.stack.begin regions.stack.end ≡ false
+  pub beside : overlap regions.heap regions.stack.begin regions.stack.end ≡ false
   pub long : regions.stack.begin + 65536 ≤ regions.stack.end
   pub end : regions.stack.end ≤ greatest_stack_end
 
@@ -36,15 +36,15 @@ lie regions =
       grid = at.grid;
       some = at.some;
       within = at.within;
-      beside = not-so (meet heap stack.begin stack.end) rest.1;
+      beside = not-so (overlap heap stack.begin stack.end) rest.1;
       long = leb-true (stack.begin + 65536) stack.end lengths.0;
       end = leb-true stack.end greatest_stack_end lengths.1;
     }
 
 -- the bytes at the first stack pointer are none of the heap's region
-pub start-clear : (heap begin end a : ℕ) → meet heap begin end ≡ false → begin + 65536 ≤ end
+pub start-clear : (heap begin end a : ℕ) → overlap heap begin end ≡ false → begin + 65536 ≤ end
     → end ≤ greatest_stack_end → heap ≤ a → a < heap + heap_size → is_in (end - 16) 16 a ≡ false
-unfolding meet
+unfolding overlap
 start-clear heap begin end a apart long small low high =
     go (ltb-false (max heap begin) (min (heap + heap_size) end) apart) (cases_lt a (end - 16))
   where

@@ -17,13 +17,14 @@ use Rattle.guest_machine.specs.Errors.{here, fetch_undef, fetch_errors}
 use Rattle.guest_machine.specs.Effects.{Effect, next_of, quiet, stops}
 use Rattle.guest_machine.specs.StackPointer.{stack_ruled}
 use Rattle.guest_machine.specs.NamedCalls.{returns, named_by}
-use Rattle.guest_machine.specs.Exec.{Deed, Takes, Cut, CallsByName, Halts, Terms, terms_of, deed_terms, plan, outcome}
+use Rattle.guest_machine.specs.Exec.{Action, Takes, Cut, CallsByName, Halts, Terms, terms_of, action_terms, plan}
+use Rattle.guest_machine.specs.Exec.{outcome}
 use Rattle.guest_machine.specs.Exec.{rounded}
-use Rattle.guest_machine.specs.Exec.{is_heap_deed, given_at, taken_from, written_to, named_uses_by, unfetched}
+use Rattle.guest_machine.specs.Exec.{is_heap_action, given_at, taken_from, written_to, named_uses_by, unfetched}
 use Rattle.guest_machine.specs.Exec.{jump_fault, is_running, fetch_fault, fetches, fetched, called_here}
-use Rattle.guest_machine.specs.Exec.{deed_by, fetch_by, half_at, word_at, word_fault}
+use Rattle.guest_machine.specs.Exec.{action_by, fetch_by, half_at, word_at, word_fault}
 use Rattle.guest_machine.proofs.Fetching.{half-by-word, two_there}
-use Rattle.guest_machine.specs.Exec.{deed_at, exec, intake_at, uses_at, effect_at, outcome_at, seen_also, counted}
+use Rattle.guest_machine.specs.Exec.{action_at, exec, intake_at, uses_at, effect_at, outcome_at, seen_also, counted}
 use Rattle.guest_machine.specs.Exec.{stepped}
 use Rattle.guest_machine.specs.declared.setup.Setup.{Setup}
 use Rattle.clean_reports.specs.Agreement.{ControlsAgree, RegistersAgree, MemoriesAgree, StatesAgree}
@@ -79,28 +80,30 @@ module _ (c : Core) (qs : Held) (a : HeldAgree (held-of c) qs) (f g : ℕ → �
       go false d o = record { registers = qs; core = refl; agree = a; raised = refl; output = refl; memory = m }
 
   -- the effect of a step, by what it does
-  abbrev deed-leaves : Core → Deed → (ℕ → ℕ) → Effect
-  deed-leaves d deed h =
-      let terms = deed_terms d deed position written setup in
-      outcome d terms deed (given_at position terms.intake.count setup) (taken_from h (plan d terms deed).reads)
+  abbrev action-leaves : Core → Action → (ℕ → ℕ) → Effect
+  action-leaves d action h =
+      let terms = action_terms d action position written setup in
+      outcome d terms action (given_at position terms.intake.count setup) (taken_from h (plan d terms action).reads)
 
-  abbrev DeedsAgree : Deed → Type 0
-  DeedsAgree deed =
-      BothAgree f g (is_heap_deed c deed) (is_heap_deed (swap c qs) deed) (deed_terms c deed position written setup)
-      (deed_terms (swap c qs) deed position written setup)
-      (plan c (deed_terms c deed position written setup) deed).writes
-      (plan (swap c qs) (deed_terms (swap c qs) deed position written setup) deed).writes (deed-leaves c deed f)
-      (deed-leaves (swap c qs) deed g)
+  abbrev ActionsAgree : Action → Type 0
+  ActionsAgree action =
+      BothAgree f g (is_heap_action c action) (is_heap_action (swap c qs) action)
+      (action_terms c action position written setup)
+      (action_terms (swap c qs) action position written setup)
+      (plan c (action_terms c action position written setup) action).writes
+      (plan (swap c qs) (action_terms (swap c qs) action position written setup) action).writes
+      (action-leaves c action f)
+      (action-leaves (swap c qs) action g)
 
-  pub deeds-agree : (deed : Deed) → NoUse (deed-leaves c deed f).raised → DeedsAgree deed
-  deeds-agree (Takes code) none =
+  pub actions-agree : (action : Action) → NoUse (action-leaves c action f).raised → ActionsAgree action
+  actions-agree (Takes code) none =
       let len = len_of code in
       let r = row-agrees c qs a f g m opened position written setup bytes (next_of c len)
       (mod_below (c.pc + len) (2 ^ 32) (omega arith)) (row_of_code code) (code-small code)
       (right-none (fetch_errors c len) _ none) in
       record { heap = r.heap; terms = r.terms; effects = rounds len _ _ _ _ r.effects }
-  deeds-agree Cut none = record { heap = refl; terms = refl; effects = cut-fetched (word_fault c) }
-  deeds-agree (CallsByName function) none =
+  actions-agree Cut none = record { heap = refl; terms = refl; effects = cut-fetched (word_fault c) }
+  actions-agree (CallsByName function) none =
       let one = named-first (returns c) c function _ _ _ none in
       let same : returns c ≡ returns (swap c qs) = ap (is_aligned c.isa) (same-return c qs a one) in
       subst (λ (b : Bool). BothAgree f g (returns c) b (terms_of (returns c) None position written setup)
@@ -120,7 +123,7 @@ module _ (c : Core) (qs : Held) (a : HeldAgree (held-of c) qs) (f g : ℕ → �
         terms = refl;
         effects = named-calls c qs a f g m opened function _ _ (returns c) none;
       })
-  deeds-agree Halts none = record { heap = refl; terms = refl; effects = none-fetched }
+  actions-agree Halts none = record { heap = refl; terms = refl; effects = none-fetched }
 
   undefined-none : (len : ℕ) (es : List Event) → NoUse (fetch_errors c len ++ es) → fetch_undef c len ≡ 0
   undefined-none len es none =
@@ -128,13 +131,13 @@ module _ (c : Core) (qs : Held) (a : HeldAgree (held-of c) qs) (f g : ℕ → �
       (no-event (fetch_undef c len == 0) (here c) Value refl (left-none (fetch_errors c len) es none))
 
   -- what is fetched is the same, since all of it that decides that is defined
-  fetched-same : NoUse (deed-leaves c (fetched c f) f).raised → fetched c f ≡ fetched (swap c qs) g
+  fetched-same : NoUse (action-leaves c (fetched c f) f).raised → fetched c f ≡ fetched (swap c qs) g
   unfolding fetched fetches
   fetched-same none = go (fetches c) (is_half c.isa (half_at c f)) (word_fault c) refl refl refl none
     where
       go : (may short : Bool) (fault : Option ℕ) → fetches c ≡ may → is_half c.isa (half_at c f) ≡ short
           → word_fault c ≡ fault
-          → NoUse (deed-leaves c (fetch_by may short (is_none fault) (half_at c f) (word_at c f)) f).raised
+          → NoUse (action-leaves c (fetch_by may short (is_none fault) (half_at c f) (word_at c f)) f).raised
           → fetch_by may short (is_none fault) (half_at c f) (word_at c f)
           ≡ fetch_by may (is_half c.isa (half_at c g)) (is_none fault) (half_at c g) (word_at c g)
       go false short fault e k n none = refl
@@ -154,22 +157,22 @@ module _ (c : Core) (qs : Held) (a : HeldAgree (held-of c) qs) (f g : ℕ → �
           (sym (ap (is_half c.isa) (sym half) ∙ k))
 
   -- both steps do the same
-  deed-same : NoUse (deed-leaves c (deed_at c f setup.hooks) f).raised
-      → deed_at c f setup.hooks ≡ deed_at (swap c qs) g setup.hooks
+  action-same : NoUse (action-leaves c (action_at c f setup.hooks) f).raised
+      → action_at c f setup.hooks ≡ action_at (swap c qs) g setup.hooks
   unfolding called_here
-  deed-same none = go (called_here c setup.hooks) none
+  action-same none = go (called_here c setup.hooks) none
     where
-      go : (function : Option Hook) → NoUse (deed-leaves c (deed_by function (fetched c f)) f).raised
-          → deed_by function (fetched c f) ≡ deed_by function (fetched (swap c qs) g)
+      go : (function : Option Hook) → NoUse (action-leaves c (action_by function (fetched c f)) f).raised
+          → action_by function (fetched c f) ≡ action_by function (fetched (swap c qs) g)
       go (Some function) none = refl
       go None none = fetched-same none
 
 -- the state after a step, by what it does
-abbrev after : State → Setup → Deed → State
-after s setup deed =
-    let terms = deed_terms s.core deed s.position (length s.output) setup in
-    let uses = plan s.core terms deed in
-    let effect = outcome s.core terms deed (given_at s.position terms.intake.count setup)
+abbrev after : State → Setup → Action → State
+after s setup action =
+    let terms = action_terms s.core action s.position (length s.output) setup in
+    let uses = plan s.core terms action in
+    let effect = outcome s.core terms action (given_at s.position terms.intake.count setup)
     (taken_from s.bytes uses.reads) in
     record {
       bytes = written_to s.bytes uses.writes effect.made;
@@ -177,11 +180,11 @@ after s setup deed =
       position = s.position + terms.intake.count;
       end_seen = seen_also s.end_seen terms.intake.ends;
       output = s.output ++ effect.output;
-      heap_calls = counted s.heap_calls (is_heap_deed s.core deed);
+      heap_calls = counted s.heap_calls (is_heap_action s.core action);
       events = s.events ++ effect.raised;
     }
 
-exec-is : (s : State) (setup : Setup) → exec s setup ≡ after s setup (deed_at s.core s.bytes setup.hooks)
+exec-is : (s : State) (setup : Setup) → exec s setup ≡ after s setup (action_at s.core s.bytes setup.hooks)
 unfolding exec intake_at uses_at effect_at outcome_at
 exec-is s setup = refl
 
@@ -192,16 +195,16 @@ module _ (setup : Setup) (s : State) (qs : Held) (g : ℕ → ℕ) (bytes : HasB
   abbrev other : State
   other = record s { bytes = g; core = swap s.core qs }
 
-  agree-after : (deed : Deed) → NoUse (after s setup deed).events
-      → StatesAgree (after s setup deed) (after other setup deed)
-  agree-after deed none =
-      let d = deeds-agree s.core qs a s.bytes g m opened s.position (length s.output) setup bytes deed
+  agree-after : (action : Action) → NoUse (after s setup action).events
+      → StatesAgree (after s setup action) (after other setup action)
+  agree-after action none =
+      let d = actions-agree s.core qs a s.bytes g m opened s.position (length s.output) setup bytes action
       (right-none s.events _ none) in
       let x = d.effects in
       record {
         memory = x.memory;
         registers = subst (λ (k : Core). RegistersAgree
-            (after s setup deed).core.registers k.registers) (sym x.core) x.agree.registers;
+            (after s setup action).core.registers k.registers) (sym x.core) x.agree.registers;
         shadow = ap (λ (k : Core). k.shadow) (sym x.core);
         pc = ap (λ (k : Core). k.pc) (sym x.core);
         status = ap (λ (k : Core). k.status) (sym x.core);
@@ -212,7 +215,7 @@ module _ (setup : Setup) (s : State) (qs : Held) (g : ℕ → ℕ) (bytes : HasB
         limits = ap (λ (k : Core). k.limits) (sym x.core);
         reserved = ap (λ (k : Core). k.reserved) (sym x.core);
         controls = subst (λ (k : Core). ControlsAgree
-            (after s setup deed).core.controls k.controls) (sym x.core) x.agree.controls;
+            (after s setup action).core.controls k.controls) (sym x.core) x.agree.controls;
         steps = ap (λ (k : Core). (stepped s.core k).steps) (sym x.core);
         position = ap (λ (t : Terms). s.position + t.intake.count) d.terms;
         end_seen = ap (λ (t : Terms). seen_also s.end_seen t.intake.ends) d.terms;
@@ -224,11 +227,11 @@ module _ (setup : Setup) (s : State) (qs : Held) (g : ℕ → ℕ) (bytes : HasB
   steps : NoUse (exec s setup).events → StatesAgree (exec s setup) (exec other setup)
   steps none =
       let none' = subst (λ (t : State). NoUse t.events) (exec-is s setup) none in
-      let same = deed-same s.core qs a s.bytes g m opened s.position (length s.output) setup bytes
+      let same = action-same s.core qs a s.bytes g m opened s.position (length s.output) setup bytes
       (right-none s.events _ none') in
       subst₂ StatesAgree (sym (exec-is s setup))
       (ap (after other setup) same ∙ sym (exec-is other setup))
-      (agree-after (deed_at s.core s.bytes setup.hooks) none')
+      (agree-after (action_at s.core s.bytes setup.hooks) none')
 
 -- the law of a step under one setup
 abbrev pub StepAgrees : Setup → Type 0

@@ -1,9 +1,9 @@
 -- What may be accessed in the heap region: the bytes of the live blocks, and no others.
 use Rattle.std.specs.Prelude.{◌≡◌, ℕ, ◌+◌, ◌<◌, ◌≤◌, Some, true, false}
-use Rattle.heap_blocks.specs.declared.block.Block.{Block}
+use Rattle.call_stacks.specs.declared.block.Block.{Block}
 use Rattle.guest_heap.specs.Steps.{AreInRegion, AreApart}
 use Rattle.guest_heap.specs.Blocks.{end_of}
-use Rattle.memory_map.specs.Regions.{greatest_stack_end, meet}
+use Rattle.memory_map.specs.Regions.{greatest_stack_end, overlap}
 use Rattle.shadow_memory.specs.Ranges.{above}
 use Rattle.guest_machine.specs.State.{Core}
 
@@ -17,7 +17,7 @@ pub record BlocksAreOpen (core : Core) : Type 0 where
 -- heap's
 pub record HeapIsOpen (core : Core) : Type 0 where
   pub region : AreInRegion core.blocks
-  pub beside : meet core.blocks.begin core.stack.begin core.stack.end ≡ false
+  pub beside : overlap core.blocks.begin core.stack.begin core.stack.end ≡ false
   pub stack : core.stack.end ≤ greatest_stack_end
   pub apart : AreApart core.blocks
   pub fits : (p : ℕ) (b : Block) → core.blocks.live p ≡ Some b → p + b.size ≤ end_of core.blocks

@@ -11,12 +11,12 @@ use Rattle.clap.specs.Simple.{on_top}
 use Rattle.clap.specs.declared.builder.ValueParser.TheVariants.{Signed}
 use Rattle.clap.specs.declared.builder.action.ArgAction.TheVariants.{SetTrue}
 use Rattle.command_line.specs.declared.order.Order.{Order}
-use Rattle.command_line.specs.declared.order.ProfileWords.{ProfileWords}
-use Rattle.command_line.specs.declared.order.SweepWords.{SweepWords}
+use Rattle.command_line.specs.declared.order.ProfileArgs.{ProfileArgs}
+use Rattle.command_line.specs.declared.order.SweepArgs.{SweepArgs}
 use Rattle.command_line.specs.declared.order.Task.{Task}
 use Rattle.command_line.specs.declared.order.Task.TheVariants.{Report, Session, Look, Tries, Sweep, Certify}
 use Rattle.command_line.specs.declared.order.Task.TheVariants.{Exec}
-use Rattle.command_line.specs.declared.order.ExecWords.{ExecWords}
+use Rattle.command_line.specs.declared.order.ExecArgs.{ExecArgs}
 
 -- the greatest step of a report (this project's limit)
 abbrev pub greatest_step : ℕ
@@ -225,7 +225,7 @@ abbrev pub text_of : Option (Bor Text) → Option Text
 text_of given = option_map (λ text. text.now) given
 
 -- the arguments of `sweep`, from what was found
-pub record IsSweepOf (rows : List Row) (asked : SweepWords) : Type 0 where
+pub record IsSweepOf (rows : List Row) (asked : SweepArgs) : Type 0 where
   pub step : IsStepOf rows asked.step
   pub bytes : text_of asked.bytes ≡ first_of (codes "bytes") rows
   pub byte_values : Some asked.byte_values.now ≡ first_of (codes "values") rows
@@ -240,7 +240,7 @@ pub record IsSweepOf (rows : List Row) (asked : SweepWords) : Type 0 where
   pub with_sides : IsFlagOf (codes "sides") rows asked.with_sides
 
 -- the arguments of what was found for those of `exec`
-pub record IsExecOf (rows : List Row) (asked : ExecWords) : Type 0 where
+pub record IsExecOf (rows : List Row) (asked : ExecArgs) : Type 0 where
   pub step : IsStepOf rows asked.step
   pub patches : text_of asked.patches ≡ first_of (codes "patch") rows
   pub report : text_of asked.report ≡ first_of (codes "report") rows
@@ -273,7 +273,7 @@ IsTaskOf name rows Session =
     × (bytes_eq name (codes "certify") ≡ false) × (bytes_eq name (codes "exec") ≡ false)
 
 -- what a file is read for, of what was found
-pub record IsProfileOf (rows : List Row) (asked : ProfileWords) : Type 0 where
+pub record IsProfileOf (rows : List Row) (asked : ProfileArgs) : Type 0 where
   pub isa : Some asked.isa.now ≡ first_of (codes "isa") rows
   pub heap : Some asked.heap.now ≡ first_of (codes "heap-region") rows
   pub stack : Some asked.stack.now ≡ first_of (codes "stack-region") rows

@@ -9,7 +9,7 @@ use crate::help::{
     ABOUT, AFTER_CERTIFY, AFTER_LOOK, AFTER_RUN, AFTER_SESSION, AFTER_SWEEP, AFTER_TRIES, CERTIFY,
     LOOK, RUN, SESSION, SWEEP, TRIES,
 };
-use crate::order::{Order, ProfileWords, SweepWords, Task};
+use crate::order::{Order, ProfileArgs, SweepArgs, Task};
 use clap::error::ErrorKind;
 use clap::{Arg, ArgAction, ArgMatches, Command, Error, value_parser};
 use std::alloc::{AllocError, Global};
@@ -338,10 +338,10 @@ pub(crate) fn step_of(chosen: &ArgMatches<'_>) -> Option<u32>
 }
 
 /// The words of what was found for the arguments of `sweep`.
-fn sweep_of<'a>(chosen: &ArgMatches<'a>) -> Option<SweepWords<'a>>
+fn sweep_of<'a>(chosen: &ArgMatches<'a>) -> Option<SweepArgs<'a>>
     ensures { IfSome result (IsSweepOf (rows_of (found_of chosen.now))) }
 {
-    Some(SweepWords {
+    Some(SweepArgs {
         step: step_of(chosen)?,
         bytes: chosen.get_str("bytes"),
         byte_values: chosen.get_str("values")?,
@@ -379,10 +379,10 @@ fn task_of<'a>(name: &str, chosen: &ArgMatches<'a>) -> Option<Task<'a>>
 }
 
 /// What a program's file is read for, of what was found for the arguments of a command.
-fn profile_of<'a>(chosen: &ArgMatches<'a>) -> Option<ProfileWords<'a>>
+fn profile_of<'a>(chosen: &ArgMatches<'a>) -> Option<ProfileArgs<'a>>
     ensures { IfSome result (IsProfileOf (rows_of (found_of chosen.now))) }
 {
-    Some(ProfileWords {
+    Some(ProfileArgs {
         isa: chosen.get_str("isa")?,
         heap: chosen.get_str("heap-region")?,
         stack: chosen.get_str("stack-region")?,

@@ -6,7 +6,7 @@ ghost use Rattle.command_line.specs.Orders.{default_number, exec_command, exec_l
 
 use crate::arguments::{default_option, option, program_command, step_of};
 use crate::help::{AFTER_EXEC, EXEC};
-use crate::order::ExecWords;
+use crate::order::ExecArgs;
 use clap::{Arg, ArgAction, ArgMatches, Command, value_parser};
 use std::alloc::{AllocError, Global};
 
@@ -161,10 +161,10 @@ pub(crate) fn number_in(name: &str, chosen: &ArgMatches<'_>) -> Option<Option<u3
 }
 
 /// The arguments of `exec`, of what was found for them.
-pub(crate) fn exec_of<'a>(chosen: &ArgMatches<'a>) -> Option<ExecWords<'a>>
+pub(crate) fn exec_of<'a>(chosen: &ArgMatches<'a>) -> Option<ExecArgs<'a>>
     ensures { IfSome result (IsExecOf (rows_of (found_of chosen.now))) }
 {
-    Some(ExecWords {
+    Some(ExecArgs {
         step: step_of(chosen)?,
         patches: chosen.get_str("patch"),
         report: chosen.get_str("report"),

@@ -2,7 +2,7 @@
 //!
 //! | Call | What it returns |
 //! |---|---|
-//! | [`read_order`] | the [`Order`] of the arguments, with its [`Task`], the [`ProfileWords`] as they were given and, for a sweep, the [`SweepWords`], for `exec` the [`ExecWords`]; or the error of `clap`, whose kind says whether help, the version or a fault is shown |
+//! | [`read_order`] | the [`Order`] of the arguments, with its [`Task`], the [`ProfileArgs`] as they were given and, for a sweep, the [`SweepArgs`], for `exec` the [`ExecArgs`]; or the error of `clap`, whose kind says whether help, the version or a fault is shown |
 //! | [`MOST_STEPS`] | the greatest step of a report |
 //! | [`isa_named`], [`isa_name`] | the instruction set of a name, if it is one, and the name of an instruction set |
 //!
@@ -21,4 +21,4 @@ mod order;
 
 pub use arguments::{MOST_STEPS, read_order};
 pub use isa::{isa_name, isa_named};
-pub use order::{ExecWords, Order, ProfileWords, SweepWords, Task};
+pub use order::{ExecArgs, Order, ProfileArgs, SweepArgs, Task};

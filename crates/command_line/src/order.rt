@@ -10,14 +10,14 @@ pub struct Order<'a> {
     /// The file of suppressions.
     pub suppressions: Option<&'a str>,
     /// What the program's file is read for.
-    pub profile: ProfileWords<'a>,
+    pub profile: ProfileArgs<'a>,
     /// The command.
     pub task: Task<'a>,
 }
 
 /// What a program's file is read for, as it was given.
 #[derive(Clone, Copy)]
-pub struct ProfileWords<'a> {
+pub struct ProfileArgs<'a> {
     /// The name of the instruction set.
     pub isa: &'a str,
     /// Where the heap's region begins.
@@ -42,16 +42,16 @@ pub enum Task<'a> {
     /// A session that can also be looked at, and in which inputs are tried.
     Tries,
     /// Every edit, one at a time.
-    Sweep(SweepWords<'a>),
+    Sweep(SweepArgs<'a>),
     /// Whether the run is clean up to a step, or up to the greatest one if none was given.
     Certify(Option<u32>),
     /// The run itself, with its output and its exit status.
-    Exec(ExecWords<'a>),
+    Exec(ExecArgs<'a>),
 }
 
 /// The arguments that say which edits are tried, as they were given.
 #[derive(Clone, Copy)]
-pub struct SweepWords<'a> {
+pub struct SweepArgs<'a> {
     /// The step of the outcomes.
     pub step: u32,
     /// Which bytes of the input are edited.
@@ -80,7 +80,7 @@ pub struct SweepWords<'a> {
 
 /// The arguments that say how a program is executed and what is said of it.
 #[derive(Clone, Copy)]
-pub struct ExecWords<'a> {
+pub struct ExecArgs<'a> {
     /// The last step.
     pub step: u32,
     /// The words that are written into the program before the run: `ADDR=WORD`, with commas between them.

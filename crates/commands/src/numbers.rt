@@ -3,7 +3,7 @@ ghost use Rattle.std.specs.Prelude.{◌≡◌, ◌≤◌};
 ghost use Rattle.std.specs.Char.{digit_value};
 ghost use Rattle.commands.specs.Commands.{number_in, number, small, short, one_number};
 
-use text_parts::Parts;
+use texts::Parts;
 
 /// Returns the value of a digit or a letter, in either case, and 36 for another byte.
 pub fn digit_value(b: u8) -> u64

@@ -11,7 +11,7 @@ use run_values::{Act, Alteration};
 use shadow_memory::RangeKind;
 use std::alloc::Global;
 use suppressions::{LeakKinds, SuppFault, Suppression};
-use text_parts::Parts;
+use texts::Parts;
 
 const DEFINED: &[u8] = b"defined";
 

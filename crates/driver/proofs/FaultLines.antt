@@ -11,7 +11,7 @@ use Rattle.std.proofs.lemmas.List.Splits.{slice_split_at, slice_split_none}
 use Rattle.report_lines.specs.Text.{address_text}
 use Rattle.commands.specs.Commands.{fields}
 use Rattle.commands.specs.declared.command.Command.TheVariants.{Edit}
-use Rattle.line_server.specs.Lines.{longest_line}
+use Rattle.line_protocol.specs.Lines.{longest_line}
 use Rattle.look_lines.specs.Alterations.{act_of, alteration_asked, alters, alters_among, flip_at, flip_of, register_of}
 use Rattle.look_lines.specs.Alterations.{set_of, set_to, skip_of}
 use Rattle.looks.specs.Views.{looks, read_as}

@@ -8,7 +8,7 @@ use Rattle.report_lines.specs.Text.{address_text}
 use Rattle.commands.specs.Commands.{command_of, fields, has_empty, input_of, input_with, number, parsed, patch_of}
 use Rattle.commands.specs.Commands.{patch_half_of, patch_half_with, patch_with, replace_of, taken}
 use Rattle.replay_session.specs.Turns.{Turn, accepted, after, if_command, line_refusal, most_lines}
-use Rattle.line_server.specs.Lines.{longest_line}
+use Rattle.line_protocol.specs.Lines.{longest_line}
 use Rattle.sweeps.specs.Tables.{change_text, half_text}
 use Rattle.sweep_plans.specs.declared.change.Change.TheVariants.{Byte, Word, Half}
 use Rattle.driver.specs.Laws.{RowsAreLines}

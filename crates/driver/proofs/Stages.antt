@@ -5,31 +5,31 @@ use Rattle.std.proofs.KnownBytes.{Appends-nil, Consumes-nil}
 use Rattle.std.specs.Io.KnownBytes.{Appends, Consumes}
 use Rattle.command_line.specs.Orders.{input_path, rules_path}
 use Rattle.command_line.specs.declared.order.Order.{Order}
-use Rattle.command_line.specs.declared.order.SweepWords.{SweepWords}
+use Rattle.command_line.specs.declared.order.SweepArgs.{SweepArgs}
 use Rattle.guest_elf.specs.File.{IsImageFor, early_refusal, refusal}
 use Rattle.guest_elf.specs.declared.fault.ElfFault.{ElfFault}
 use Rattle.guest_elf.specs.declared.fault.ElfFault.TheVariants.{Memory}
 use Rattle.guest_elf.specs.declared.image.Image.{Image as ProgramImage}
 use Rattle.guest_elf.specs.declared.profile.Profile.{Profile}
-use Rattle.line_server.specs.Lines.{closed_lines}
-use Rattle.line_server.specs.Answers.{Relation, joined}
-use Rattle.line_server.specs.Served.{ServedAll, ServedRead, StoppedBy}
-use Rattle.line_server.specs.declared.fault.ServeFault.{ServeFault}
-use Rattle.line_server.specs.declared.fault.ServeFault.TheVariants.{ReadFailed, WriteFailed, Endless}
-use Rattle.line_server.specs.declared.fault.ServeFault.TheVariants.{NoMemory as ServedNoMemory}
+use Rattle.line_protocol.specs.Lines.{closed_lines}
+use Rattle.line_protocol.specs.Answers.{Relation, joined}
+use Rattle.line_protocol.specs.Served.{ServedAll, ServedRead, StoppedBy}
+use Rattle.line_protocol.specs.declared.fault.ServeFault.{ServeFault}
+use Rattle.line_protocol.specs.declared.fault.ServeFault.TheVariants.{ReadFailed, WriteFailed, Endless}
+use Rattle.line_protocol.specs.declared.fault.ServeFault.TheVariants.{NoMemory as ServedNoMemory}
 use Rattle.driver.specs.Carried.{Carried, CarriedWithImage, Does, Reports, Serves}
 use Rattle.program_files.specs.Files.{Giving, HasInput, HasRules, IsFront, NoBytes, NoImage, NoProgram, Streams}
 use Rattle.program_files.specs.Files.{Untouched, most_judged, streams}
 use Rattle.program_files.specs.Profiles.{IsProfileNamed}
-use Rattle.command_line.specs.declared.order.ProfileWords.{ProfileWords}
-use Rattle.ends.specs.Ends.{end_of_serve}
+use Rattle.command_line.specs.declared.order.ProfileArgs.{ProfileArgs}
+use Rattle.exit_status.specs.Ends.{end_of_serve}
 use Rattle.driver.specs.Certified.{Certifies}
 use Rattle.driver.specs.Once.{IsReportOnce}
 use Rattle.driver.specs.Sweeping.{SweepsImage, SweepsRequest}
 use Rattle.driver.specs.declared.carrying.Action.{Action}
 use Rattle.driver.specs.declared.carrying.Action.TheVariants.{Report, Certify}
-use Rattle.ends.specs.declared.ends.End.{End}
-use Rattle.ends.specs.declared.ends.End.TheVariants.{Done, Image}
+use Rattle.exit_status.specs.declared.ends.End.{End}
+use Rattle.exit_status.specs.declared.ends.End.TheVariants.{Done, Image}
 use Rattle.sweep_plans.specs.declared.request.Request.{Request}
 use Rattle.checkpoints.specs.Trails.{is_short}
 use Rattle.checkpoints.specs.Work.{Work}
@@ -46,7 +46,7 @@ pub untouched : (left held : Option (List ℕ)) → Untouched (streams left held
 untouched left held = (Consumes-nil left, Appends-nil held)
 
 -- a file that was read for a named instruction set, and that is rejected
-pub no-image : {T : Type 0} (gives : Giving) (words : ProfileWords) (path front bytes : List ℕ) (profile : Profile)
+pub no-image : {T : Type 0} (gives : Giving) (words : ProfileArgs) (path front bytes : List ℕ) (profile : Profile)
     (fault : ElfFault) → IsProfileNamed words profile → IsFront gives path most_judged front → bytes ≡ front
     → ((fault ≡ Memory) ⊎ (refusal profile.regions bytes ≡ Some fault))
     → ((early : ElfFault) → early_refusal bytes ≡ Some early → ◌≡◌ {A = Result T ElfFault} (Err fault) (Err early))
@@ -180,14 +180,14 @@ no-program : (gives : Giving) (profile : Profile) (path : List ℕ) (end : End) 
 no-program gives profile path (Image fault) none = absurd none
 no-program gives profile path end none = none
 
-pub no-file : (gives : Giving) (words : ProfileWords) (path : List ℕ) (profile : Profile) (end : End)
+pub no-file : (gives : Giving) (words : ProfileArgs) (path : List ℕ) (profile : Profile) (end : End)
     → IsProfileNamed words profile → NoBytes gives path end → NoImage gives words path end
 no-file gives words path profile end named none =
     inr (profile, named, no-program gives profile path end none)
 
 -- where the file gives a program, the outcome of a sweep of it is that of the request; the bytes as they were read, as
 -- the program was read from them, and as they are swept
-pub with-program : (gives : Giving) (order : Order) (words : SweepWords) (request : Request) (profile : Profile)
+pub with-program : (gives : Giving) (order : Order) (words : SweepArgs) (request : Request) (profile : Profile)
     (front bytes file : List ℕ) (image : ProgramImage) (old : Streams) (held : Option (List ℕ)) (end : End)
     → IsProfileNamed order.profile profile
     → IsFront gives order.file.now most_judged front → bytes ≡ front → IsImageFor profile bytes image → file ≡ front

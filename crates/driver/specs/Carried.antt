@@ -7,22 +7,22 @@ use Rattle.program_files.specs.Files.{Giving, HasImage, HasInput, HasRules, NoIm
 use Rattle.program_files.specs.Files.{Untouched}
 use Rattle.command_line.specs.declared.order.Order.{Order}
 use Rattle.guest_elf.specs.declared.image.Image.{Image as ProgramImage}
-use Rattle.line_server.specs.Answers.{Relation}
-use Rattle.line_server.specs.Served.{ServedAll, ServedRead, StoppedBy}
+use Rattle.line_protocol.specs.Answers.{Relation}
+use Rattle.line_protocol.specs.Served.{ServedAll, ServedRead, StoppedBy}
 use Rattle.scenario.specs.Limits.{longest_input}
 use Rattle.replay_session.specs.Replies.{Answers}
 use Rattle.replay_session.specs.Stages.{fresh}
 use Rattle.replay_session.specs.Turns.{opening}
-use Rattle.line_server.specs.declared.fault.ServeFault.TheVariants.{ReadFailed, WriteFailed}
+use Rattle.line_protocol.specs.declared.fault.ServeFault.TheVariants.{ReadFailed, WriteFailed}
 use Rattle.looks.specs.Views.{ViewsLines}
 use Rattle.tries.specs.Tries.{TriesLines, untried}
 use Rattle.driver.specs.Certified.{Certifies}
 use Rattle.driver.specs.Once.{IsReportOnce, WritesReport, StopsBy}
 use Rattle.driver.specs.declared.carrying.Action.{Action}
 use Rattle.driver.specs.declared.carrying.Action.TheVariants.{Report, Session, Look, Tries, Certify}
-use Rattle.ends.specs.declared.ends.End.{End}
-use Rattle.ends.specs.declared.ends.End.TheVariants.{Done, CannotRead, CannotReadInput, CannotWrite, Image}
-use Rattle.ends.specs.declared.ends.End.TheVariants.{Suppressions, SuppressionsTooLong, InputTooLarge, NoMemory}
+use Rattle.exit_status.specs.declared.ends.End.{End}
+use Rattle.exit_status.specs.declared.ends.End.TheVariants.{Done, CannotRead, CannotReadInput, CannotWrite, Image}
+use Rattle.exit_status.specs.declared.ends.End.TheVariants.{Suppressions, SuppressionsTooLong, InputTooLarge, NoMemory}
 use Rattle.driver.specs.declared.reporting.RunFault.TheVariants.{WriteFailed as ReportCut}
 use Rattle.suppressions.specs.Rules.{Rule}
 use Rattle.suppressions.specs.Texts.{faults, rules, IsLeast}

@@ -11,8 +11,8 @@ use Rattle.clean_reports.specs.Verdicts.{IsCertified, IsVerdict}
 use Rattle.clean_reports.specs.declared.verdict.FirstUse.{FirstUse}
 use Rattle.clean_reports.specs.declared.verdict.Verdict.{Verdict}
 use Rattle.clean_reports.specs.declared.verdict.Verdict.TheVariants.{Clean, Use, Mark as ByMark}
-use Rattle.ends.specs.declared.ends.End.{End}
-use Rattle.ends.specs.declared.ends.End.TheVariants.{Done, CannotWrite, NoMemory, NotClean}
+use Rattle.exit_status.specs.declared.ends.End.{End}
+use Rattle.exit_status.specs.declared.ends.End.TheVariants.{Done, CannotWrite, NoMemory, NotClean}
 
 -- the verdict on the run of a program with an input up to step n, with no marks and default options
 abbrev pub IsVerdictOnce : Image → List ℕ → ℕ → Verdict → Type 0

@@ -3,8 +3,8 @@ use Rattle.std.specs.Prelude.{ℕ, ◌≤◌, List, [], Option, length, take}
 use Rattle.std.specs.Io.KnownBytes.{Appends}
 use Rattle.guest_elf.specs.declared.image.Image.{Image}
 use Rattle.scenario.specs.Scenario.{begun, at_step, IsReportOf}
-use Rattle.ends.specs.declared.ends.End.{End as AnEnd}
-use Rattle.ends.specs.declared.ends.End.TheVariants as End
+use Rattle.exit_status.specs.declared.ends.End.{End as AnEnd}
+use Rattle.exit_status.specs.declared.ends.End.TheVariants as End
 use Rattle.driver.specs.declared.reporting.RunFault.{RunFault}
 use Rattle.driver.specs.declared.reporting.RunFault.TheVariants.{InputTooLarge, NoMemory, WriteFailed}
 use Rattle.suppressions.specs.Rules.{Rule}

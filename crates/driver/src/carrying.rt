@@ -9,14 +9,14 @@ ghost use Rattle.driver.specs.Carried.{Carried, Reports, Serves};
 ghost use Rattle.program_files.specs.Files.{streams};
 ghost use Rattle.sweep_plans.specs.Planned.{IsPart};
 ghost use Rattle.driver.specs.Sweeping.{CarriedOut, CarriedSweep, SweepsImage};
-ghost use Rattle.ends.specs.Ends.{end_of};
+ghost use Rattle.exit_status.specs.Ends.{end_of};
 ghost use Rattle.driver.specs.Once.{IsReportOnce};
 ghost use Rattle.scenario.specs.Limits.{longest_input, most_steps};
 
 use crate::certifying::print_verdict;
 use crate::reporting::run_once;
-use command_line::{Order, SweepWords, Task};
-use ends::End;
+use command_line::{Order, SweepArgs, Task};
+use exit_status::End;
 use guest_elf::{Image, read_for};
 use program_files::{
     Files, MOST_READ, profile_named, read_front, read_input, read_named_text, read_suppressions,
@@ -141,7 +141,7 @@ fn follow_order<'a, F: Files, R: Read, W: Write>(
 fn sweep_image<'a, F: Files, R: Read, W: Write>(
     alloc: Global,
     order: &Order<'a>,
-    words: &SweepWords<'a>,
+    words: &SweepArgs<'a>,
     request: Request,
     file: &[u8],
     image: Image<'_>,
@@ -175,7 +175,7 @@ fn sweep_image<'a, F: Files, R: Read, W: Write>(
 fn follow_sweep<'a, F: Files, R: Read, W: Write>(
     alloc: Global,
     order: &Order<'a>,
-    words: &SweepWords<'a>,
+    words: &SweepArgs<'a>,
     files: &F,
     reader: &mut R,
     writer: &mut W,

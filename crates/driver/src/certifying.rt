@@ -3,14 +3,14 @@ ghost use Rattle.std.specs.Prelude.{◌≡◌, Bool, IfOk, Ok};
 ghost use Rattle.clean_reports.specs.Lines.{verdict_line};
 ghost use Rattle.clean_reports.specs.declared.verdict.Verdict.TheVariants.{Clean};
 ghost use Rattle.driver.specs.Certified.{Certifies, IsCertifiedOnce, IsVerdictOnce, end_of_verdict};
-ghost use Rattle.ends.specs.Ends.{end_of};
+ghost use Rattle.exit_status.specs.Ends.{end_of};
 
 use checkpoints::Trail;
 use clean_reports::laws::inputs_are_bytes;
 use clean_reports::{Verdict, certify, push_verdict};
-use ends::End;
+use exit_status::End;
 use guest_elf::Image;
-use line_server::{Sent, send};
+use line_protocol::{Sent, send};
 use replay_session::MOST_STEPS;
 use scenario::setup_with;
 use std::alloc::{AllocError, Global};

@@ -30,7 +30,7 @@ pub mod laws;
 mod reporting;
 
 pub use carrying::run_order;
-pub use ends::{End, LoneOption, SweepOption, tell};
+pub use exit_status::{End, LoneOption, SweepOption, tell};
 pub use program_files::{Files, MOST_READ, ReadFault, read_opened};
 pub use reporting::{RunFault, run_once};
 

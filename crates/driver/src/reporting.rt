@@ -3,10 +3,10 @@ ghost use Rattle.std.specs.Prelude.{◌≡◌, ◌<◌, ◌↔◌, Err, IfOk, On
 ghost use Rattle.driver.specs.Once.{IsReportOnce, WritesReport, StopsBy, end_of_run};
 ghost use Rattle.scenario.specs.Limits.{longest_input};
 
-use ends::End;
+use exit_status::End;
 use guest_elf::Image;
 use guest_machine::Meter;
-use line_server::{Sent, send};
+use line_protocol::{Sent, send};
 use replay_report::Options;
 use scenario::{LONGEST_INPUT, ScenarioRef, setup_with};
 use std::alloc::{AllocError, Global};

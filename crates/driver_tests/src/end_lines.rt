@@ -1,10 +1,10 @@
 //! The status of each end of the program, and the line that it writes.
 use driver::{End, LoneOption, SweepOption, tell};
-use fake_streams::Room;
 use guest_elf::ElfFault;
 use std::alloc::Global;
 use std::process::Abort;
 use suppressions::SuppFault;
+use test_support::Room;
 
 /// An end, with its status and its line.
 type Told = (End<'static>, u8, &'static [u8]);

@@ -1,14 +1,13 @@
 //! How orders are carried out and what they write, over files, readers and writers that fail.
 use crate::shelf::Shelf;
 use crate::words::USUAL_PROFILE;
-use command_line::{Order, ProfileWords, SweepWords, Task};
+use command_line::{Order, ProfileArgs, SweepArgs, Task};
 use driver::{RunFault, run_once, run_order, tell};
-use fake_streams::{Room, Script};
 use guest_elf::{Image, read};
-use guest_programs::program;
 use replay_session::LONGEST_INPUT;
 use std::alloc::{AllocError, Global};
 use std::process::Abort;
+use test_support::{Room, Script, program};
 
 /// Three words: exit with status 0.
 const EXITS: [u32; 3] = [0x05D0_0893, 0x0000_0513, 0x0000_0073];
@@ -150,7 +149,7 @@ fn task_of(asked: &Asked) -> (Option<&'static str>, Task<'static>) {
     match asked {
         Asked::Task(task) => (None, *task),
         Asked::Sweep(bytes, words, part) => {
-            let words = SweepWords {
+            let words = SweepArgs {
                 step: 3,
                 bytes: *bytes,
                 byte_values: "0,97",
@@ -181,7 +180,7 @@ fn status_of(alloc: Global, order: &Order<'_>, shelf: &Shelf<'_>, writer: &mut R
 fn is_carried_on(
     alloc: Global,
     program: &[u8],
-    profile: &ProfileWords<'static>,
+    profile: &ProfileArgs<'static>,
     case: &Case,
 ) -> bool {
     let (_, (file, has_rules, asked), rules, status, written) = case;
@@ -201,7 +200,7 @@ fn is_carried_on(
 /// Whether one on a new program does.
 fn is_carried(
     alloc: Global,
-    profile: &ProfileWords<'static>,
+    profile: &ProfileArgs<'static>,
     case: &Case,
 ) -> Result<bool, AllocError> {
     let file = program(alloc, &EXITS)?;
@@ -220,12 +219,12 @@ fn assert_carried(rt: &impl Abort, alloc: Global, cases: &[Case]) {
 }
 
 /// What a file is read for, and an order for that.
-type Named = (ProfileWords<'static>, Case);
+type Named = (ProfileArgs<'static>, Case);
 
 /// Orders for a profile. One that there isn't ends them before the file is read, and after the arguments of a sweep.
 const NAMED: [Named; 9] = [
     (
-        ProfileWords {
+        ProfileArgs {
             heap: "805306368",
             ..USUAL_PROFILE
         },
@@ -238,7 +237,7 @@ const NAMED: [Named; 9] = [
         ),
     ),
     (
-        ProfileWords {
+        ProfileArgs {
             heap: "0x48000000",
             ..USUAL_PROFILE
         },
@@ -251,7 +250,7 @@ const NAMED: [Named; 9] = [
         ),
     ),
     (
-        ProfileWords {
+        ProfileArgs {
             stack: "0x7f000000",
             ..USUAL_PROFILE
         },
@@ -264,7 +263,7 @@ const NAMED: [Named; 9] = [
         ),
     ),
     (
-        ProfileWords {
+        ProfileArgs {
             heap: "0x70000000",
             ..USUAL_PROFILE
         },
@@ -277,7 +276,7 @@ const NAMED: [Named; 9] = [
         ),
     ),
     (
-        ProfileWords {
+        ProfileArgs {
             isa: "rv32imc",
             ..USUAL_PROFILE
         },
@@ -290,7 +289,7 @@ const NAMED: [Named; 9] = [
         ),
     ),
     (
-        ProfileWords {
+        ProfileArgs {
             isa: "rv32imac",
             ..USUAL_PROFILE
         },
@@ -303,7 +302,7 @@ const NAMED: [Named; 9] = [
         ),
     ),
     (
-        ProfileWords {
+        ProfileArgs {
             isa: "rv32gc",
             ..USUAL_PROFILE
         },
@@ -316,7 +315,7 @@ const NAMED: [Named; 9] = [
         ),
     ),
     (
-        ProfileWords {
+        ProfileArgs {
             isa: "RV32IM",
             ..USUAL_PROFILE
         },
@@ -329,7 +328,7 @@ const NAMED: [Named; 9] = [
         ),
     ),
     (
-        ProfileWords {
+        ProfileArgs {
             isa: "",
             ..USUAL_PROFILE
         },

@@ -3,16 +3,14 @@ ghost use Rattle.std.specs.Prelude.{◌≡◌, IfOk, option_map, string_bytes};
 
 use crate::shelf::Shelf;
 use crate::words::{COPIES, USUAL_PROFILE, WRITES};
-use command_line::{ExecWords, Order, ProfileWords, Task};
-use ends::tell_exec;
-use exec_orders::{Log, exec_order};
-use executions::Streams;
-use fake_streams::{Room, Script};
-use guest_programs::program;
+use command_line::{ExecArgs, Order, ProfileArgs, Task};
+use exit_status::tell_exec;
 use std::alloc::{AllocError, Global};
 use std::io;
 use std::io::Write;
 use std::process::Abort;
+use test_runs::{Log, Streams, exec_order};
+use test_support::{Room, Script, program};
 
 /// A place for a report, which can be opened or not, and which one is open.
 #[derive(Drop)]
@@ -72,7 +70,7 @@ const FREES: [u32; 7] = [
 ];
 
 /// The arguments of `exec` that ask for nothing but a quiet report at step 1000.
-const PLAIN: ExecWords<'static> = ExecWords {
+const PLAIN: ExecArgs<'static> = ExecArgs {
     step: 1000,
     patches: None,
     report: None,
@@ -162,8 +160,8 @@ pub(crate) struct Case {
 /// What a file is read for, the arguments, standard input and the rooms.
 #[derive(Clone, Copy)]
 struct Setting {
-    profile: ProfileWords<'static>,
-    asked: ExecWords<'static>,
+    profile: ProfileArgs<'static>,
+    asked: ExecArgs<'static>,
     input: &'static [u8],
     rooms: Rooms,
 }

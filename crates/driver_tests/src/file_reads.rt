@@ -1,9 +1,9 @@
 //! Files that are read, with readers that fail.
 use driver::{ReadFault, read_opened};
-use fake_streams::Script;
 use std::alloc::Global;
 use std::io;
 use std::io::ErrorKind;
+use test_support::Script;
 
 /// A file: one from which a number of bytes are read before a read fails, one that isn't there, and one for which memory runs out.
 enum Opened {

@@ -1,7 +1,7 @@
 //! The orders of command lines.
 use crate::words::USUAL_PROFILE;
 use clap::error::ErrorKind;
-use command_line::{Order, ProfileWords, SweepWords, Task, read_order};
+use command_line::{Order, ProfileArgs, SweepArgs, Task, read_order};
 use std::alloc::{AllocError, Global};
 use std::process::Abort;
 
@@ -25,7 +25,7 @@ fn is_text(asked: Option<&str>, want: Option<&str>) -> bool {
 }
 
 /// Whether two sweeps are the same.
-fn is_sweep(asked: &SweepWords<'_>, want: &SweepWords<'_>) -> bool {
+fn is_sweep(asked: &SweepArgs<'_>, want: &SweepArgs<'_>) -> bool {
     asked.step == want.step
         && is_text(asked.bytes, want.bytes)
         && asked.byte_values == want.byte_values
@@ -54,7 +54,7 @@ fn is_task(asked: &Task<'_>, want: &Task<'_>) -> bool {
 }
 
 /// Whether two profiles are.
-fn is_profile(asked: &ProfileWords<'_>, want: &ProfileWords<'_>) -> bool {
+fn is_profile(asked: &ProfileArgs<'_>, want: &ProfileArgs<'_>) -> bool {
     asked.isa == want.isa && asked.heap == want.heap && asked.stack == want.stack
 }
 
@@ -168,7 +168,7 @@ const SESSIONS: [Line; 5] = [
             file: "f",
             input: None,
             suppressions: None,
-            profile: ProfileWords {
+            profile: ProfileArgs {
                 heap: "here",
                 stack: "there",
                 ..USUAL_PROFILE
@@ -183,7 +183,7 @@ const SESSIONS: [Line; 5] = [
             file: "f",
             input: None,
             suppressions: None,
-            profile: ProfileWords {
+            profile: ProfileArgs {
                 isa: "rv32",
                 ..USUAL_PROFILE
             },
@@ -239,7 +239,7 @@ const SWEEPS: [Line; 3] = [
             input: None,
             suppressions: None,
             profile: USUAL_PROFILE,
-            task: Task::Sweep(SweepWords {
+            task: Task::Sweep(SweepArgs {
                 step: 1_048_576,
                 bytes: None,
                 byte_values: "all",
@@ -273,7 +273,7 @@ const SWEEPS: [Line; 3] = [
             input: None,
             suppressions: None,
             profile: USUAL_PROFILE,
-            task: Task::Sweep(SweepWords {
+            task: Task::Sweep(SweepArgs {
                 step: 9,
                 bytes: Some("1..2"),
                 byte_values: "edges",
@@ -304,7 +304,7 @@ const SWEEPS: [Line; 3] = [
             input: None,
             suppressions: None,
             profile: USUAL_PROFILE,
-            task: Task::Sweep(SweepWords {
+            task: Task::Sweep(SweepArgs {
                 step: 1_048_576,
                 bytes: None,
                 byte_values: "all",

@@ -1,14 +1,13 @@
 //! Runs whose output is written as it is made, and how such a run ends.
 use crate::words::{COPIES, WRITES};
-use ends::{Codes, End, Ended, ExecDone, ExecEnd, Outcome, tell_exec};
-use executions::{Execution, ExecutionFault, Streams};
-use fake_streams::Room;
+use exit_status::{ChosenStatuses, End, Ended, ExecDone, ExecEnd, Outcome, tell_exec};
 use guest_elf::{StreamLimits, read};
-use guest_programs::program;
 use run_values::{Status, Stop};
 use scenario::{LONGEST_INPUT, Scenario};
 use std::alloc::{AllocError, Global};
 use std::process::Abort;
+use test_runs::{Execution, ExecutionFault, Streams};
+use test_support::{Room, program};
 
 /// A label; a program's words, the bytes of output that are taken, and the input that it is given where it waits; the step at which it first
 /// stops, and the output.
@@ -137,13 +136,13 @@ const PLAIN: Outcome = Outcome {
 };
 
 /// The exit statuses that a user chose.
-const CHOSEN: Codes = Codes {
+const CHOSEN: ChosenStatuses = ChosenStatuses {
     errors: Some(99),
     idle: Some(3),
 };
 
 /// None.
-const NO_CODES: Codes = Codes {
+const NONE_CHOSEN: ChosenStatuses = ChosenStatuses {
     errors: None,
     idle: None,
 };
@@ -223,7 +222,7 @@ const ENDS: [(ExecEnd<'static>, u8, &'static [u8]); 17] = [
     ),
     (
         ExecEnd::Ran(
-            NO_CODES,
+            NONE_CHOSEN,
             Outcome {
                 heap_fails: true,
                 ..PLAIN
@@ -234,7 +233,7 @@ const ENDS: [(ExecEnd<'static>, u8, &'static [u8]); 17] = [
     ),
     (
         ExecEnd::Ran(
-            NO_CODES,
+            NONE_CHOSEN,
             Outcome {
                 status: Status::Running,
                 idles: true,
@@ -348,7 +347,7 @@ const EARLY_ENDS: [(ExecEnd<'static>, u8, &'static [u8]); 3] = [
     ),
     (
         ExecEnd::Ran(
-            NO_CODES,
+            NONE_CHOSEN,
             Outcome {
                 status: Status::Running,
                 ended: Ended::Overflow(16),

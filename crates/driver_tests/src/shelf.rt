@@ -1,9 +1,9 @@
 //! Files over memory.
 use driver::{Files, ReadFault, read_opened};
-use fake_streams::Script;
 use std::alloc::Global;
 use std::io;
 use std::io::ErrorKind;
+use test_support::Script;
 
 /// A program, an input of two bytes and suppressions, under the names `program`, `input` and `rules`. No other file is there.
 #[derive(Clone, Copy)]

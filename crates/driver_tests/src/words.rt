@@ -1,9 +1,9 @@
 //! Programs that more than one table runs, and what their files are read for where nothing is said of it.
 
-use command_line::ProfileWords;
+use command_line::ProfileArgs;
 
 /// What a file is read for where nothing is said of it.
-pub(crate) const USUAL_PROFILE: ProfileWords<'static> = ProfileWords {
+pub(crate) const USUAL_PROFILE: ProfileArgs<'static> = ProfileArgs {
     isa: "rv32im",
     heap: "0x40000000",
     stack: "0x7f000000..0x80000000",

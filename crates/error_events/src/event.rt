@@ -1,8 +1,7 @@
 ghost use Rattle.std.specs.Prelude.{◌↔◌, ◌≡◌, IsTrue};
 
 use crate::kind::Kind;
-use call_stacks::Trace;
-use heap_blocks::Near;
+use call_stacks::{Near, Trace};
 
 /// What an error says of an address (Memcheck manual, section 4.2.1).
 #[derive(Clone, Copy)]

@@ -144,7 +144,7 @@ impl Groups {
 
     /// Returns the errors of the kept groups, grouped by kind and the first `callers` addresses of their traces, in order of first
     /// occurrence, each group with its first error's note. `keep` says for each group whether it is kept. If `callers` is above 24, all
-    /// addresses count.
+    /// addresses count. This is [`Groups::regrouped`] for callers that want a list.
     pub fn regroup(&self, callers: u32, keep: &[bool]) -> Result<Vec<Group>, AllocError>
         requires each { length keep.now ≡ length (groups_of self.now) }
         requires some { 0 < callers }

@@ -3,7 +3,7 @@ ghost use Rattle.std.specs.Prelude.{◌≡◌, IfOk};
 ghost use Rattle.error_events.specs.KeptNotes.{note_in};
 
 use crate::event::Note;
-use heap_blocks::Near;
+use call_stacks::Near;
 use std::alloc::{AllocError, Global};
 use std::marker::Model;
 use std::rc::Rc;

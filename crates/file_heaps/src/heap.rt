@@ -6,7 +6,7 @@ ghost use Rattle.file_heaps.specs.FileHeaps.{doubtful, is_doubtful, is_seen, is_
 
 use crate::names::{is_allocator, is_heap_function, is_likely, is_mapped_mark};
 use crate::searching::is_among;
-use crate::texts::push_names;
+use crate::wording::push_names;
 use guest_elf::{DefinedSymbol, defined_symbols};
 use std::alloc::{AllocError, Global};
 

@@ -17,6 +17,6 @@
 mod heap;
 mod names;
 mod searching;
-mod texts;
+mod wording;
 
 pub use heap::{FileHeap, Known, Sight};

@@ -2,7 +2,7 @@
 ghost use Rattle.std.specs.Prelude.{◌≡◌, ◌==◌};
 ghost use Rattle.file_heaps.specs.Names.{has_part, is_among};
 
-use text_parts::Parts;
+use texts::Parts;
 
 /// Returns whether a name is one of those that a text lists, between separators.
 #[tactic(auto, unfolding(crate::specs::Names::is_among))]

@@ -8,7 +8,7 @@ use Rattle.std.proofs.lemmas.List.Elements.{All-cons}
 use Rattle.std.proofs.lemmas.List.Folds.{list_any-append}
 use Rattle.std.specs.List.{filter, flat_map, list_any}
 use Rattle.std.specs.Prelude.{◌^◌}
-use Rattle.memory_map.specs.Regions.{are_regions, heap_begin, is_heap_begin, is_stack_region, meet, stack_begin}
+use Rattle.memory_map.specs.Regions.{are_regions, heap_begin, is_heap_begin, is_stack_region, overlap, stack_begin}
 use Rattle.memory_map.specs.Regions.{stack_end}
 use Rattle.memory_map.specs.Usual.{usual}
 use Rattle.memory_map.specs.declared.regions.Regions.{Regions}
@@ -38,7 +38,7 @@ at_most a b e = grind (arith, nat_tests)
 pub usual_by : (sound : are_regions heap_begin stack_begin stack_end ≡ true) →
     ◌≡◌ {A = Regions}
     (record { heap = heap_begin; stack = record { begin = stack_begin; end = stack_end }; sound = sound }) usual
-unfolding is_heap_begin is_stack_region meet
+unfolding is_heap_begin is_stack_region overlap
 usual_by sound =
     ap (λ (same : are_regions heap_begin stack_begin stack_end ≡ true).
     record { heap = heap_begin; stack = record { begin = stack_begin; end = stack_end }; sound = same })
@@ -53,7 +53,7 @@ ends_within stack header around =
     (at_most (header.vaddr + header.filesz) stack.begin ends.0, at_most stack.end (header.vaddr + header.memsz) ends.1)
 
 whole : (headers : List ProgramHeader) → flat_map (pieces_of usual.stack) headers ≡ headers
-unfolding pieces_of is_moved is_heap_begin is_stack_region meet
+unfolding pieces_of is_moved is_heap_begin is_stack_region overlap
 whole [] = refl
 whole (header ∷ headers) = ap (λ hs. header ∷ hs) (whole headers)
 

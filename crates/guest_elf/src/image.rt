@@ -99,7 +99,8 @@ impl<'a> Image<'a> {
         self.names.hooks(alloc)
     }
 
-    /// Returns whether each byte of the word at an address is loaded. Addresses wrap at 2^32.
+    /// Returns whether each byte of the word at an address is loaded. Addresses wrap at 2^32. This is for callers that patch a machine
+    /// themselves: an edit of a scenario asks also whether an instruction may begin there.
     pub fn patchable(&self, addr: u32) -> bool
         ensures { IsTrue result
             ↔ ((i : ℕ) → i < 4 → IsSome (loaded_at self.now ((addr + i) % 2 ^ 32))) }

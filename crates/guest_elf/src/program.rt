@@ -126,7 +126,7 @@ impl ProgramHeader {
 }
 
 /// Returns whether the stack's region is another than the usual one.
-#[tactic(auto, unfolding(crate::specs::File::is_moved, memory_map::specs::Regions::is_heap_begin, memory_map::specs::Regions::is_stack_region, memory_map::specs::Regions::meet))]
+#[tactic(auto, unfolding(crate::specs::File::is_moved, memory_map::specs::Regions::is_heap_begin, memory_map::specs::Regions::is_stack_region, memory_map::specs::Regions::overlap))]
 fn is_moved(stack: StackRegion) -> bool
     ensures { result ≡ is_moved stack }
 {

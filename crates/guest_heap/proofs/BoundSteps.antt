@@ -5,7 +5,7 @@ use Rattle.std.proofs.Common.{None, length, map, drop, set, refl, ap, sym, â—Œâˆ
 use Rattle.std.specs.List.{Contains}
 use Rattle.std.proofs.lemmas.Bool.{cases_lt}
 use Rattle.std.proofs.lemmas.Bool.Decides.{nat_tests}
-use Rattle.heap_blocks.specs.declared.block.Block.{Block}
+use Rattle.call_stacks.specs.declared.block.Block.{Block}
 use Rattle.guest_heap.specs.Blocks.{Blocks, IsKept, IsPlace, Places, with_block, queue_with, freed_by, low_end}
 use Rattle.guest_heap.specs.Blocks.{high_end, Meets}
 use Rattle.guest_heap.specs.Entries.{Entries, block_of}

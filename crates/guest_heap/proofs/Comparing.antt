@@ -8,7 +8,7 @@ use Rattle.std.proofs.lemmas.List.{drop-map}
 use Rattle.std.specs.Option.{option_map}
 use Rattle.std.specs.declared.alloc.Global.{Global}
 use Rattle.std.specs.declared.rc.Rc.{Rc}
-use Rattle.heap_blocks.specs.declared.block.Block.{Block}
+use Rattle.call_stacks.specs.declared.block.Block.{Block}
 use Rattle.guest_heap.specs.Blocks.{Blocks}
 use Rattle.guest_heap.specs.Entries.{Entries, block_of}
 use Rattle.guest_heap.specs.Runs.{Run, run_entries, values}

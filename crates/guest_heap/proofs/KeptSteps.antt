@@ -5,7 +5,7 @@ use Rattle.std.proofs.Common.{map, slice_get, refl, ap, ap₂, sym, ◌∙◌, s
 use Rattle.std.specs.List.{Contains}
 use Rattle.std.proofs.lemmas.Bool.{cases_lt}
 use Rattle.std.proofs.lemmas.Bool.Decides.{nat_tests}
-use Rattle.heap_blocks.specs.declared.block.Block.{Block}
+use Rattle.call_stacks.specs.declared.block.Block.{Block}
 use Rattle.guest_heap.specs.Blocks.{Blocks, IsKept, low_end, high_end, Meets}
 use Rattle.memory_map.specs.Regions.{heap_size}
 use Rattle.guest_heap.specs.Entries.{Entries, FirstAt, LastAt, block_of}

@@ -1,6 +1,6 @@
 -- What a heap knows of its places, as blocks come and go.
 use Rattle.std.proofs.Common.{◌≡◌, ℕ, ◌+◌, ◌-◌, ◌%◌, ◌<◌, List, [], Some, inl, inr, drop, refl, sym, subst}
-use Rattle.heap_blocks.specs.declared.block.Block.{Block}
+use Rattle.call_stacks.specs.declared.block.Block.{Block}
 use Rattle.guest_heap.specs.Blocks.{Blocks, IsKept, IsPlace, with_block, queue_with, freed_by}
 use Rattle.guest_heap.specs.Entries.{Entries}
 use Rattle.guest_heap.specs.Runs.{first_of}

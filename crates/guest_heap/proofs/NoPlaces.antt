@@ -1,6 +1,6 @@
 -- Ranges of addresses with no place for a size.
 use Rattle.std.proofs.Common.{◌≡◌, ℕ, ◌≤◌, max, arith}
-use Rattle.heap_blocks.specs.declared.block.Block.{Block}
+use Rattle.call_stacks.specs.declared.block.Block.{Block}
 use Rattle.guest_heap.specs.Blocks.{Blocks, IsKept, low_end, high_end}
 use Rattle.guest_heap.specs.States.{AreNoPlaces}
 

@@ -1,7 +1,7 @@
 -- Searches for the least place, from block to block and from part to part.
 use Rattle.std.proofs.Common.{◌≡◌, ℕ, ◌+◌, ◌-◌, ◌%◌, ◌<◌, ◌≤◌, inl, inr, max, arith}
 use Rattle.std.proofs.lemmas.Bool.{cases_lt}
-use Rattle.heap_blocks.specs.declared.block.Block.{Block}
+use Rattle.call_stacks.specs.declared.block.Block.{Block}
 use Rattle.guest_heap.specs.Blocks.{Blocks, IsKept, IsPlace, low_end, high_end, end_of}
 use Rattle.guest_heap.specs.States.{AreNoPlaces}
 use Rattle.guest_heap.proofs.NoPlaces.{skipped_too}

@@ -4,9 +4,9 @@
 -- lie is this project's own rule: each is at its lowest place.
 use Rattle.std.specs.Prelude.{ℕ, ◌+◌, ◌-◌, ◌%◌, ◌<◌, ◌≤◌, ◌≡◌, ◌==◌, ◌⊎◌, nat_lt, nat_le, max, Option, Some, None, List}
 use Rattle.std.specs.Prelude.{[], ◌∷◌, ◌++◌, Contains, drop, sum_by, if◌then◌else◌}
-use Rattle.heap_blocks.specs.declared.block.Block.{Block}
-use Rattle.heap_blocks.specs.declared.block.Near.{Near}
-use Rattle.heap_blocks.specs.declared.block.Place.TheVariants.{Before, Inside, After}
+use Rattle.call_stacks.specs.declared.block.Block.{Block}
+use Rattle.call_stacks.specs.declared.block.Near.{Near}
+use Rattle.call_stacks.specs.declared.block.Place.TheVariants.{Before, Inside, After}
 use Rattle.memory_map.specs.Regions.{heap_size}
 use Rattle.guest_heap.specs.declared.released.Released.{Released}
 use Rattle.guest_heap.specs.declared.released.Released.TheVariants.{Done, Nothing, Invalid}

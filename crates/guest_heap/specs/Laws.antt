@@ -1,7 +1,7 @@
 -- What the functions of the heap calls mean, for all blocks.
 use Rattle.std.specs.Prelude.{ℕ, ◌+◌, ◌%◌, ◌<◌, ◌≤◌, ◌≡◌, ◌↔◌, Some, None, IfSome, IfNone, List, [], ◌∷◌, Contains}
 use Rattle.memory_map.specs.Regions.{greatest_heap_begin}
-use Rattle.heap_blocks.specs.declared.block.Block.{Block}
+use Rattle.call_stacks.specs.declared.block.Block.{Block}
 use Rattle.guest_heap.specs.Blocks.{Blocks, IsKept, Holds, Places, near_of, no_blocks, IsLongestFitting}
 use Rattle.guest_heap.specs.Steps.{AreInRegion, AreApart, place, allocated_blocks, queue_after, released_blocks, near}
 use Rattle.guest_heap.specs.Steps.{live_from, live_list, live_above}

@@ -2,7 +2,7 @@
 -- place of a block is the number of its start among the multiples of 16 of the heap's region.
 use Rattle.std.specs.Prelude.{ℕ, ◌+◌, ◌-◌, ◌*◌, ◌/◌, ◌<◌, ◌≤◌, ◌≡◌, ◌==◌, ◌⊎◌, nat_le, Option, Some, None, List, map}
 use Rattle.std.specs.Prelude.{is_some, option_map, true, slice_get, if◌then◌else◌}
-use Rattle.heap_blocks.specs.declared.block.Block.{Block}
+use Rattle.call_stacks.specs.declared.block.Block.{Block}
 use Rattle.guest_heap.specs.Blocks.{Blocks, IsKept, IsPlace, low_end, high_end, end_of, volume_of}
 use Rattle.memory_map.specs.Regions.{heap_size}
 use Rattle.guest_heap.specs.Entries.{Entries, block_of}

@@ -4,8 +4,8 @@ use Rattle.std.specs.Prelude.{if◌then◌else◌, Option, Some, None, is_none, 
 use Rattle.std.specs.Prelude.{◌++◌}
 use Rattle.std.specs.List.{filter, filter_map, find}
 use Rattle.std.specs.Option.{option_map}
-use Rattle.heap_blocks.specs.declared.block.Block.{Block}
-use Rattle.heap_blocks.specs.declared.block.Near.{Near}
+use Rattle.call_stacks.specs.declared.block.Block.{Block}
+use Rattle.call_stacks.specs.declared.block.Near.{Near}
 use Rattle.guest_heap.specs.Blocks.{Blocks, IsKept, low_end, high_end, near_of, allocated, with_live, volume_of}
 use Rattle.guest_heap.specs.Blocks.{released_at, greatest_size, end_of}
 use Rattle.memory_map.specs.Regions.{greatest_heap_begin}

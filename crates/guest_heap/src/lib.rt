@@ -69,6 +69,6 @@ mod released;
 mod table;
 mod traces;
 
+pub use call_stacks::{Block, Near, Place};
 pub use heap::Heap;
-pub use heap_blocks::{Block, Near, Place};
 pub use released::Released;

@@ -1,4 +1,4 @@
-use heap_blocks::Block;
+use call_stacks::Block;
 
 /// The outcome of the release of an address.
 #[derive(Clone, Copy)]

@@ -8,7 +8,8 @@ use Rattle.guest_elf.specs.declared.profile.Isa.{Isa}
 use Rattle.guest_elf.specs.declared.profile.Isa.TheVariants.{Rv32im, Rv32imc, Rv32imac}
 use Rattle.shadow_memory.specs.Shadows.{Shadow, first_inaccessible}
 use Rattle.guest_machine.specs.State.{Core}
-use Rattle.guest_machine.specs.Exec.{called_here, deed_by, fetch_by, fetch_span, fetched, fetches, half_at, touched_at}
+use Rattle.guest_machine.specs.Exec.{called_here, action_by, fetch_by, fetch_span, fetched, fetches, half_at}
+use Rattle.guest_machine.specs.Exec.{touched_at}
 use Rattle.guest_machine.specs.Exec.{word_at, word_fault}
 use Rattle.guest_machine.specs.Fetches.{FetchesCodes, IsCodeOf}
 use Rattle.guest_machine.proofs.Fetching.{at_start, no-fault}
@@ -40,7 +41,7 @@ by-cut Rv32imc shadows a none some = omega arith
 by-cut Rv32imac shadows a none some = omega arith
 
 of-code : (core : Core) (bytes : ℕ → ℕ) (function : Option Hook)
-    → IfSome (fetch_span core (deed_by function (fetched core bytes))) (IsCodeOf core.isa)
+    → IfSome (fetch_span core (action_by function (fetched core bytes))) (IsCodeOf core.isa)
 unfolding fetched
 of-code core bytes (Some function) = tt
 of-code core bytes None =

@@ -6,12 +6,12 @@ use Rattle.guest_elf.specs.declared.hook.Hook.{Hook}
 use Rattle.guest_elf.specs.Hooks.{hook_at}
 use Rattle.guest_elf.specs.Profiles.{is_aligned, is_half}
 use Rattle.guest_machine.specs.State.{State, Core}
-use Rattle.guest_machine.specs.Exec.{exec, touches, touched_at, uses_at, intake_at, effect_at, has_touched, Deed}
+use Rattle.guest_machine.specs.Exec.{exec, touches, touched_at, uses_at, intake_at, effect_at, has_touched, Action}
 use Rattle.guest_machine.specs.Exec.{outcome_at, stepped, steps_on}
-use Rattle.guest_machine.specs.Exec.{deed_by, deed_at, called_here, fetched, fetches}
+use Rattle.guest_machine.specs.Exec.{action_by, action_at, called_here, fetched, fetches}
 use Rattle.guest_machine.specs.Exec.{fetch_by, half_at, word_at, word_fault}
 use Rattle.guest_machine.specs.Exec.{fetch_span, fetch_fault, unfetched, jump_fault, is_running}
-use Rattle.guest_machine.specs.Exec.{is_heap_deed, plan, outcome, deed_terms, deed_asks}
+use Rattle.guest_machine.specs.Exec.{is_heap_action, plan, outcome, action_terms, action_asks}
 use Rattle.guest_machine.specs.Exec.{intake_of, left_at, given_at, taken_from, written_to, seen_also, counted}
 use Rattle.guest_machine.specs.Effects.{Effect, quiet, stops}
 use Rattle.guest_machine.specs.Laws.{StaysHalted}
@@ -19,10 +19,10 @@ use Rattle.run_values.specs.declared.status.Stop.TheVariants.{Misaligned}
 use Rattle.guest_machine.specs.declared.setup.Setup.{Setup}
 
 pub halts : (core : Core) (bytes : ℕ → ℕ) (hooks : List (ℕ × Hook)) → is_running core.status ≡ false
-    → deed_at core bytes hooks ≡ Deed.Halts
+    → action_at core bytes hooks ≡ Action.Halts
 unfolding called_here fetched fetches
 halts core bytes hooks h =
-    ap (λ b. deed_by (cond (b && is_aligned core.isa core.pc) (hook_at hooks core.pc) None) (fetched core bytes)) h
+    ap (λ b. action_by (cond (b && is_aligned core.isa core.pc) (hook_at hooks core.pc) None) (fetched core bytes)) h
     ∙ ap (λ b. fetch_by (b && (is_aligned core.isa core.pc && is_none (fetch_fault core)))
     (is_half core.isa (half_at core bytes)) (is_none (word_fault core)) (half_at core bytes) (word_at core bytes)) h
 
@@ -30,10 +30,10 @@ touches-nothing : (s : State) (setup : Setup) (a : ℕ) → is_running s.core.st
 unfolding touches touched_at uses_at
 touches-nothing s setup a h =
     let n = length s.output in
-    ap (λ deed. has_touched (record {
-      fetch = fetch_span s.core deed;
-      reads = (plan s.core (deed_terms s.core deed s.position n setup) deed).reads;
-      writes = (plan s.core (deed_terms s.core deed s.position n setup) deed).writes;
+    ap (λ action. has_touched (record {
+      fetch = fetch_span s.core action;
+      reads = (plan s.core (action_terms s.core action s.position n setup) action).reads;
+      writes = (plan s.core (action_terms s.core action s.position n setup) action).writes;
     }) a) (halts s.core s.bytes setup.hooks h)
 
 -- a state after an effect that uses nothing
@@ -70,19 +70,19 @@ halted-step : (s : State) (setup : Setup) → is_running s.core.status ≡ false
 unfolding exec intake_at uses_at effect_at outcome_at unfetched after
 halted-step s setup h =
     let n = length s.output in
-    let by : Deed → State = λ deed.
-    let terms = deed_terms s.core deed s.position n setup in
-    let uses = plan s.core terms deed in
-    let effect = outcome s.core terms deed (given_at s.position terms.intake.count setup)
+    let by : Action → State = λ action.
+    let terms = action_terms s.core action s.position n setup in
+    let uses = plan s.core terms action in
+    let effect = outcome s.core terms action (given_at s.position terms.intake.count setup)
     (taken_from s.bytes uses.reads) in
-    let intake = intake_of (deed_asks s.core deed) (left_at s.position setup) in
+    let intake = intake_of (action_asks s.core action) (left_at s.position setup) in
     record {
       bytes = written_to s.bytes uses.writes effect.made;
       core = stepped s.core effect.core;
       position = s.position + intake.count;
       end_seen = seen_also s.end_seen intake.ends;
       output = s.output ++ effect.output;
-      heap_calls = counted s.heap_calls (is_heap_deed s.core deed);
+      heap_calls = counted s.heap_calls (is_heap_action s.core action);
       events = s.events ++ effect.raised;
     } in
     ap by (halts s.core s.bytes setup.hooks h)

@@ -5,7 +5,7 @@ use Rattle.std.proofs.lemmas.Bool.Decides.{nat_tests}
 use Rattle.std.proofs.Math.Path.{fun_ext}
 use Rattle.shadow_memory.specs.Ranges.{above, offset, is_in, changed_in, window, written, copied}
 use Rattle.shadow_memory.specs.Changes.{AreApart}
-use Rattle.heap_blocks.specs.declared.block.Block.{Block}
+use Rattle.call_stacks.specs.declared.block.Block.{Block}
 use Rattle.guest_machine.specs.HeapCalls.{IsClearOf}
 use Rattle.memory_map.specs.Regions.{greatest_heap_begin, heap_size}
 use Rattle.guest_heap.specs.Blocks.{Blocks, IsKept, Places, IsFirstLive, greatest_size, low_end, high_end}

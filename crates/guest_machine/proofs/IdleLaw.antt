@@ -25,7 +25,7 @@ use Rattle.guest_machine.specs.Registers.{register, set_register}
 use Rattle.guest_machine.specs.StackPointer.{framed, stack_moved, stack_ruled}
 use Rattle.shadow_memory.specs.declared.cells.RangeKind.TheVariants.{NoAccess, Undefined}
 use Rattle.run_values.specs.declared.status.Stop.TheVariants.{Misaligned}
-use Rattle.guest_machine.specs.Exec.{Deed, Takes, Cut, CallsByName, Halts, deed_at, deed_by, exec}
+use Rattle.guest_machine.specs.Exec.{Action, Takes, Cut, CallsByName, Halts, action_at, action_by, exec}
 use Rattle.guest_machine.specs.Exec.{called_here, fetched, fetches, intake_at}
 use Rattle.guest_machine.specs.Exec.{row_asks, row_effect, row_uses, uses_at, effect_at}
 use Rattle.guest_machine.specs.Exec.{calls_heap, is_ready, is_running, outcome_at, stepped}
@@ -33,7 +33,7 @@ use Rattle.guest_machine.specs.Run.{pre}
 use Rattle.guest_machine.specs.Streams.{calls_out, is_defined, is_idle, is_self_jump, jumps_to_itself, row_at, row_in}
 use Rattle.guest_machine.specs.Streams.{rested, self_jump, short_self_jump, Rests, StaysAtRest}
 use Rattle.guest_machine.specs.declared.setup.Setup.{Setup}
-use Rattle.guest_machine.proofs.Deeds.{by, by-row}
+use Rattle.guest_machine.proofs.Actions.{by, by-row}
 use Rattle.guest_machine.proofs.Fetching.{at_start, may_fetch}
 use Rattle.guest_machine.proofs.Halted.{halts, stays-halted, uncounted}
 use Rattle.guest_machine.proofs.Running.{none-yet, one-more}
@@ -58,19 +58,19 @@ idle-code : (code : Code) → is_self_jump code ≡ true → row_of_code code �
 idle-code (Word word) h = ap (λ n. row_of_code (Word n)) (number word self_jump h) ∙ self-row
 idle-code (Half half) h = ap (λ n. row_of_code (Half n)) (number half short_self_jump h) ∙ short-self-row
 
-idle-deed : (deed : Deed) → jumps_to_itself deed ≡ true
-    → (code : Code) × ((deed ≡ Takes code) × (row_of_code code ≡ Some (Jump 0 0)))
+idle-action : (action : Action) → jumps_to_itself action ≡ true
+    → (code : Code) × ((action ≡ Takes code) × (row_of_code code ≡ Some (Jump 0 0)))
 unfolding jumps_to_itself
-idle-deed (Takes code) h = (code, (refl, idle-code code h))
-idle-deed Cut h = cc
-idle-deed (CallsByName function) h = cc
-idle-deed Halts h = cc
+idle-action (Takes code) h = (code, (refl, idle-code code h))
+idle-action Cut h = cc
+idle-action (CallsByName function) h = cc
+idle-action Halts h = cc
 
 -- a code is only taken where it is fetched
-taken-by : (function : Option Hook) (deed : Deed) (code : Code) → deed_by function deed ≡ Takes code
-    → deed ≡ Takes code
-taken-by (Some function) deed code h = cc
-taken-by None deed code h = h
+taken-by : (function : Option Hook) (action : Action) (code : Code) → action_by function action ≡ Takes code
+    → action ≡ Takes code
+taken-by (Some function) action code h = cc
+taken-by None action code h = h
 
 -- ---- the stack pointer stays
 
@@ -135,9 +135,9 @@ idle-step : (setup : Setup) (s : State) → s.core.pc < 2 ^ 32 → is_idle s set
     → exec s setup ≡ record s { core = stepped s.core s.core }
 unfolding exec intake_at uses_at effect_at outcome_at is_idle by by-row
 idle-step setup s small idle =
-    let deed = deed_at s.core s.bytes setup.hooks in
-    let parts = both (jumps_to_itself deed) (is_defined s.core deed) idle in
-    let found = idle-deed deed parts.0 in
+    let action = action_at s.core s.bytes setup.hooks in
+    let parts = both (jumps_to_itself action) (is_defined s.core action) idle in
+    let found = idle-action action parts.0 in
     let defined = ap (is_defined s.core) (sym found.1.0) ∙ parts.1 in
     let fetch = taken-by (called_here s.core setup.hooks) (fetched s.core s.bytes) found.0 found.1.0 in
     let aligned = at_start s.core (may_fetch s.core s.bytes found.0 fetch) in
@@ -145,15 +145,15 @@ idle-step setup s small idle =
     ∙ ap (λ row. by-row s setup (len_of found.0) row (calls_heap s.core row) (row_asks s.core row)) found.1.1
     ∙ jumped-state s setup (len_of found.0) small aligned defined
 
-quiet-jump : (deed : Deed) → jumps_to_itself deed ≡ true → calls_out (row_in deed) ≡ false
+quiet-jump : (action : Action) → jumps_to_itself action ≡ true → calls_out (row_in action) ≡ false
 unfolding calls_out row_in
-quiet-jump deed h =
-    let found = idle-deed deed h in
+quiet-jump action h =
+    let found = idle-action action h in
     ap (λ d. calls_out (row_in d)) found.1.0 ∙ ap calls_out found.1.1
 
 quiet-halt : (s : State) (setup : Setup) → is_running s.core.status ≡ false → calls_out (row_at s setup) ≡ false
 unfolding row_at row_in calls_out
-quiet-halt s setup h = ap (λ deed. calls_out (row_in deed)) (halts s.core s.bytes setup.hooks h)
+quiet-halt s setup h = ap (λ action. calls_out (row_in action)) (halts s.core s.bytes setup.hooks h)
 
 -- ---- a state at rest
 
@@ -166,8 +166,8 @@ quiet-at-rest : (setup : Setup) (s : State) → Rests s setup → calls_out (row
 unfolding is_idle row_at
 quiet-at-rest setup s (inl halted) = quiet-halt s setup halted
 quiet-at-rest setup s (inr idle) =
-    let deed = deed_at s.core s.bytes setup.hooks in
-    quiet-jump deed (both (jumps_to_itself deed) (is_defined s.core deed) idle.idle).0
+    let action = action_at s.core s.bytes setup.hooks in
+    quiet-jump action (both (jumps_to_itself action) (is_defined s.core action) idle.idle).0
 
 -- it rests with another number of steps too
 idle-with : (setup : Setup) (s : State) (steps : ℕ)

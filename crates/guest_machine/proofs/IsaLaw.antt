@@ -51,11 +51,11 @@ use Rattle.guest_machine.specs.Calls.{write_call}
 use Rattle.guest_machine.specs.HeapCalls.{Resizing, Allocates, Refuses, Frees, Keeps, Moves, block_at, freed, heap_work}
 use Rattle.guest_machine.specs.HeapCalls.{released_here, resized, resizing}
 use Rattle.guest_machine.specs.NamedCalls.{named_by, named_tested, return_address, returns}
-use Rattle.guest_machine.specs.Exec.{Deed, Takes, Cut, CallsByName, Halts, Terms, call_effect, effect_at, exec}
+use Rattle.guest_machine.specs.Exec.{Action, Takes, Cut, CallsByName, Halts, Terms, call_effect, effect_at, exec}
 use Rattle.guest_machine.specs.Exec.{outcome_at}
 use Rattle.guest_machine.specs.Exec.{fetch_by}
 use Rattle.guest_machine.specs.Exec.{fetch_fault, fetched, half_at, word_at, word_fault}
-use Rattle.guest_machine.specs.Exec.{called_here, deed_at, fetches, is_running, jump_fault, outcome}
+use Rattle.guest_machine.specs.Exec.{called_here, action_at, fetches, is_running, jump_fault, outcome}
 use Rattle.guest_machine.specs.Exec.{row_effect, unfetched}
 use Rattle.guest_machine.specs.declared.setup.Setup.{Setup}
 use Rattle.guest_machine.specs.Laws.{GoesByFours, IsByFours, KeepsIsa, KeepsLimits, KeepsRegions}
@@ -274,19 +274,19 @@ none-taken c =
     (either-effect (is_aligned c.isa c.pc) (fixed c) (jump_fault c (fetch_fault c)) (stops c Misaligned)
     (fault-keeps c (fetch_fault c)) refl) refl
 
-deed-keeps : (c : Core) (terms : Terms) (deed : Deed) (given : List ℕ) (taken : ℕ → ℕ)
-    → fixed (outcome c terms deed given taken).core ≡ fixed c
-deed-keeps c terms (Takes code) given taken =
+action-keeps : (c : Core) (terms : Terms) (action : Action) (given : List ℕ) (taken : ℕ → ℕ)
+    → fixed (outcome c terms action given taken).core ≡ fixed c
+action-keeps c terms (Takes code) given taken =
     rules (register c 2) (row_effect c (next_of c (len_of code)) (row_of_code code) terms given taken).core
     ∙ row-keeps c (next_of c (len_of code)) (row_of_code code) terms given taken
-deed-keeps c terms Cut given taken = fault-keeps c (word_fault c)
-deed-keeps c terms (CallsByName function) given taken =
+action-keeps c terms Cut given taken = fault-keeps c (word_fault c)
+action-keeps c terms (CallsByName function) given taken =
     named (returns c) function c terms.redzone terms.volume taken
-deed-keeps c terms Halts given taken = none-taken c
+action-keeps c terms Halts given taken = none-taken c
 
 keeps-fixed : (setup : Setup) (s : State) → fixed (exec s setup).core ≡ fixed s.core
 unfolding exec effect_at outcome_at
-keeps-fixed setup s = deed-keeps s.core _ (deed_at s.core s.bytes setup.hooks) _ _
+keeps-fixed setup s = action-keeps s.core _ (action_at s.core s.bytes setup.hooks) _ _
 
 pub keeps-isa : KeepsIsa
 keeps-isa setup s = ap (λ (f : Fixed). f.0) (keeps-fixed setup s)

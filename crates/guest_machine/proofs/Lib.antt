@@ -20,7 +20,7 @@ pub mod Fetching
 pub mod StreamLaw
 pub mod IsaLaw
 pub mod BaseLaw
-pub mod Deeds
+pub mod Actions
 pub mod IdleLaw
 pub mod StreamSteps
 pub mod FetchLaw

@@ -9,7 +9,7 @@ use Rattle.instructions.specs.declared.code.Code.{Code}
 use Rattle.shadow_memory.specs.Ranges.{is_in, offset, written, changed_in, byte_of}
 use Rattle.guest_machine.specs.Spans.{covers}
 use Rattle.guest_machine.specs.State.{State}
-use Rattle.guest_machine.specs.Exec.{exec, touches, touched_at, uses_at, effect_at, written_to, deed_at, fetch_span}
+use Rattle.guest_machine.specs.Exec.{exec, touches, touched_at, uses_at, effect_at, written_to, action_at, fetch_span}
 use Rattle.guest_machine.specs.Run.{poked}
 use Rattle.guest_machine.specs.Laws.{DifferWithin, InCode, KeepsPokes, ReadsOn}
 use Rattle.run_values.specs.declared.span.Span.{Span}
@@ -29,7 +29,7 @@ stays setup s a h =
     let uses = uses_at s.core s.bytes s.position (length s.output) setup in
     written-elsewhere s.bytes uses.writes (effect_at s.core s.bytes s.position (length s.output) setup).made a
     (right-false (covers uses.reads a) (covers uses.writes a)
-    (right-false (covers (fetch_span s.core (deed_at s.core s.bytes setup.hooks)) a) _ h))
+    (right-false (covers (fetch_span s.core (action_at s.core s.bytes setup.hooks)) a) _ h))
 
 -- the four bytes from a multiple of 4 on are those of its word
 pub in-word : (addr a : ℕ) → addr % 4 ≡ 0 → addr < 2 ^ 32 → is_in addr 4 a ≡ true → a / 4 ≡ addr / 4

@@ -5,9 +5,11 @@ use Rattle.std.proofs.Common.{length, length-append, length-drop, Option, Some, 
 use Rattle.std.proofs.lemmas.Bool.Decides.{nat_tests}
 use Rattle.std.specs.Prelude.{slice_get}
 use Rattle.guest_machine.specs.State.{State}
-use Rattle.guest_machine.specs.Exec.{Deed, Terms, Intake, exec, plan, outcome, intake_of, intake_at, left_at, seen_also}
+use Rattle.guest_machine.specs.Exec.{Action, Terms, Intake, exec, plan, outcome, intake_of, intake_at, left_at}
+use Rattle.guest_machine.specs.Exec.{seen_also}
 use Rattle.guest_machine.specs.Exec.{uses_at, effect_at, outcome_at, stepped, touches, touched_at}
-use Rattle.guest_machine.specs.Exec.{has_touched, deed_at, deed_asks, deed_terms, is_heap_deed, given_at, taken_from}
+use Rattle.guest_machine.specs.Exec.{has_touched, action_at, action_asks, action_terms, is_heap_action, given_at}
+use Rattle.guest_machine.specs.Exec.{taken_from}
 use Rattle.guest_machine.specs.Exec.{written_to, counted, fetch_span}
 use Rattle.guest_machine.specs.Laws.{SharesRest, KeepsInput, KeepsHeap, KeepsEnd, EndStays, is_heap_step}
 use Rattle.guest_machine.specs.Run.{pre}
@@ -17,7 +19,7 @@ use Rattle.guest_machine.proofs.Running.{none-yet, one-more}
 
 -- what a step sees of a setup
 seen : State → Setup → Terms
-seen s setup = deed_terms s.core (deed_at s.core s.bytes setup.hooks) s.position (length s.output) setup
+seen s setup = action_terms s.core (action_at s.core s.bytes setup.hooks) s.position (length s.output) setup
 
 -- what it is given of the input
 taken-under : State → Setup → Intake
@@ -29,8 +31,8 @@ same-step : (one other : Setup) (s : State) → one.hooks ≡ other.hooks → se
     → (touches s one ≡ touches s other) × (exec s one ≡ exec s other)
 unfolding seen taken-under exec intake_at touches touched_at uses_at effect_at outcome_at
 same-step one other s k t g =
-    let d : Deed = deed_at s.core s.bytes one.hooks in
-    let same : d ≡ deed_at s.core s.bytes other.hooks = ap (λ hooks. deed_at s.core s.bytes hooks) k in (
+    let d : Action = action_at s.core s.bytes one.hooks in
+    let same : d ≡ action_at s.core s.bytes other.hooks = ap (λ hooks. action_at s.core s.bytes hooks) k in (
       (λ i. has_touched (record {
         fetch = fetch_span s.core (same i);
         reads = (plan s.core (t i) (same i)).reads;
@@ -41,7 +43,7 @@ same-step one other s k t g =
     )
   where
     -- the step for what is done, what is seen and what is read
-    step-of : Deed → Terms → List ℕ → State
+    step-of : Action → Terms → List ℕ → State
     step-of d x given =
         let uses = plan s.core x d in
         let effect = outcome s.core x d given (taken_from s.bytes uses.reads) in
@@ -51,7 +53,7 @@ same-step one other s k t g =
           position = s.position + x.intake.count;
           end_seen = seen_also s.end_seen x.intake.ends;
           output = s.output ++ effect.output;
-          heap_calls = counted s.heap_calls (is_heap_deed s.core d);
+          heap_calls = counted s.heap_calls (is_heap_action s.core d);
           events = s.events ++ effect.raised;
         }
 
@@ -90,13 +92,14 @@ keeps-input one other offset s d h =
     let within : s.position + (taken-under s one).count ≤ offset = h in
     let far = d.more in
     let enough = d.enough in
-    let asks = deed_asks s.core (deed_at s.core s.bytes one.hooks) in
+    let asks = action_asks s.core (action_at s.core s.bytes one.hooks) in
     let same : intake_of asks (length one.input - s.position) ≡ intake_of asks (length other.input - s.position) =
     front-intake asks (offset - s.position) (length one.input - s.position) (length other.input - s.position)
     (omega arith) (omega arith) (omega arith) in
     let given : intake_of asks (length one.input - s.position)
-    ≡ intake_of (deed_asks s.core (deed_at s.core s.bytes other.hooks)) (length other.input - s.position) =
-    same ∙ ap (λ hooks. intake_of (deed_asks s.core (deed_at s.core s.bytes hooks)) (length other.input - s.position))
+    ≡ intake_of (action_asks s.core (action_at s.core s.bytes other.hooks)) (length other.input - s.position) =
+    same ∙ ap (λ hooks. intake_of (action_asks s.core (action_at s.core s.bytes hooks))
+    (length other.input - s.position))
     d.hooks in
     let t : seen s one ≡ seen s other = λ i.
     let heap = is_heap_step s (d.hooks i) in
@@ -122,7 +125,7 @@ heap-same one other s e k f =
       volume = cond b setup.volume 0;
     }) none in
     let between : taken-under s one ≡ taken-under s other = λ i. intake_of
-    (deed_asks s.core (deed_at s.core s.bytes (k i))) (length (e i) - s.position) in
+    (action_asks s.core (action_at s.core s.bytes (k i))) (length (e i) - s.position) in
     let t : seen s one ≡ seen s other =
     closed one f ∙ ap (λ intake. record { intake = intake; written = length s.output; redzone = 0; volume = 0 }) between
     ∙ sym (closed other (ap (λ hooks. is_heap_step s hooks) (sym k) ∙ f)) in
@@ -145,7 +148,7 @@ pub rest-same : (one other : Setup) (s : State) → SharesRest s.position one ot
 unfolding seen taken-under intake_at
 rest-same one other s d =
     let intake : taken-under s one ≡ taken-under s other =
-    (λ i. intake_of (deed_asks s.core (deed_at s.core s.bytes (d.hooks i))) (same-left one other s.position d i)) in
+    (λ i. intake_of (action_asks s.core (action_at s.core s.bytes (d.hooks i))) (same-left one other s.position d i)) in
     let t : seen s one ≡ seen s other = λ i.
     let heap = is_heap_step s (d.hooks i) in
     record {
@@ -198,12 +201,12 @@ module _ (one other : Setup) (more : List ℕ) (s : State) (x : HasMore one othe
   end-same : (taken-under s one).ends ≡ false → (touches s one ≡ touches s other) × (exec s one ≡ exec s other)
   unfolding seen taken-under intake_at longer
   end-same e =
-      let asks : deed_asks s.core (deed_at s.core s.bytes one.hooks)
-      ≡ deed_asks s.core (deed_at s.core s.bytes other.hooks) = ap
-      (λ hooks. deed_asks s.core (deed_at s.core s.bytes hooks)) x.hooks in
+      let asks : action_asks s.core (action_at s.core s.bytes one.hooks)
+      ≡ action_asks s.core (action_at s.core s.bytes other.hooks) = ap
+      (λ hooks. action_asks s.core (action_at s.core s.bytes hooks)) x.hooks in
       let l = longer in
       let more-left : left_at s.position one ≤ left_at s.position other = omega arith in
-      let a = unended (deed_asks s.core (deed_at s.core s.bytes one.hooks)) (left_at s.position one)
+      let a = unended (action_asks s.core (action_at s.core s.bytes one.hooks)) (left_at s.position one)
       (left_at s.position other) more-left e in
       let same : taken-under s one ≡ taken-under s other = a.same
       ∙ ap (λ o. intake_of o (left_at s.position other)) asks in

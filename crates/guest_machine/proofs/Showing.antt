@@ -14,7 +14,7 @@ use Rattle.guest_heap.specs.Heaps.{blocks_of}
 use Rattle.control_registers.specs.Written.{registers_in}
 use Rattle.guest_elf.specs.Profiles.{has_controls}
 use Rattle.guest_machine.specs.Exec.{exec, uses_at, effect_at, touched_at, touched_of, written_to, counted}
-use Rattle.guest_machine.specs.Exec.{is_heap_deed, deed_at}
+use Rattle.guest_machine.specs.Exec.{is_heap_action, action_at}
 use Rattle.guest_machine.specs.Exec.{seen_also, intake_at}
 use Rattle.guest_machine.specs.Acting.{IsDone}
 use Rattle.guest_machine.specs.Alterations.{altered, altered_bytes, altered_core}
@@ -134,7 +134,7 @@ holds_exec grow old new setup d s h =
           ∙ sym (length-append s.output (effect_at s.core s.bytes s.position (length s.output) setup).output);
       heap_calls =
           d.heap_calls ∙ (λ i. counted (h.heap_calls i)
-          (is_heap_deed (h.core i) (deed_at (h.core i) (h.bytes i) setup.hooks)));
+          (is_heap_action (h.core i) (action_at (h.core i) (h.bytes i) setup.hooks)));
       groups =
           ap (λ (noted : List Group × Bool). noted.0) d.noted
           ∙ noted-groups (noted_of old.noted) effect.raised

@@ -38,9 +38,9 @@ use Rattle.guest_machine.specs.Calls.{call_errors, call_tested, ebadf, enospc}
 use Rattle.guest_machine.specs.Calls.{read_call, write_call}
 use Rattle.guest_machine.specs.HeapCalls.{heap_work}
 use Rattle.guest_machine.specs.NamedCalls.{named_by, returns}
-use Rattle.guest_machine.specs.Exec.{Deed, Takes, Cut, CallsByName, Halts, Terms, Uses, word_fault}
+use Rattle.guest_machine.specs.Exec.{Action, Takes, Cut, CallsByName, Halts, Terms, Uses, word_fault}
 use Rattle.guest_machine.specs.Exec.{call_effect, call_uses, row_asks, row_effect, row_uses, exec}
-use Rattle.guest_machine.specs.Exec.{deed_at, deed_asks, deed_terms, effect_at, outcome_at, uses_at, intake_at}
+use Rattle.guest_machine.specs.Exec.{action_at, action_asks, action_terms, effect_at, outcome_at, uses_at, intake_at}
 use Rattle.guest_machine.specs.Exec.{intake_of, left_at}
 use Rattle.guest_machine.specs.Exec.{given_at, outcome, plan, taken_from, written_to, touched_at, unfetched}
 use Rattle.guest_machine.specs.Exec.{fetch_fault, is_running}
@@ -245,50 +245,50 @@ row-spoken core next (Some (rows.Control access rd number operand)) terms given 
     inl (control-silent core next access rd number operand)
 row-spoken core next (Some rows.Barrier) terms given bytes = inl (barrier-silent core next)
 
-deed-spoken : (core : Core) (deed : Deed) (terms : Terms) (given : List ℕ) (bytes : ℕ → ℕ)
-    → Spoken bytes (plan core terms deed)
-    (outcome core terms deed given (taken_from bytes (plan core terms deed).reads)).output
+action-spoken : (core : Core) (action : Action) (terms : Terms) (given : List ℕ) (bytes : ℕ → ℕ)
+    → Spoken bytes (plan core terms action)
+    (outcome core terms action given (taken_from bytes (plan core terms action).reads)).output
 unfolding Spoken
-deed-spoken core (Takes code) terms given bytes =
+action-spoken core (Takes code) terms given bytes =
     row-spoken core (next_of core (len_of code)) (row_of_code code) terms given bytes
-deed-spoken core Cut terms given bytes = inl (fault-silent core (word_fault core))
-deed-spoken core (CallsByName function) terms given bytes =
+action-spoken core Cut terms given bytes = inl (fault-silent core (word_fault core))
+action-spoken core (CallsByName function) terms given bytes =
     inl (named-silent (returns core) function core terms.redzone terms.volume _)
-deed-spoken core Halts terms given bytes = inl (halt-silent core)
+action-spoken core Halts terms given bytes = inl (halt-silent core)
 
 pub writes-what-it-reads : WritesWhatItReads
 unfolding Spoken exec uses_at effect_at outcome_at touched_at
 writes-what-it-reads setup s =
-    let deed = deed_at s.core s.bytes setup.hooks in
-    let terms = deed_terms s.core deed s.position (length s.output) setup in
-    let uses = plan s.core terms deed in
-    let effect = outcome s.core terms deed (given_at s.position terms.intake.count setup)
+    let action = action_at s.core s.bytes setup.hooks in
+    let terms = action_terms s.core action s.position (length s.output) setup in
+    let uses = plan s.core terms action in
+    let effect = outcome s.core terms action (given_at s.position terms.intake.count setup)
     (taken_from s.bytes uses.reads) in
-    elim (deed-spoken s.core deed terms (given_at s.position terms.intake.count setup) s.bytes) [
+    elim (action-spoken s.core action terms (given_at s.position terms.intake.count setup) s.bytes) [
       | inl none ↦ inl (ap (λ xs. s.output ++ xs) none ∙ append-nil s.output)
       | inr some ↦ inr (ap (λ xs. s.output ++ xs) some.0, ap (λ range. written_to s.bytes range effect.made) some.1)
     ]
 
-deed-quiet : (core : Core) (deed : Deed) (terms : Terms) (given : List ℕ) (taken : ℕ → ℕ)
-    → calls_out (row_in deed) ≡ false
-    → (deed_asks core deed ≡ None) × ((outcome core terms deed given taken).output ≡ [])
-    × ((written : ℕ) → refuses_row core (row_in deed) written ≡ false)
+action-quiet : (core : Core) (action : Action) (terms : Terms) (given : List ℕ) (taken : ℕ → ℕ)
+    → calls_out (row_in action) ≡ false
+    → (action_asks core action ≡ None) × ((outcome core terms action given taken).output ≡ [])
+    × ((written : ℕ) → refuses_row core (row_in action) written ≡ false)
 unfolding row_in refuses_row
-deed-quiet core (Takes code) terms given taken h =
+action-quiet core (Takes code) terms given taken h =
     let q = silent core (next_of core (len_of code)) (row_of_code code) terms given taken h in
     (q.asks, q.output, q.fits)
-deed-quiet core Cut terms given taken h = (refl, fault-silent core (word_fault core), λ n. refl)
-deed-quiet core (CallsByName function) terms given taken h =
+action-quiet core Cut terms given taken h = (refl, fault-silent core (word_fault core), λ n. refl)
+action-quiet core (CallsByName function) terms given taken h =
     (refl, named-silent (returns core) function core terms.redzone terms.volume taken, λ n. refl)
-deed-quiet core Halts terms given taken h = (refl, halt-silent core, λ n. refl)
+action-quiet core Halts terms given taken h = (refl, halt-silent core, λ n. refl)
 
 pub only-calls-speak : OnlyCallsSpeak
 unfolding exec uses_at effect_at outcome_at intake_at row_at refuses_write
 only-calls-speak setup s h =
-    let deed = deed_at s.core s.bytes setup.hooks in
-    let terms = deed_terms s.core deed s.position (length s.output) setup in
-    let uses = plan s.core terms deed in
-    let q = deed-quiet s.core deed terms (given_at s.position terms.intake.count setup)
+    let action = action_at s.core s.bytes setup.hooks in
+    let terms = action_terms s.core action s.position (length s.output) setup in
+    let uses = plan s.core terms action in
+    let q = action-quiet s.core action terms (given_at s.position terms.intake.count setup)
     (taken_from s.bytes uses.reads) h in
     let left = left_at s.position setup in (
       record {

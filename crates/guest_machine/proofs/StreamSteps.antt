@@ -8,7 +8,8 @@ use Rattle.instructions.specs.declared.code.Code.{Code}
 use Rattle.instructions.specs.declared.instruction.Instruction.{Instruction}
 use Rattle.shadow_memory.specs.Ranges.{little_word, window}
 use Rattle.guest_machine.specs.State.{Core, State}
-use Rattle.guest_machine.specs.Exec.{Deed, Takes, Cut, CallsByName, Halts, called_here, deed_asks, deed_at, deed_by}
+use Rattle.guest_machine.specs.Exec.{Action, Takes, Cut, CallsByName, Halts, called_here, action_asks, action_at}
+use Rattle.guest_machine.specs.Exec.{action_by}
 use Rattle.guest_machine.specs.Exec.{row_asks}
 use Rattle.guest_machine.specs.Run.{pre}
 use Rattle.guest_machine.specs.Shows.{core_of, bytes_of, Holds}
@@ -21,21 +22,21 @@ use Rattle.guest_machine.specs.declared.setup.Setup.{Setup}
 
 -- where a code is taken, or a function called in its place
 quiet-by : (function : Option Hook) (code : Code) → calls_out (row_of_code code) ≡ false
-    → calls_out (row_in (deed_by function (Takes code))) ≡ false
+    → calls_out (row_in (action_by function (Takes code))) ≡ false
 unfolding row_in calls_out
 quiet-by (Some function) code h = refl
 quiet-by None code h = h
 
 pub quiet-decoded : (core : Core) (bytes : ℕ → ℕ) (len : ℕ) (row : Instruction) → IsDecoded core bytes len row
-    → calls_out (Some row) ≡ false → (hooks : List (ℕ × Hook)) → calls_out (row_in (deed_at core bytes hooks)) ≡ false
+    → calls_out (Some row) ≡ false → (hooks : List (ℕ × Hook)) → calls_out (row_in (action_at core bytes hooks)) ≡ false
 quiet-decoded core bytes len row d h hooks =
     let code = code_of len (little_word (window bytes core.pc len)) in
     let other : calls_out (row_of_code code) ≡ false = ap calls_out d.row ∙ h in
-    subst (λ found. calls_out (row_in (deed_by (called_here core hooks) found)) ≡ false) (sym d.taken)
+    subst (λ found. calls_out (row_in (action_by (called_here core hooks) found)) ≡ false) (sym d.taken)
     (quiet-by (called_here core hooks) code other)
 
 -- what is asked for follows from the instruction
-pub asks_by_row : (core : Core) (deed : Deed) → row_asks core (row_in deed) ≡ deed_asks core deed
+pub asks_by_row : (core : Core) (action : Action) → row_asks core (row_in action) ≡ action_asks core action
 unfolding row_asks row_in
 asks_by_row core (Takes code) = refl
 asks_by_row core Cut = refl
@@ -59,8 +60,8 @@ quiet-more s setup n before now = λ k less. elim (split k n (omega arith)) [
 
 -- of a guest that holds the state
 pub quiet-held : (g : Guest) (s : State) (setup : Setup)
-    → ((hooks : List (ℕ × Hook)) → calls_out (row_in (deed_at (core_of g) (bytes_of g) hooks)) ≡ false)
+    → ((hooks : List (ℕ × Hook)) → calls_out (row_in (action_at (core_of g) (bytes_of g) hooks)) ≡ false)
     → Holds g s → calls_out (row_at s setup) ≡ false
 unfolding row_at
 quiet-held g s setup quiet h =
-    sym (λ i. calls_out (row_in (deed_at (h.core i) (h.bytes i) setup.hooks))) ∙ quiet setup.hooks
+    sym (λ i. calls_out (row_in (action_at (h.core i) (h.bytes i) setup.hooks))) ∙ quiet setup.hooks

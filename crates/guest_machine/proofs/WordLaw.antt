@@ -10,9 +10,9 @@ use Rattle.guest_machine.specs.State.{Core, State}
 use Rattle.guest_machine.specs.Exec.{exec, Takes, counting, plan, outcome, outcome_at, uses_at, effect_at, touches}
 use Rattle.guest_machine.specs.Exec.{touched_at}
 use Rattle.guest_machine.specs.Exec.{has_touched}
-use Rattle.guest_machine.specs.Exec.{called_here, deed_by, deed_at, deed_terms}
-use Rattle.guest_machine.specs.Exec.{is_heap_deed, given_at, taken_from, written_to, counted, fetched, fetches}
-use Rattle.guest_machine.specs.Exec.{fetch_span, seen_also, intake_of, intake_at, deed_asks}
+use Rattle.guest_machine.specs.Exec.{called_here, action_by, action_at, action_terms}
+use Rattle.guest_machine.specs.Exec.{is_heap_action, given_at, taken_from, written_to, counted, fetched, fetches}
+use Rattle.guest_machine.specs.Exec.{fetch_span, seen_also, intake_of, intake_at, action_asks}
 use Rattle.guest_machine.specs.Exec.{left_at, fetch_by, half_at, word_at, word_fault}
 use Rattle.guest_elf.specs.Profiles.{is_half}
 use Rattle.instructions.specs.declared.code.Code.TheVariants.{Word, Half}
@@ -106,43 +106,43 @@ fetch-outside W core f g e h = go (fetches core) (is_half core.isa (half_at core
         (sym (ap (is_half core.isa) (sym half) ∙ k))
 
 -- what is done is the same
-deed-outside : (W : ℕ → Type 0) (core : Core) (hooks : List (ℕ × Hook)) (f g : ℕ → ℕ) → EqualOutside W f g
-    → Avoids W (fetch_span core (deed_at core f hooks))
-    → deed_at core f hooks ≡ deed_at core g hooks
+action-outside : (W : ℕ → Type 0) (core : Core) (hooks : List (ℕ × Hook)) (f g : ℕ → ℕ) → EqualOutside W f g
+    → Avoids W (fetch_span core (action_at core f hooks))
+    → action_at core f hooks ≡ action_at core g hooks
 unfolding Avoids
-deed-outside W core hooks f g e h = go (called_here core hooks) h
+action-outside W core hooks f g e h = go (called_here core hooks) h
   where
     go : (function : Option Hook)
-        → ((a : ℕ) → W a → covers (fetch_span core (deed_by function (fetched core f))) a ≡ false)
-        → deed_by function (fetched core f) ≡ deed_by function (fetched core g)
+        → ((a : ℕ) → W a → covers (fetch_span core (action_by function (fetched core f))) a ≡ false)
+        → action_by function (fetched core f) ≡ action_by function (fetched core g)
     go (Some function) k = refl
     go None k = fetch-outside W core f g e k
 
 -- the step of a state with these byte values
 module _ (W : ℕ → Type 0) (core : Core) (position output : ℕ) (setup : Setup) (f g : ℕ → ℕ) (e : EqualOutside W f g)
     (h : (a : ℕ) → W a → has_touched (touched_at core f position output setup) a ≡ false) where
-  deed-same : deed_at core f setup.hooks ≡ deed_at core g setup.hooks
+  action-same : action_at core f setup.hooks ≡ action_at core g setup.hooks
   unfolding touched_at Avoids
-  deed-same = deed-outside W core setup.hooks f g e (λ a w. left-false _ _ (h a w))
+  action-same = action-outside W core setup.hooks f g e (λ a w. left-false _ _ (h a w))
 
   uses-same : uses_at core f position output setup ≡ uses_at core g position output setup
   unfolding uses_at
-  uses-same = ap (λ d. plan core (deed_terms core d position output setup) d) deed-same
+  uses-same = ap (λ d. plan core (action_terms core d position output setup) d) action-same
 
   reads-avoid : Avoids W (uses_at core f position output setup).reads
   unfolding touched_at Avoids
-  reads-avoid a w = left-false _ _ (right-false (covers (fetch_span core (deed_at core f setup.hooks)) a) _ (h a w))
+  reads-avoid a w = left-false _ _ (right-false (covers (fetch_span core (action_at core f setup.hooks)) a) _ (h a w))
 
   outcome-same : outcome_at core f position output setup ≡ outcome_at core g position output setup
   unfolding outcome_at uses_at
   outcome-same =
-      ap (λ t. outcome core (deed_terms core (deed_at core f setup.hooks) position output setup)
-      (deed_at core f setup.hooks)
-      (given_at position (deed_terms core (deed_at core f setup.hooks) position output setup).intake.count setup) t)
+      ap (λ t. outcome core (action_terms core (action_at core f setup.hooks) position output setup)
+      (action_at core f setup.hooks)
+      (given_at position (action_terms core (action_at core f setup.hooks) position output setup).intake.count setup) t)
       (taken-outside W f g _ e reads-avoid)
-      ∙ ap (λ d. let terms = deed_terms core d position output setup in
+      ∙ ap (λ d. let terms = action_terms core d position output setup in
       outcome core terms d (given_at position terms.intake.count setup) (taken_from g (plan core terms d).reads))
-      deed-same
+      action-same
 
   effect-same : effect_at core f position output setup ≡ effect_at core g position output setup
   unfolding effect_at
@@ -151,7 +151,7 @@ module _ (W : ℕ → Type 0) (core : Core) (position output : ℕ) (setup : Set
   touched-same : touched_at core f position output setup ≡ touched_at core g position output setup
   unfolding touched_at
   touched-same =
-      ap₂ (λ d u. record { fetch = fetch_span core d; reads = u.reads; writes = u.writes }) deed-same uses-same
+      ap₂ (λ d u. record { fetch = fetch_span core d; reads = u.reads; writes = u.writes }) action-same uses-same
 
 module _ (W : ℕ → Type 0) (setup : Setup) (s : State) (g : ℕ
     → ℕ) (e : EqualOutside W s.bytes g) (h : TouchesNone W s setup) where
@@ -162,7 +162,7 @@ module _ (W : ℕ → Type 0) (setup : Setup) (s : State) (g : ℕ
   law : (touches s setup ≡ touches other setup) × DifferWithin W (exec s setup) (exec other setup)
   unfolding exec intake_at touches other EqualOutside
   law =
-      let d = deed-same W s.core s.position (length s.output) setup s.bytes g e h in
+      let d = action-same W s.core s.position (length s.output) setup s.bytes g e h in
       let u = uses-same W s.core s.position (length s.output) setup s.bytes g e h in
       let x = effect-same W s.core s.position (length s.output) setup s.bytes g e h in (
         ap has_touched (touched-same W s.core s.position (length s.output) setup s.bytes g e h),
@@ -171,10 +171,11 @@ module _ (W : ℕ → Type 0) (setup : Setup) (s : State) (g : ℕ
               (effect_at s.core s.bytes s.position (length s.output) setup).made e a n
               ∙ ap₂ (λ v y. written_to g v.writes y.made a) u x;
           core = ap (λ y. y.core) x;
-          position = ap (λ d. s.position + (intake_of (deed_asks s.core d) (left_at s.position setup)).count) d;
-          end_seen = ap (λ d. seen_also s.end_seen (intake_of (deed_asks s.core d) (left_at s.position setup)).ends) d;
+          position = ap (λ d. s.position + (intake_of (action_asks s.core d) (left_at s.position setup)).count) d;
+          end_seen =
+              ap (λ d. seen_also s.end_seen (intake_of (action_asks s.core d) (left_at s.position setup)).ends) d;
           output = ap (λ y. s.output ++ y.output) x;
-          heap_calls = ap (λ d. counted s.heap_calls (is_heap_deed s.core d)) d;
+          heap_calls = ap (λ d. counted s.heap_calls (is_heap_action s.core d)) d;
           events = ap (λ y. s.events ++ y.raised) x;
         },
       )

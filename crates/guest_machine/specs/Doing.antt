@@ -9,7 +9,7 @@ use Rattle.guest_machine.specs.NamedCalls.{returns, named_call}
 use Rattle.guest_machine.specs.Exec.{Uses, Terms, Intake, no_intake, intake_of, intake_at, seen_also, left_at, row_asks}
 use Rattle.guest_machine.specs.Exec.{call_asks, counted, written_to, row_uses, row_effect, rounded, calls_heap}
 use Rattle.guest_machine.specs.Exec.{read_uses, write_uses, work_uses, heap_uses, named_uses, moved_from, moved_into}
-use Rattle.guest_machine.specs.Exec.{terms_of, given_at, taken_from, is_heap_deed, deed_at, uses_at, effect_at}
+use Rattle.guest_machine.specs.Exec.{terms_of, given_at, taken_from, is_heap_action, action_at, uses_at, effect_at}
 use Rattle.guest_machine.specs.Exec.{outcome_at}
 use Rattle.guest_machine.specs.Exec.{Takes, Cut, Halts, fetched, touched_at}
 use Rattle.guest_machine.specs.Errors.{fetch_undef}
@@ -141,8 +141,8 @@ DoesRow old new next row setup =
     (calls_heap (core_of old) row) intake
 
 -- the same between the test of its code, of this length, and the stack pointer rule
-abbrev pub DoesRound : Guest → Guest → ℕ → Option Instruction → Setup → Type 0
-DoesRound old new len row setup =
+abbrev pub DoesDecoded : Guest → Guest → ℕ → Option Instruction → Setup → Type 0
+DoesDecoded old new len row setup =
     let uses = uses_by old row setup in
     let intake = (row_terms old row setup).intake in
     let given = given_at old.progress.position intake.count setup in
@@ -152,13 +152,13 @@ DoesRound old new len row setup =
     Does old new (rounded (core_of old) len effect) uses (calls_heap (core_of old) row) intake
 
 -- a step of a machine but for the number of steps
-abbrev pub DoesDeed : Guest → Guest → Setup → Type 0
-DoesDeed old new setup =
+abbrev pub DoesAction : Guest → Guest → Setup → Type 0
+DoesAction old new setup =
     let progress = old.progress in
     Does old new
     (outcome_at (core_of old) (bytes_of old) progress.position progress.output_len setup)
     (uses_at (core_of old) (bytes_of old) progress.position progress.output_len setup)
-    (is_heap_deed (core_of old) (deed_at (core_of old) (bytes_of old) setup.hooks))
+    (is_heap_action (core_of old) (action_at (core_of old) (bytes_of old) setup.hooks))
     (intake_at (core_of old) (bytes_of old) progress.position setup)
 
 -- a whole step of a machine, and what it touches
@@ -168,7 +168,7 @@ DoesStep old new setup =
     Does old new
     (effect_at (core_of old) (bytes_of old) progress.position progress.output_len setup)
     (uses_at (core_of old) (bytes_of old) progress.position progress.output_len setup)
-    (is_heap_deed (core_of old) (deed_at (core_of old) (bytes_of old) setup.hooks))
+    (is_heap_action (core_of old) (action_at (core_of old) (bytes_of old) setup.hooks))
     (intake_at (core_of old) (bytes_of old) progress.position setup)
 
 abbrev pub touched_by : Guest → Setup → Touched

@@ -8,7 +8,7 @@ use Rattle.call_stacks.specs.Frames.{trace_at}
 use Rattle.error_events.specs.declared.event.Event.{Event}
 use Rattle.error_events.specs.declared.event.Note.{Note}
 use Rattle.error_events.specs.declared.event.Note.TheVariants.{Absent, Near, Stack, Elsewhere}
-use Rattle.heap_blocks.specs.declared.block.Near.{Near as NearBlock}
+use Rattle.call_stacks.specs.declared.block.Near.{Near as NearBlock}
 use Rattle.guest_heap.specs.Blocks.{Blocks}
 use Rattle.guest_heap.specs.Steps.{near}
 use Rattle.error_events.specs.declared.kind.Kind.{Kind}

@@ -88,21 +88,21 @@ fetches core = is_running core.status && (is_aligned core.isa core.pc && is_none
 
 -- it fetches a code, and executes it; or it fetches the first half of a word and can't fetch the second; or it does the
 -- heap call in place of a function, which is called by name; or none of these
-pub data Deed : Type 0 where
-  Takes : Code → Deed
-  Cut : Deed
-  CallsByName : Hook → Deed
-  Halts : Deed
+pub data Action : Type 0 where
+  Takes : Code → Action
+  Cut : Action
+  CallsByName : Hook → Action
+  Halts : Action
 
 -- by whether a first part may be fetched, whether it is a half, and whether the whole word may be fetched
-abbrev pub fetch_by : Bool → Bool → Bool → ℕ → ℕ → Deed
+abbrev pub fetch_by : Bool → Bool → Bool → ℕ → ℕ → Action
 fetch_by false short whole half word = Halts
 fetch_by true true whole half word = Takes (Half half)
 fetch_by true false true half word = Takes (Word word)
 fetch_by true false false half word = Cut
 
 -- what a step does that calls no function by name
-unfoldable pub fetched : Core → (ℕ → ℕ) → Deed
+unfoldable pub fetched : Core → (ℕ → ℕ) → Action
 fetched core bytes =
     fetch_by (fetches core) (is_half core.isa (half_at core bytes)) (is_none (word_fault core)) (half_at core bytes)
     (word_at core bytes)
@@ -112,15 +112,15 @@ unfoldable pub called_here : Core → List (ℕ × Hook) → Option Hook
 called_here core hooks = if is_ready core then hook_at hooks core.pc else None
 
 -- a function is called before its code is looked at
-abbrev pub deed_by : Option Hook → Deed → Deed
-deed_by (Some function) deed = CallsByName function
-deed_by None deed = deed
+abbrev pub action_by : Option Hook → Action → Action
+action_by (Some function) action = CallsByName function
+action_by None action = action
 
-abbrev pub deed_at : Core → (ℕ → ℕ) → List (ℕ × Hook) → Deed
-deed_at core bytes hooks = deed_by (called_here core hooks) (fetched core bytes)
+abbrev pub action_at : Core → (ℕ → ℕ) → List (ℕ × Hook) → Action
+action_at core bytes hooks = action_by (called_here core hooks) (fetched core bytes)
 
 -- the code that is fetched, if it is
-abbrev pub code_in : Deed → Option Code
+abbrev pub code_in : Action → Option Code
 code_in (Takes code) = Some code
 code_in Cut = None
 code_in (CallsByName function) = None
@@ -318,13 +318,13 @@ unfetched core =
 -- the three parts together --
 
 -- is it a heap call? A call by name is one if it returns
-abbrev pub is_heap_deed : Core → Deed → Bool
-is_heap_deed core (Takes code) = calls_heap core (row_of_code code)
-is_heap_deed core Cut = false
-is_heap_deed core (CallsByName function) = returns core
-is_heap_deed core Halts = false
+abbrev pub is_heap_action : Core → Action → Bool
+is_heap_action core (Takes code) = calls_heap core (row_of_code code)
+is_heap_action core Cut = false
+is_heap_action core (CallsByName function) = returns core
+is_heap_action core Halts = false
 
-abbrev pub plan : Core → Terms → Deed → Uses
+abbrev pub plan : Core → Terms → Action → Uses
 plan core terms (Takes code) = row_uses core (row_of_code code) terms
 plan core terms Cut = nothing
 plan core terms (CallsByName function) = named_uses function core terms.redzone
@@ -341,7 +341,7 @@ rounded core len e =
     }
 
 -- a call by name leaves the stack pointer, and so needs no rule for it
-abbrev pub outcome : Core → Terms → Deed → List ℕ → (ℕ → ℕ) → Effect
+abbrev pub outcome : Core → Terms → Action → List ℕ → (ℕ → ℕ) → Effect
 outcome core terms (Takes code) given taken =
     rounded core (len_of code)
     (row_effect core (next_of core (len_of code)) (row_of_code code) terms given taken)
@@ -350,11 +350,11 @@ outcome core terms (CallsByName function) given taken = named_call function core
 outcome core terms Halts given taken = unfetched core
 
 -- how much of the input a step asks for, if it asks
-abbrev pub deed_asks : Core → Deed → Option ℕ
-deed_asks core (Takes code) = row_asks core (row_of_code code)
-deed_asks core Cut = None
-deed_asks core (CallsByName function) = None
-deed_asks core Halts = None
+abbrev pub action_asks : Core → Action → Option ℕ
+action_asks core (Takes code) = row_asks core (row_of_code code)
+action_asks core Cut = None
+action_asks core (CallsByName function) = None
+action_asks core Halts = None
 
 -- how much of the input is left
 abbrev pub left_at : ℕ → Setup → ℕ
@@ -371,9 +371,9 @@ terms_of heap asks position written setup =
     }
 
 -- and by what it does
-abbrev pub deed_terms : Core → Deed → ℕ → ℕ → Setup → Terms
-deed_terms core deed position written setup =
-    terms_of (is_heap_deed core deed) (deed_asks core deed) position written setup
+abbrev pub action_terms : Core → Action → ℕ → ℕ → Setup → Terms
+action_terms core action position written setup =
+    terms_of (is_heap_action core action) (action_asks core action) position written setup
 
 -- a number of bytes of the input, from a position on
 abbrev pub given_at : ℕ → ℕ → Setup → List ℕ
@@ -392,19 +392,20 @@ written_to bytes (Some span) made = written bytes span.start span.len made
 -- what a step uses, at a core, byte values, a position in the input and a length of output
 unfoldable pub uses_at : Core → (ℕ → ℕ) → ℕ → ℕ → Setup → Uses
 uses_at core bytes position written setup =
-    let deed = deed_at core bytes setup.hooks in plan core (deed_terms core deed position written setup) deed
+    let action = action_at core bytes setup.hooks in plan core (action_terms core action position written setup) action
 
 -- what it is given of the input
 unfoldable pub intake_at : Core → (ℕ → ℕ) → ℕ → Setup → Intake
 intake_at core bytes position setup =
-    intake_of (deed_asks core (deed_at core bytes setup.hooks)) (left_at position setup)
+    intake_of (action_asks core (action_at core bytes setup.hooks)) (left_at position setup)
 
 -- what it leaves but for the number of steps
 unfoldable pub outcome_at : Core → (ℕ → ℕ) → ℕ → ℕ → Setup → Effect
 outcome_at core bytes position written setup =
-    let deed = deed_at core bytes setup.hooks in
-    let terms = deed_terms core deed position written setup in
-    outcome core terms deed (given_at position terms.intake.count setup) (taken_from bytes (plan core terms deed).reads)
+    let action = action_at core bytes setup.hooks in
+    let terms = action_terms core action position written setup in
+    outcome core terms action (given_at position terms.intake.count setup)
+    (taken_from bytes (plan core terms action).reads)
 
 -- the number of steps after another one, if there are counters, which have 64 bits; and after a step, which counts if
 -- an instruction may begin at pc
@@ -443,14 +444,14 @@ exec s setup =
       position = s.position + intake.count;
       end_seen = seen_also s.end_seen intake.ends;
       output = s.output ++ effect.output;
-      heap_calls = counted s.heap_calls (is_heap_deed s.core (deed_at s.core s.bytes setup.hooks));
+      heap_calls = counted s.heap_calls (is_heap_action s.core (action_at s.core s.bytes setup.hooks));
       events = s.events ++ effect.raised;
     }
 
 -- which addresses a step touches --
 
 -- the addresses of the code at pc, if it is fetched, and of a half that is; what that holds decides the step
-abbrev pub fetch_span : Core → Deed → Option Span
+abbrev pub fetch_span : Core → Action → Option Span
 fetch_span core (Takes code) = Some (span_at core.pc (len_of code))
 fetch_span core Cut = Some (span_at core.pc 2)
 fetch_span core (CallsByName function) = None
@@ -460,7 +461,7 @@ fetch_span core Halts = None
 unfoldable pub touched_at : Core → (ℕ → ℕ) → ℕ → ℕ → Setup → Touched
 touched_at core bytes position written setup =
     let uses = uses_at core bytes position written setup in
-    record { fetch = fetch_span core (deed_at core bytes setup.hooks); reads = uses.reads; writes = uses.writes }
+    record { fetch = fetch_span core (action_at core bytes setup.hooks); reads = uses.reads; writes = uses.writes }
 
 -- is an address among those of three ranges?
 abbrev pub has_touched : Touched → ℕ → Bool

@@ -6,7 +6,7 @@ use Rattle.std.specs.Prelude.{true, false}
 use Rattle.shadow_memory.specs.Shadows.{copied_undef}
 use Rattle.shadow_memory.specs.declared.cells.RangeKind.{RangeKind}
 use Rattle.shadow_memory.specs.declared.cells.RangeKind.TheVariants.{NoAccess, Undefined, Defined}
-use Rattle.heap_blocks.specs.declared.block.Block.{Block}
+use Rattle.call_stacks.specs.declared.block.Block.{Block}
 use Rattle.error_events.specs.declared.event.Event.{Event}
 use Rattle.error_events.specs.declared.kind.Kind.TheVariants.{Free as FreeError}
 use Rattle.guest_heap.specs.Blocks.{Blocks, IsKept, Meets, allocated, released_at}

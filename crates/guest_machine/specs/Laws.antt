@@ -18,7 +18,7 @@ use Rattle.guest_machine.specs.MarkedRun as Marked
 use Rattle.guest_machine.specs.MarkedRun.{alterations_of}
 use Rattle.run_values.specs.Alterations.{alteration_of}
 use Rattle.run_values.specs.declared.mark.Mark.{Mark}
-use Rattle.guest_machine.specs.Exec.{exec, touches, counted, is_heap_deed, is_running, deed_at}
+use Rattle.guest_machine.specs.Exec.{exec, touches, counted, is_heap_action, is_running, action_at}
 use Rattle.guest_machine.specs.Exec.{Takes, Halts, called_here, fetched, fetches, jump_fault, unfetched, word_at}
 use Rattle.guest_machine.specs.Exec.{word_fault, Terms, atomic_uses, calls_heap, nothing, row_asks, row_effect}
 use Rattle.guest_machine.specs.Exec.{row_uses}
@@ -102,7 +102,7 @@ KeepsApart =
 
 -- is the step of a state a heap call?
 abbrev pub is_heap_step : State → List (ℕ × Hook) → Bool
-is_heap_step s hooks = is_heap_deed s.core (deed_at s.core s.bytes hooks)
+is_heap_step s hooks = is_heap_action s.core (action_at s.core s.bytes hooks)
 
 -- a step that is no heap call doesn't look at the redzone or at the volume; and the state counts its heap calls
 pub record KeepsHeap : Type 0 where

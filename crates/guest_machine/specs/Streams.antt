@@ -6,7 +6,7 @@ use Rattle.shadow_memory.specs.Ranges.{window}
 use Rattle.guest_machine.specs.State.{Core, State}
 use Rattle.guest_machine.specs.Calls.{argument, appends, bytes_taken, call_at, has_room, is_output, moved_len}
 use Rattle.guest_machine.specs.Errors.{fetch_undef}
-use Rattle.guest_machine.specs.Exec.{Deed, Takes, Cut, CallsByName, Halts, deed_at, exec, intake_at, is_running}
+use Rattle.guest_machine.specs.Exec.{Action, Takes, Cut, CallsByName, Halts, action_at, exec, intake_at, is_running}
 use Rattle.guest_machine.specs.Exec.{is_ready, touched_of}
 use Rattle.guest_machine.specs.Run.{pre}
 use Rattle.guest_elf.specs.Profiles.{has_controls, usual_limits}
@@ -25,14 +25,14 @@ use Rattle.guest_machine.specs.declared.setup.Setup.{Setup}
 -- ---- the instruction of a step
 
 -- the instruction that is carried out, if one is
-unfoldable pub row_in : Deed → Option Instruction
+unfoldable pub row_in : Action → Option Instruction
 row_in (Takes code) = row_of_code code
 row_in Cut = None
 row_in (CallsByName function) = None
 row_in Halts = None
 
 unfoldable pub row_at : State → Setup → Option Instruction
-row_at s setup = row_in (deed_at s.core s.bytes setup.hooks)
+row_at s setup = row_in (action_at s.core s.bytes setup.hooks)
 
 -- is it ECALL?
 unfoldable pub calls_out : Option Instruction → Bool
@@ -52,7 +52,7 @@ abbrev pub is_self_jump : Code → Bool
 is_self_jump (Word word) = word == self_jump
 is_self_jump (Half half) = half == short_self_jump
 
-unfoldable pub jumps_to_itself : Deed → Bool
+unfoldable pub jumps_to_itself : Action → Bool
 jumps_to_itself (Takes code) = is_self_jump code
 jumps_to_itself Cut = false
 jumps_to_itself (CallsByName function) = false
@@ -120,16 +120,16 @@ refused_writes start setup (suc n) =
     refused_writes start setup n + (if refuses_write (pre start setup [] n) setup then 1 else 0)
 
 -- is the code that is taken defined?
-abbrev pub is_defined : Core → Deed → Bool
+abbrev pub is_defined : Core → Action → Bool
 is_defined core (Takes code) = fetch_undef core (len_of code) == 0
 is_defined core _ = false
 
 -- is it a jump to itself, whose code is defined?
-abbrev pub idles_in : Core → Deed → Bool
-idles_in core deed = jumps_to_itself deed && is_defined core deed
+abbrev pub idles_in : Core → Action → Bool
+idles_in core action = jumps_to_itself action && is_defined core action
 
 unfoldable pub is_idle : State → Setup → Bool
-is_idle s setup = idles_in s.core (deed_at s.core s.bytes setup.hooks)
+is_idle s setup = idles_in s.core (action_at s.core s.bytes setup.hooks)
 
 -- the first n steps of a run without marks are no ECALLs
 abbrev pub IsQuietFor : State → Setup → ℕ → Type 0

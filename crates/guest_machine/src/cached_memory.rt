@@ -238,7 +238,7 @@ impl CachedMemory {
     }
 
     /// See [`Memory::share`]. The copy has decoded the same.
-    pub(crate) fn share_ready(&self, alloc: Global) -> Result<CachedMemory, AllocError>
+    pub(crate) fn share_warm(&self, alloc: Global) -> Result<CachedMemory, AllocError>
         ensures bytes { IfOk result (λ copy. bytes_in copy ≡ bytes_in self.now) }
         ensures shadows { IfOk result (λ copy. shadows_in copy ≡ shadows_in self.now) }
     {
@@ -249,7 +249,7 @@ impl CachedMemory {
 
     /// Copies what another memory has decoded, for the codes that are the same in both.
     #[tactic(auto, using(crate::proofs::SameCodes::both_left))]
-    pub(crate) fn learn(&mut self, alloc: Global, other: &CachedMemory)
+    pub(crate) fn copy_decoded(&mut self, alloc: Global, other: &CachedMemory)
         ensures { self.new ≡ self.old }
     {
         let mut cache = other.cache.share(alloc);
@@ -258,7 +258,7 @@ impl CachedMemory {
     }
 
     /// Takes over what another memory has decoded, for the codes that are the same in both, unless this one has decoded something itself.
-    pub(crate) fn take_over(&mut self, alloc: Global, other: &mut CachedMemory)
+    pub(crate) fn move_decoded(&mut self, alloc: Global, other: &mut CachedMemory)
         ensures same { self.new ≡ self.old }
         ensures other { other.new ≡ other.old }
     {
@@ -270,7 +270,7 @@ impl CachedMemory {
     }
 
     /// See [`Memory::share`]. What was decoded moves to the copy.
-    pub(crate) fn hand_on(&mut self, alloc: Global) -> Result<CachedMemory, AllocError>
+    pub(crate) fn share_moving(&mut self, alloc: Global) -> Result<CachedMemory, AllocError>
         ensures same { self.new ≡ self.old }
         ensures bytes { IfOk result (λ copy. bytes_in copy ≡ bytes_in self.old) }
         ensures shadows { IfOk result (λ copy. shadows_in copy ≡ shadows_in self.old) }

@@ -24,9 +24,9 @@
 //! | [`Machine::alter`] | returns the machine with any [`Alteration`] made: a range, a register, pc, or bytes |
 //! | [`Machine::poke`], [`Machine::poke_word`] | returns the machine with the bytes of a code at an address changed, or four bytes |
 //! | [`Machine::share`] | returns a copy, which later changes of the original don't reach |
-//! | [`Machine::hand_on`] | likewise, for the copy that continues the run: what was decoded moves to it |
-//! | [`Machine::share_ready`] | likewise, for one of several such copies: it has decoded what this one has |
-//! | [`Machine::learn`], [`Machine::take_over`] | copy or move what another machine has decoded, for the codes that are the same in both |
+//! | [`Machine::share_moving`] | likewise, for the copy that continues the run: what was decoded moves to it |
+//! | [`Machine::share_warm`] | likewise, for one of several such copies: it has decoded what this one has |
+//! | [`Machine::copy_decoded`], [`Machine::move_decoded`] | copy or move what another machine has decoded, for the codes that are the same in both |
 //! | [`Machine::is_same`] | returns whether another machine shows the same |
 //! | [`Machine::words_apart`] | returns the words in which another machine has other bytes, if it shows the same but for these |
 //! | [`Machine::status`], [`Machine::pc`], [`Machine::register`] | return whether it runs, and its registers |
@@ -77,7 +77,7 @@
 //!
 //! - `Run`: the state at the start, marks, pokes, and the states before and after the alterations of each step. `Alterations`: what each of
 //!   these does. `MarkedRun`: the run with only marks.
-//! - `Exec`: one step (`exec`) and what it touches (`touched_of`, `touches`), in three parts: what the step does (`deed_at`: it fetches the
+//! - `Exec`: one step (`exec`) and what it touches (`touched_of`, `touches`), in three parts: what the step does (`action_at`: it fetches the
 //!   code at pc, calls a function by name, or neither), what it uses, and what it leaves. It depends on no other byte and no other part of
 //!   the setup; the laws follow from this form.
 //! - `Effects`, `Atomics`, `Controls` and `Calls`: what each class of instruction, each atomic instruction, each instruction of a control

@@ -7,7 +7,7 @@ use Rattle.std.proofs.lemmas.Option.{none-some, slice_get-get_or, slice_get_with
 use Rattle.std.proofs.lemmas.List.Elements.{Contains-get_or}
 use Rattle.std.specs.declared.vec.Vec.{Vec}
 use Rattle.std.specs.declared.alloc.Global.{Global}
-use Rattle.heap_blocks.specs.declared.block.Block.{Block}
+use Rattle.call_stacks.specs.declared.block.Block.{Block}
 use Rattle.leak_graph.specs.declared.graph.Pointer.{Pointer}
 use Rattle.leak_graph.specs.declared.leak_kind.LeakKind.{LeakKind}
 use Rattle.leak_graph.specs.Graphs.{HasPointer, HasEdge, GoWithin, AllGoWithin, links_of}

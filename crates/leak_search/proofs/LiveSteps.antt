@@ -4,7 +4,7 @@ use Rattle.std.proofs.Common.{length, append_assoc, append-nil, arith, refl, sym
 use Rattle.std.proofs.lemmas.Option.{same_Some, none-some, slice_get_within}
 use Rattle.std.specs.declared.vec.Vec.{Vec}
 use Rattle.std.specs.declared.alloc.Global.{Global}
-use Rattle.heap_blocks.specs.declared.block.Block.{Block}
+use Rattle.call_stacks.specs.declared.block.Block.{Block}
 use Rattle.guest_heap.specs.Blocks.{Blocks, IsFirstLive, high_end, low_end}
 use Rattle.guest_heap.specs.Steps.{AreInRegion, AreApart, live_from, live_list, live_above}
 use Rattle.guest_heap.specs.Laws.{LiveGoesOn}

@@ -3,7 +3,7 @@ use Rattle.std.specs.Prelude.{◌≡◌, ℕ, ◌<◌, ◌+◌, ◌≤◌, ◌%�
 use Rattle.std.specs.Prelude.{◌∷◌, ◌++◌, Option, Some, None, slice_get, slice_index_or, length}
 use Rattle.std.specs.declared.vec.Vec.{Vec}
 use Rattle.std.specs.declared.alloc.Global.{Global}
-use Rattle.heap_blocks.specs.declared.block.Block.{Block}
+use Rattle.call_stacks.specs.declared.block.Block.{Block}
 use Rattle.guest_heap.specs.Blocks.{Blocks, IsFirstLive}
 use Rattle.guest_heap.specs.Steps.{live_from}
 use Rattle.definedness.specs.declared.Bits.{Bits}

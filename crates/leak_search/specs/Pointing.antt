@@ -2,7 +2,7 @@
 -- start-pointers and interior-pointers). That a value one past a block doesn't count, nor a word partly in one, is this
 -- project's own rule.
 use Rattle.std.specs.Prelude.{◌≡◌, ℕ, ◌+◌, ◌<◌, ◌≤◌, ◌⊎◌, Bool, true, false, List, Some, slice_get}
-use Rattle.heap_blocks.specs.declared.block.Block.{Block}
+use Rattle.call_stacks.specs.declared.block.Block.{Block}
 
 abbrev pub IsStartPointer : ℕ → Block → Type 0
 IsStartPointer value block = value ≡ block.start

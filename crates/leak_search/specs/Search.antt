@@ -2,7 +2,7 @@
 -- that lies partly in a block is neither a root nor a word of the block.
 use Rattle.std.specs.Prelude.{◌≡◌, ℕ, ◌<◌, ◌≤◌, ◌⊎◌, Bool, true, false, List, Option, Some, slice_get, length}
 use Rattle.definedness.specs.declared.Bits.{Bits}
-use Rattle.heap_blocks.specs.declared.block.Block.{Block}
+use Rattle.call_stacks.specs.declared.block.Block.{Block}
 use Rattle.leak_graph.specs.Leaks.{Links, HasKind}
 use Rattle.leak_search.specs.declared.record.LeakRecord.{LeakRecord}
 use Rattle.leak_search.specs.Pointing.{PointsTo, IsInNoBlock, IsWordIn}

@@ -1,6 +1,6 @@
 ghost use Rattle.std.specs.Prelude.{◌≡◌, ℕ, ◌<◌, ◌≤◌, ◌%◌, IfNone, IfSome, Some, slice_get, length, nat_le, true, false, Bool};
 ghost use Rattle.std.specs.List.Sorted.{IsPartitionPoint, IsPartitionedBy};
-ghost use Rattle.heap_blocks.specs.declared.block.Block.{Block};
+ghost use Rattle.call_stacks.specs.declared.block.Block.{Block};
 ghost use Rattle.leak_search.specs.Pointing.{PointsTo};
 ghost use Rattle.leak_search.specs.Gathering.{AreOrdered, IsLastAt, Finds, IsOwner};
 

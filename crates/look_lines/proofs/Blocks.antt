@@ -6,7 +6,7 @@ use Rattle.std.specs.List.{flat_map}
 use Rattle.std.specs.Prelude.{IfNone, IfSome}
 use Rattle.std.specs.Option.{option_map}
 use Rattle.guest_heap.specs.Blocks.{Blocks, IsFirstKept, IsKept}
-use Rattle.heap_blocks.specs.declared.block.Block.{Block}
+use Rattle.call_stacks.specs.declared.block.Block.{Block}
 use Rattle.look_lines.specs.Lists.{AreKept, block_line, blocks_end, ListsBlocks, most_blocks}
 
 -- blocks are the kept ones from one address on, below another

@@ -8,7 +8,7 @@ use Rattle.checkpoints.specs.declared.happenings.Happening.{Happening}
 use Rattle.checkpoints.specs.declared.happenings.Happening.TheVariants.{Call, Return, Heap, Input, Output}
 use Rattle.guest_heap.specs.Blocks.{Blocks, IsFirstKept, IsKept}
 use Rattle.guest_machine.specs.State.{State}
-use Rattle.heap_blocks.specs.declared.block.Block.{Block}
+use Rattle.call_stacks.specs.declared.block.Block.{Block}
 use Rattle.report_lines.specs.Text.{address_text, newline}
 
 abbrev pub spaced : ℕ → List ℕ

@@ -7,7 +7,7 @@ use commands::{Fault, number};
 use instructions::{Register, Width};
 use run_values::{Act, Alteration};
 use scenario::MOST_STEPS;
-use text_parts::Parts;
+use texts::Parts;
 
 const SET: &[u8] = b"set";
 

@@ -4,7 +4,7 @@ ghost use Rattle.guest_machine.specs.Shows.{Shows};
 ghost use Rattle.guest_machine.specs.State.{State};
 ghost use Rattle.look_lines.specs.Controls.{control_line, control_name, controls_text};
 
-use crate::texts::push_bits;
+use crate::replies::push_bits;
 use definedness::Bits;
 use guest_machine::Machine;
 use report_lines::push_text;

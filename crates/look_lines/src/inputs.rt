@@ -8,7 +8,7 @@ ghost use Rattle.look_lines.specs.Inputs.{begins_with, bytes_of, edit_asked, edi
 use commands::{Bytes, Edit, Fault, digit_value, number};
 use scenario::LONGEST_INPUT;
 use std::alloc::{AllocError, Global};
-use text_parts::Parts;
+use texts::Parts;
 
 const BYTES: &[u8] = b"bytes";
 

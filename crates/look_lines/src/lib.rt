@@ -27,7 +27,7 @@ mod lists;
 mod look;
 mod parsing;
 mod ranges;
-mod texts;
+mod replies;
 
 pub use altering::{alteration_asked, alters};
 pub use controls::push_controls;
@@ -36,6 +36,6 @@ pub use lists::{MOST_HAPPENED, push_blocks, push_calls, push_stack};
 pub use look::{Look, Search, Stretch};
 pub use parsing::asked;
 pub use ranges::range_of;
-pub use texts::{
+pub use replies::{
     push_digits, push_input, push_memory, push_output, push_registers, push_sides, push_step,
 };

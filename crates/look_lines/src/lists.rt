@@ -7,11 +7,10 @@ ghost use Rattle.guest_machine.specs.Shows.{Shows};
 ghost use Rattle.report_lines.specs.Text.{address_text};
 ghost use Rattle.look_lines.specs.Lists.{block_line, blocks_end, calls_end, calls_text, happened_line, ListsBlocks, spaced, stack_text, trace_shown, what_text};
 
-use call_stacks::{CallStack, Frame, Trace};
+use call_stacks::{Block, CallStack, Frame, Trace};
 use checkpoints::{Happened, Happening};
 use guest_heap::Heap;
 use guest_machine::Machine;
-use heap_blocks::Block;
 use report_lines::{push_address, push_number, push_text};
 use std::alloc::AllocError;
 

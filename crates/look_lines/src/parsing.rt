@@ -8,7 +8,7 @@ use checkpoints::{Sought, Watch};
 use commands::{Fault, number};
 use run_values::Span;
 use scenario::MOST_STEPS;
-use text_parts::Parts;
+use texts::Parts;
 
 const RUN: &[u8] = b"run";
 

@@ -4,7 +4,7 @@ use Rattle.std.proofs.lemmas.Bool.{lt-leb}
 use Rattle.std.specs.Prelude.{codes, nat_eq, not}
 use Rattle.std.specs.Bool.{MatchBool}
 use Rattle.std.specs.List.{starts_with}
-use Rattle.line_server.specs.Lines.{longest_line}
+use Rattle.line_protocol.specs.Lines.{longest_line}
 use Rattle.replay_session.specs.LongLines.{accepted-alike}
 use Rattle.replay_session.specs.Replies.{RepliesAs, is_over}
 use Rattle.replay_session.specs.Stages.{Stage}

@@ -5,8 +5,8 @@ use Rattle.std.specs.List.{starts_with}
 use Rattle.checkpoints.specs.Searches.{IsNext, IsLast}
 use Rattle.checkpoints.specs.Work.{ReportMoves, Work, reached}
 use Rattle.checkpoints.specs.declared.sides.Sides.{Sides as SidesOf}
-use Rattle.line_server.specs.Answers.{AnswersBy}
-use Rattle.line_server.specs.Lines.{longest_line}
+use Rattle.line_protocol.specs.Answers.{AnswersBy}
+use Rattle.line_protocol.specs.Lines.{longest_line}
 use Rattle.replay_session.specs.Replies.{RepliesAs, is_over, refused_line}
 use Rattle.replay_session.specs.Stages.{Stage}
 use Rattle.replay_session.specs.Session.{Finds, happened_of, IsSidesOf, IsVerdictOf}

@@ -1,11 +1,11 @@
 //! A session that can be looked at, over any reader and any writer.
 ghost use Rattle.std.specs.Prelude.{IfErr, OnOk};
-ghost use Rattle.line_server.specs.Served.{ServedAll, ServedRead, StoppedBy};
+ghost use Rattle.line_protocol.specs.Served.{ServedAll, ServedRead, StoppedBy};
 ghost use Rattle.replay_session.specs.Stages.{stage_of};
 ghost use Rattle.looks.specs.Views.{ViewsLines};
 
 use crate::viewer::Viewer;
-use line_server::ServeFault;
+use line_protocol::ServeFault;
 use replay_session::Session;
 use std::io::{Read, Write};
 
@@ -35,5 +35,5 @@ pub fn serve<R: Read, W: Write>(
             bytes: 0,
         });
     };
-    line_server::serve(alloc, &mut viewer, reader, writer)
+    line_protocol::serve(alloc, &mut viewer, reader, writer)
 }

@@ -7,7 +7,7 @@ ghost use Rattle.look_lines.specs.Looks.{look_refusal};
 ghost use Rattle.looks.specs.Views.{giving, LookMoves, looks, marking, Tells};
 
 use commands::{Command, Edit};
-use line_server::{LONGEST_LINE, Listener};
+use line_protocol::{LONGEST_LINE, Listener};
 use look_lines::{
     Look, MOST_HAPPENED, alteration_asked, alters, asked, edit_asked, gives, push_blocks,
     push_calls, push_controls, push_input, push_memory, push_output, push_registers, push_sides,

@@ -4,12 +4,12 @@ use guest_elf::{Hook, Image, Isa, Profile, StreamLimits, read_for};
 use guest_machine::{
     Act, Alteration, Hooks, Input, Machine, Mark, Meter, Register, Setup, Span, Status, Touched,
 };
-use guest_programs::program;
 use instructions::{Code, Instruction, Operation};
 use memory_map::{Regions, StackRegion};
 use shadow_memory::RangeKind;
 use std::alloc::{AllocError, Global};
 use std::process::Abort;
+use test_support::program;
 
 /// `addi a0, a0, 1`, and the same by 2.
 pub(crate) const COUNT: u32 = 0x0015_0513;
@@ -269,7 +269,7 @@ fn begun_with(alloc: Global, image: &Image, first: u32) -> Result<Machine, Alloc
 /// Returns whether a step of the program with another first word adds this much, after it took over what a machine has decoded.
 fn adds(start: Machine, setup: &Setup, decoded: &Machine, want: u32) -> Result<bool, AllocError> {
     let mut machine = start;
-    machine.learn(decoded);
+    machine.copy_decoded(decoded);
     Ok(answer(machine, setup, 1)?.value == want)
 }
 
@@ -287,7 +287,7 @@ fn adds_anew(
 
 /// Returns whether two more steps of a ready copy add to the two before.
 fn goes_on(setup: &Setup, decoded: &Machine) -> Result<bool, AllocError> {
-    let copy = decoded.share_ready()?;
+    let copy = decoded.share_warm()?;
     Ok(answer(copy, setup, 2)?.value == 3)
 }
 
@@ -299,7 +299,7 @@ fn takes_over(
     decoded: &mut Machine,
 ) -> Result<bool, AllocError> {
     let mut machine = begun_with(alloc, image, COUNT_BY_2)?;
-    machine.take_over(decoded);
+    machine.move_decoded(decoded);
     Ok(answer(machine, setup, 3)?.value == 4)
 }
 
@@ -339,7 +339,7 @@ pub(crate) fn is_count(instruction: Option<Instruction>) -> bool {
 fn learns(alloc: Global, image: &Image, start: Machine, setup: &Setup) -> Result<bool, AllocError> {
     let is_first = is_count(start.instruction());
     let mut decoded = stepped(start, setup, &mut Meter::new(), 3)?;
-    let again = stepped(decoded.share_ready()?, setup, &mut Meter::new(), 1)?;
+    let again = stepped(decoded.share_warm()?, setup, &mut Meter::new(), 1)?;
     let is_same = !is_count(decoded.instruction()) && is_count(again.instruction());
     Ok(is_first && is_same && is_learnt(alloc, image, setup, &mut decoded)?)
 }

@@ -43,17 +43,17 @@ is_stack_region begin end =
     && (nat_le (begin + 65536) end && nat_le end greatest_stack_end))
 
 -- has the heap's region an address of the stack's?
-unfoldable pub meet : ℕ → ℕ → ℕ → Bool
-meet heap begin end = nat_lt (max heap begin) (min (heap + heap_size) end)
+unfoldable pub overlap : ℕ → ℕ → ℕ → Bool
+overlap heap begin end = nat_lt (max heap begin) (min (heap + heap_size) end)
 
 -- the heap's region may begin there, the stack's may reach from there to there, and they have no address in common
 abbrev pub are_regions : ℕ → ℕ → ℕ → Bool
-are_regions heap begin end = is_heap_begin heap && (is_stack_region begin end && not (meet heap begin end))
+are_regions heap begin end = is_heap_begin heap && (is_stack_region begin end && not (overlap heap begin end))
 
 -- what is wrong with them, if anything is
 unfoldable pub first_fault : ℕ → ℕ → ℕ → Option RegionsFault
 first_fault heap begin end =
     if not (is_heap_begin heap) then Some Heap
     else if not (is_stack_region begin end) then Some Stack
-    else if meet heap begin end then Some Meet
+    else if overlap heap begin end then Some Meet
     else None

@@ -1,6 +1,6 @@
 //! Where the heap's region and the stack's lie.
 ghost use Rattle.std.specs.Prelude.{◌≡◌, ◌-◌, true, IfOk, IfErr, Some};
-ghost use Rattle.memory_map.specs.Regions.{are_regions, first_fault, first_stack_bytes, is_heap_begin, is_stack_region, meet};
+ghost use Rattle.memory_map.specs.Regions.{are_regions, first_fault, first_stack_bytes, is_heap_begin, is_stack_region, overlap};
 
 use crate::{FIRST_STACK_BYTES, HEAP_SIZE};
 
@@ -66,9 +66,9 @@ fn is_stack_region(stack: StackRegion) -> bool
 }
 
 /// Returns whether the heap's region has an address of the stack's.
-#[tactic(auto, unfolding(crate::specs::Regions::meet))]
-fn meet(heap: u32, stack: StackRegion) -> bool
-    ensures { result ≡ meet heap stack.begin stack.end }
+#[tactic(auto, unfolding(crate::specs::Regions::overlap))]
+fn overlap(heap: u32, stack: StackRegion) -> bool
+    ensures { result ≡ overlap heap stack.begin stack.end }
 {
     let heap_end = u64::from(heap) + u64::from(HEAP_SIZE);
     u64::from(heap.max(stack.begin)) < heap_end.min(u64::from(stack.end))
@@ -99,7 +99,7 @@ impl Regions {
             Err(RegionsFault::Heap)
         } else if !is_stack_region(stack) {
             Err(RegionsFault::Stack)
-        } else if meet(heap, stack) {
+        } else if overlap(heap, stack) {
             Err(RegionsFault::Meet)
         } else {
             Ok(Regions { heap, stack })

@@ -1,7 +1,7 @@
 //! Counted texts, with numbers and counts worked out by hand.
 use crate::comes;
 use std::alloc::{AllocError, Global};
-use tallies::Tallies;
+use texts::Tallies;
 
 /// Texts, the number of each and whether it was met before.
 const TEXTS: [(&[u8], usize, bool); 5] = [
@@ -15,7 +15,7 @@ const TEXTS: [(&[u8], usize, bool); 5] = [
 /// Returns whether each of the texts is found.
 fn are_met(tallies: &mut Tallies) -> Result<bool, AllocError> {
     for (text, number, is_met) in &TEXTS {
-        let found = tallies.meet(text)?;
+        let found = tallies.record(text)?;
         if found.number != *number || found.is_met != *is_met {
             return Ok(false);
         }

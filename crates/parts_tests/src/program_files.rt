@@ -1,7 +1,7 @@
 //! A file byte for byte, written down by hand.
 use crate::comes;
-use guest_programs::{program, sized_program};
 use std::alloc::{AllocError, Global};
+use test_support::{program, sized_program};
 
 /// Three words at 0x10000: `addi a7, x0, 93`, `addi a0, x0, 0`, `ecall`.
 const EXIT: [u8; 96] = [

@@ -4,7 +4,7 @@ use Rattle.std.proofs.Common.{subst}
 use Rattle.std.proofs.lemmas.List.{length-take, take_all}
 use Rattle.scenario.specs.Limits.{longest_input}
 use Rattle.program_files.specs.Files.{Giving, IsFront, HasInput, HasRules, NoInput, NoRules, longest_text}
-use Rattle.ends.specs.declared.ends.End.TheVariants.{InputTooLarge, Suppressions}
+use Rattle.exit_status.specs.declared.ends.End.TheVariants.{InputTooLarge, Suppressions}
 use Rattle.suppressions.specs.Rules.{Rule}
 use Rattle.suppressions.specs.Texts.{faults, rules, IsLeast}
 use Rattle.suppressions.specs.declared.fault.SuppFault.{SuppFault}

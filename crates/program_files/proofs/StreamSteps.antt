@@ -6,8 +6,8 @@ use Rattle.program_files.specs.Opened.{end_of_input}
 use Rattle.program_files.specs.Files.{HasText, NoRulesIn, NoStream, NoText}
 use Rattle.program_files.specs.declared.files.ReadFault.{ReadFault}
 use Rattle.program_files.specs.declared.files.ReadFault.TheVariants as Fault
-use Rattle.ends.specs.declared.ends.End.{End}
-use Rattle.ends.specs.declared.ends.End.TheVariants.{Suppressions}
+use Rattle.exit_status.specs.declared.ends.End.{End}
+use Rattle.exit_status.specs.declared.ends.End.TheVariants.{Suppressions}
 use Rattle.suppressions.specs.Texts.{faults, IsLeast}
 use Rattle.suppressions.specs.declared.fault.SuppFault.{SuppFault}
 use Rattle.suppressions.specs.declared.fault.SuppFault.TheVariants as Supp

@@ -3,7 +3,7 @@ use Rattle.std.specs.Prelude.{ℕ, ◌≡◌, ◌+◌, ◌<◌, ◌≤◌, ◌�
 use Rattle.std.specs.Prelude.{IfSome, length, take}
 use Rattle.std.specs.Io.KnownBytes.{Appends, Consumes}
 use Rattle.std.specs.Str.{bytes_eq}
-use Rattle.command_line.specs.declared.order.ProfileWords.{ProfileWords}
+use Rattle.command_line.specs.declared.order.ProfileArgs.{ProfileArgs}
 use Rattle.guest_elf.specs.File.{IsImageFor, refusal, early_refusal}
 use Rattle.guest_elf.specs.declared.fault.ElfFault.{ElfFault}
 use Rattle.guest_elf.specs.declared.fault.ElfFault.TheVariants as Elf
@@ -12,9 +12,9 @@ use Rattle.guest_elf.specs.declared.profile.Profile.{Profile}
 use Rattle.memory_map.specs.declared.regions.Regions.{Regions}
 use Rattle.program_files.specs.Profiles.{IsProfileNamed, NoProfile}
 use Rattle.scenario.specs.Limits.{longest_input}
-use Rattle.ends.specs.declared.ends.End.{End}
-use Rattle.ends.specs.declared.ends.End.TheVariants.{CannotRead, CannotReadInput, Image}
-use Rattle.ends.specs.declared.ends.End.TheVariants.{Suppressions, SuppressionsTooLong, InputTooLarge, NoMemory}
+use Rattle.exit_status.specs.declared.ends.End.{End}
+use Rattle.exit_status.specs.declared.ends.End.TheVariants.{CannotRead, CannotReadInput, Image}
+use Rattle.exit_status.specs.declared.ends.End.TheVariants.{Suppressions, SuppressionsTooLong, InputTooLarge, NoMemory}
 use Rattle.suppressions.specs.Rules.{Rule}
 use Rattle.suppressions.specs.Texts.{faults, rules, IsLeast}
 use Rattle.suppressions.specs.declared.fault.SuppFault.TheVariants as Supp
@@ -67,12 +67,12 @@ NoProgram gives regions path (Image fault) =
 NoProgram gives regions path end = NoBytes gives path end
 
 -- the program of a file for a profile: its texts are judged, and then the file read
-abbrev pub HasImage : Giving → ProfileWords → List ℕ → ProgramImage → Type 0
+abbrev pub HasImage : Giving → ProfileArgs → List ℕ → ProgramImage → Type 0
 HasImage gives words path image =
     (profile : Profile) × (front : List ℕ) × IsProfileNamed words profile × IsFront gives path most_judged front
     × IsImageFor profile front image
 
-abbrev pub NoImage : Giving → ProfileWords → List ℕ → End → Type 0
+abbrev pub NoImage : Giving → ProfileArgs → List ℕ → End → Type 0
 NoImage gives words path end =
     NoProfile words end
     ⊎ ((profile : Profile) × IsProfileNamed words profile × NoProgram gives profile.regions path end)

@@ -4,7 +4,7 @@ use Rattle.std.specs.declared.io.ErrorKind.{ErrorKind}
 use Rattle.std.specs.declared.io.ErrorKind.TheVariants.{OutOfMemory}
 use Rattle.program_files.specs.declared.files.ReadFault.{ReadFault}
 use Rattle.program_files.specs.declared.files.ReadFault.TheVariants.{NoMemory, Unreadable}
-use Rattle.ends.specs.declared.ends.End.{End}
+use Rattle.exit_status.specs.declared.ends.End.{End}
 
 -- that memory ran out is distinguished: every other fault is a file that can't be read
 abbrev pub IsFaultOf : ErrorKind → ReadFault → Type 0

@@ -4,18 +4,18 @@ use Rattle.std.specs.Prelude.{codes, nat_le, unwrap_or}
 use Rattle.std.specs.Str.{bytes_eq}
 use denote.Ref.{Bor}
 use Rattle.command_line.specs.Isas.{isa_named}
-use Rattle.command_line.specs.declared.order.ProfileWords.{ProfileWords}
+use Rattle.command_line.specs.declared.order.ProfileArgs.{ProfileArgs}
 use Rattle.commands.specs.Commands.{number}
-use Rattle.ends.specs.declared.ends.End.{End}
-use Rattle.ends.specs.declared.ends.End.TheVariants.{BadIsa, BadHeapRegion, BadMostMoved, BadMostOutput}
-use Rattle.ends.specs.declared.ends.End.TheVariants.{BadStackRegion, RegionsOverlap}
+use Rattle.exit_status.specs.declared.ends.End.{End}
+use Rattle.exit_status.specs.declared.ends.End.TheVariants.{BadIsa, BadHeapRegion, BadMostMoved, BadMostOutput}
+use Rattle.exit_status.specs.declared.ends.End.TheVariants.{BadStackRegion, RegionsOverlap}
 use Rattle.guest_elf.specs.Profiles.{usual_limits}
 use Rattle.guest_elf.specs.declared.profile.Profile.{Profile}
 use Rattle.memory_map.specs.Regions.{first_fault}
 use Rattle.memory_map.specs.declared.regions.RegionsFault.{RegionsFault}
 use Rattle.memory_map.specs.declared.regions.RegionsFault.TheVariants.{Heap, Stack, Meet}
 use Rattle.memory_map.specs.declared.regions.StackRegion.{StackRegion}
-use Rattle.text_parts.specs.Parts.{parts}
+use Rattle.texts.specs.Parts.{parts}
 
 -- where a text has the heap's region begin; at 0, where none begins, if the text is no number
 abbrev pub heap_in : List ℕ → ℕ
@@ -39,7 +39,7 @@ abbrev pub stack_in : List ℕ → StackRegion
 stack_in text = bounds_in (parts 46 text)
 
 -- what is wrong with the regions of texts, if anything is
-abbrev pub fault_in : ProfileWords → Option RegionsFault
+abbrev pub fault_in : ProfileArgs → Option RegionsFault
 fault_in words =
     first_fault (heap_in words.heap.now) (stack_in words.stack.now).begin (stack_in words.stack.now).end
 
@@ -67,7 +67,7 @@ output_in None = Some usual_limits.most_output
 output_in (Some text) = if bytes_eq text.now (codes "none") then Some no_limit else number text.now
 
 -- the profile of texts
-pub record IsProfileNamed (words : ProfileWords) (profile : Profile) : Type 0 where
+pub record IsProfileNamed (words : ProfileArgs) (profile : Profile) : Type 0 where
   pub isa : isa_named words.isa.now ≡ Some profile.isa
   pub heap : profile.regions.heap ≡ heap_in words.heap.now
   pub stack : profile.regions.stack ≡ stack_in words.stack.now
@@ -80,7 +80,7 @@ IsText text given = given ≡ Some text
 
 -- texts have none: no instruction set has that name, or else the regions have a fault, of which the first is told, or
 -- else a number of bytes is none
-abbrev pub NoProfile : ProfileWords → End → Type 0
+abbrev pub NoProfile : ProfileArgs → End → Type 0
 NoProfile words (BadIsa given) = (given.now ≡ words.isa.now) × (isa_named words.isa.now ≡ None)
 NoProfile words (BadHeapRegion given) =
     (given.now ≡ words.heap.now) × IsSome (isa_named words.isa.now) × (fault_in words ≡ Some Heap)

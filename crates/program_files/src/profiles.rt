@@ -1,15 +1,15 @@
 //! What a program's file is read for, by the texts of a command line.
 ghost use Rattle.std.specs.Prelude.{◌≡◌, ℕ, List, None, Some, IfErr, IfOk};
 ghost use denote.Ref.{Bor};
-ghost use Rattle.ends.specs.declared.ends.End.TheVariants.{BadMostMoved, BadMostOutput};
+ghost use Rattle.exit_status.specs.declared.ends.End.TheVariants.{BadMostMoved, BadMostOutput};
 ghost use Rattle.program_files.specs.Profiles.{between, bounds_in, heap_in, moved_in, moved_number, output_in, stack_in, IsProfileNamed, NoProfile};
 
-use command_line::{ProfileWords, isa_named};
+use command_line::{ProfileArgs, isa_named};
 use commands::number;
-use ends::End;
+use exit_status::End;
 use guest_elf::{Profile, StreamLimits};
 use memory_map::{Regions, RegionsFault, StackRegion};
-use text_parts::Parts;
+use texts::Parts;
 
 /// A region without an address, which no stack has.
 const NO_STACK: StackRegion = StackRegion { begin: 0, end: 0 };
@@ -115,7 +115,7 @@ fn output_in<'a>(given: Option<&'a str>) -> Result<u64, End<'a>>
 ///
 /// Returns the end for the first fault, with the text that has it: of the name, of the heap's region, of the stack's, that the two have
 /// an address in common, or of the two numbers of bytes.
-pub fn profile_named<'a>(words: ProfileWords<'a>) -> Result<Profile, End<'a>>
+pub fn profile_named<'a>(words: ProfileArgs<'a>) -> Result<Profile, End<'a>>
     ensures ok { IfOk result (IsProfileNamed words.entry) }
     ensures err { IfErr result (NoProfile words.entry) }
 {

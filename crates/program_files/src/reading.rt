@@ -5,7 +5,7 @@ ghost use Rattle.program_files.specs.Opened.{end_of_input};
 ghost use Rattle.scenario.specs.Limits.{longest_input};
 
 use crate::files::{Files, ReadFault, front_of, read_or_fault};
-use ends::End;
+use exit_status::End;
 use scenario::LONGEST_INPUT;
 use std::alloc::Global;
 use std::io::Read;

@@ -9,8 +9,8 @@ use Rattle.error_events.specs.Groups.{same_trace}
 use Rattle.leak_graph.specs.declared.leak_kind.LeakKind.{LeakKind}
 use Rattle.leak_graph.specs.declared.leak_kind.LeakKind.TheVariants.{Definite, Indirect, Possible, Reachable}
 use Rattle.leak_search.specs.declared.record.LeakRecord.{LeakRecord}
-use Rattle.tallies.specs.Distinct.{distinct}
-use Rattle.tallies.proofs.Grouping.{any-left, any-right, apart, put, put-next}
+use Rattle.texts.specs.Distinct.{distinct}
+use Rattle.texts.proofs.Grouping.{any-left, any-right, apart, put, put-next}
 use Rattle.replay_report.specs.Laws.{LeaksAreGrouped}
 use Rattle.replay_report.specs.Leaks.{key_of, leak_groups, no_blocks, same_key, same_leak, sum_of, with_block}
 use Rattle.replay_report.specs.Leaks.{with_leak}

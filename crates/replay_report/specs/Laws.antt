@@ -4,7 +4,7 @@ use Rattle.guest_elf.specs.declared.image.Image.{Image}
 use Rattle.guest_machine.specs.State.{State}
 use Rattle.leak_search.specs.declared.record.LeakRecord.{LeakRecord}
 use Rattle.suppressions.specs.Rules.{Rule}
-use Rattle.tallies.specs.Distinct.{distinct}
+use Rattle.texts.specs.Distinct.{distinct}
 use Rattle.replay_report.specs.Leaks.{key_of, leak_groups, same_key, sum_of}
 use Rattle.replay_report.specs.Report.{IsReport}
 use Rattle.replay_report.specs.Outlines.{IsOutline}

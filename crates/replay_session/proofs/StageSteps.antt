@@ -1,10 +1,11 @@
 -- From what is served of a session with texts to what is served of a session.
 use Rattle.std.proofs.Common.{◌≡◌, ℕ, List, Option, refl, subst}
 use Rattle.std.proofs.Math.Path.{transport}
-use Rattle.line_server.specs.Answers.{Answers as AnswersOf, Relation}
-use Rattle.line_server.specs.Served.{ServedAll as ServedAllBy, ServedRead as ServedReadBy, StoppedBy as StoppedByFault}
-use Rattle.line_server.specs.declared.fault.ServeFault.{ServeFault}
-use Rattle.line_server.proofs.Carried.{stand-for, all-to, read-to, stopped-to}
+use Rattle.line_protocol.specs.Answers.{Answers as AnswersOf, Relation}
+use Rattle.line_protocol.specs.Served.{ServedAll as ServedAllBy, ServedRead as ServedReadBy}
+use Rattle.line_protocol.specs.Served.{StoppedBy as StoppedByFault}
+use Rattle.line_protocol.specs.declared.fault.ServeFault.{ServeFault}
+use Rattle.line_protocol.proofs.Carried.{stand-for, all-to, read-to, stopped-to}
 use Rattle.replay_session.specs.Replies.{Answers, Replies, is_over}
 use Rattle.replay_session.specs.Served.{ServedAll, ServedRead, StoppedBy}
 use Rattle.replay_session.specs.Session.{turn_of}

@@ -1,7 +1,7 @@
 -- Lines that are too long are all answered alike: a lemma for the server of lines, which keeps a front of such a line.
 use Rattle.std.proofs.Common.{◌≡◌, ◌<◌, ℕ, List, Bool, true, false, Some, refl, subst, Result, length, nat_le, lt-ltb}
 use Rattle.std.proofs.Common.{if◌then◌else◌}
-use Rattle.line_server.specs.Lines.{longest_line}
+use Rattle.line_protocol.specs.Lines.{longest_line}
 use Rattle.replay_session.specs.Replies.{Replies, RepliesAs}
 use Rattle.replay_session.specs.Stages.{Stage}
 use Rattle.replay_session.specs.Turns.{Turn, accepted_as, if_command, line_refusal, most_lines, unless_refused}

@@ -1,7 +1,7 @@
 -- The text that is written for a line, and for one line after another.
 use Rattle.std.specs.Prelude.{ℕ, ◌≡◌, ◌⊎◌, ◌++◌, List, [], ◌∷◌, Bool, false, Result, Ok, Err, IsOkAnd, codes, decimal}
 use Rattle.std.specs.Prelude.{nat_le}
-use Rattle.line_server.specs.Answers.{AnswersBy, Relation}
+use Rattle.line_protocol.specs.Answers.{AnswersBy, Relation}
 use Rattle.commands.specs.Faults.{number_of}
 use Rattle.scenario.specs.Scenario.{Scenario, IsReportOf}
 use Rattle.replay_session.specs.Turns.{Turn, accepted, applied_as, passed, most_lines}

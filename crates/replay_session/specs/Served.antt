@@ -1,7 +1,8 @@
 -- What was written for the bytes that were read: what a server of lines says for any replies, for those of a session.
 use Rattle.std.specs.Prelude.{ℕ, List, Option}
-use Rattle.line_server.specs.Served.{ServedAll as ServedAllBy, ServedRead as ServedReadBy, StoppedBy as StoppedByFault}
-use Rattle.line_server.specs.declared.fault.ServeFault.{ServeFault}
+use Rattle.line_protocol.specs.Served.{ServedAll as ServedAllBy, ServedRead as ServedReadBy}
+use Rattle.line_protocol.specs.Served.{StoppedBy as StoppedByFault}
+use Rattle.line_protocol.specs.declared.fault.ServeFault.{ServeFault}
 use Rattle.replay_session.specs.Replies.{Answers}
 use Rattle.replay_session.specs.Stages.{Stage}
 

@@ -1,7 +1,7 @@
 -- The texts of a session's replies, as their type holds them.
 use Rattle.std.specs.Prelude.{ℕ, List}
 use Rattle.replay_session.specs.Replies.{text_of}
-use Rattle.replay_session.specs.declared.serving.texts.Texts.{Texts}
+use Rattle.replay_session.specs.declared.serving.reply_texts.Texts.{Texts}
 
 -- the bytes of the report
 unfoldable pub report_in : Texts → List ℕ

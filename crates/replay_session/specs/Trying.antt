@@ -14,7 +14,7 @@ use Rattle.run_values.specs.declared.span.Span.{Span}
 use Rattle.scenario.specs.Scenario.{Scenario, IsOutlineOf, first_state, run_of}
 use Rattle.replay_session.specs.Session.{IsSidesOf}
 use Rattle.replay_session.specs.declared.trying.Compared.{Compared}
-use Rattle.replay_session.specs.declared.trying.Seed.{Seed}
+use Rattle.replay_session.specs.declared.trying.ForkPoint.{ForkPoint}
 use Rattle.replay_session.specs.declared.trying.Tried.{Tried}
 
 -- the edit gives the input bytes, and nothing else
@@ -25,9 +25,9 @@ GivesInput _ = ⊥
 
 -- a fork of a scenario's run for edits with an effect, and what the steps before it have done with each instruction of
 -- a range
-pub record IsSeed (sc : Scenario) (effect : Effect) (range : Span) (seed : Seed) : Type 0 where
-  pub fork : IsForkFor effect (run_of sc) sc.step seed.fork
-  pub sides : IsKnown (first_state sc) sc.setup sc.marks seed.fork.step range seed.sides.items
+pub record IsForkPoint (sc : Scenario) (effect : Effect) (range : Span) (fork_point : ForkPoint) : Type 0 where
+  pub fork : IsForkFor effect (run_of sc) sc.step fork_point.fork
+  pub sides : IsKnown (first_state sc) sc.setup sc.marks fork_point.fork.step range fork_point.sides.items
 
 -- the outcome of a scenario's run, and what its steps have done with each instruction of a range
 pub record IsTried (sc : Scenario) (range : Span) (tried : Tried) : Type 0 where
@@ -43,7 +43,7 @@ pub record IsCompared (sc edited : Scenario) (from most : ℕ) (compared : Compa
   pub own : compared.own.items ≡ take most (compares_of sc from)
   pub other : compared.other.items ≡ take most (compares_of edited from)
 
--- that a seed is one has at most one proof, so a type can keep it as a ghost field
+-- that a fork point is one has at most one proof, so a type can keep it as a ghost field
 whole-prop : (effect : Effect) → IsProp (WritesWhole effect)
 whole-prop Nowhere = hlevel props
 whole-prop (After step) = hlevel props
@@ -53,5 +53,6 @@ whole-prop Heap = hlevel props
 whole-prop (Patch addr code) = hlevel props
 whole-prop (Anew addr code) = hlevel props
 
-pub seed-prop : (sc : Scenario) (effect : Effect) (range : Span) (seed : Seed) → IsProp (IsSeed sc effect range seed)
-seed-prop sc effect range seed = hlevel (whole-prop, shows-prop, known-prop, props)
+pub fork-point-prop : (sc : Scenario) (effect : Effect) (range : Span) (fork_point : ForkPoint)
+    → IsProp (IsForkPoint sc effect range fork_point)
+fork-point-prop sc effect range fork_point = hlevel (whole-prop, shows-prop, known-prop, props)

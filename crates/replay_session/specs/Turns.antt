@@ -3,7 +3,7 @@
 use Rattle.std.specs.Prelude.{ℕ, ◌+◌, nat_le, nat_lt, if◌then◌else◌, List, length, Option, Some, None, option_map}
 use Rattle.std.specs.Prelude.{Result, Ok, Err}
 use Rattle.guest_elf.specs.declared.image.Image.{Image}
-use Rattle.line_server.specs.Lines.{longest_line}
+use Rattle.line_protocol.specs.Lines.{longest_line}
 use Rattle.suppressions.specs.Rules.{Rule}
 use Rattle.scenario.specs.Edits.{row}
 use Rattle.scenario.specs.Limits.{most_steps}

@@ -17,9 +17,9 @@
 //! | [`Session::next`], [`Session::last`] | return the first step from the chosen one on, and the last before it, that does what is sought |
 //! | [`Session::output`] | returns the bytes of the output at the chosen step that are in a range of positions |
 //! | [`Session::sides`] | returns what the run has done with each instruction of a range |
-//! | [`Session::seed`] | returns a machine at which other input bytes don't show yet, and what the steps before it have done ([`Seed`]) |
-//! | [`Session::try_edit`] | returns what the run does with other input bytes, from a seed ([`Tried`]); changes nothing |
-//! | [`Session::compare_edit`] | returns the compares of the run, and those with other input bytes, from a seed on ([`Compared`]) |
+//! | [`Session::fork_point`] | returns a machine at which other input bytes don't show yet, and what the steps before it have done ([`ForkPoint`]) |
+//! | [`Session::try_edit`] | returns what the run does with other input bytes, from a fork point ([`Tried`]); changes nothing |
+//! | [`Session::compare_edit`] | returns the compares of the run, and those with other input bytes, from a fork point on ([`Compared`]) |
 //! | [`Session::effect`] | returns where an edit shows in the run |
 //! | [`Session::input_len`] | returns the number of bytes of the input |
 //! | [`Session::step`], [`Session::image`] | return the chosen step, and the program |
@@ -92,10 +92,10 @@
 //!   `scenario`.
 //! - `Session`: a session's turn, and the answer to one line.
 //! - `Work`: how a line moves the last held step and the number of executed steps. `Stages`: what the lines so far have left.
-//! - `Replies`: the text of each reply, and the replies to one line after another (`Answers`, over `line_server::specs::Answers`).
+//! - `Replies`: the text of each reply, and the replies to one line after another (`Answers`, over `line_protocol::specs::Answers`).
 //! - `LinesWork`: how many steps any lines cost, which depends on their list only, and that `worked` prints this.
-//! - `Served`: what was written for the bytes read, in the terms of `line_server`.
-//! - `Trying`: what a seed is for, and what a try tells.
+//! - `Served`: what was written for the bytes read, in the terms of `line_protocol`.
+//! - `Trying`: what a fork point is for, and what a try tells.
 //! - `LongLines` is a lemma for the server of lines.
 //!
 //! Sources: the Memcheck manual, section 4.3 (options), and Valgrind's user manual, section 2.5 (suppressions); the language of the lines
@@ -109,10 +109,10 @@ mod session;
 mod trying;
 
 pub use commands::{BeginFault, Fault, number};
-pub use line_server::{READS, Sent, ServeFault, send};
+pub use line_protocol::{READS, Sent, ServeFault, send};
 pub use reply::Reply;
 pub use scenario::{LONGEST_INPUT, MOST_STEPS, setup_with};
+pub use serving::reply_texts::Texts;
 pub use serving::serve;
-pub use serving::texts::Texts;
 pub use session::Session;
-pub use trying::{Compared, Seed, Tried};
+pub use trying::{Compared, ForkPoint, Tried};

@@ -1,6 +1,6 @@
 //! A session over any reader and any writer.
 mod listening;
-pub(crate) mod texts;
+pub(crate) mod reply_texts;
 
 ghost use Rattle.std.specs.Prelude.{OnOk, IfErr};
 ghost use Rattle.replay_session.specs.Served.{ServedAll, ServedRead, StoppedBy};
@@ -8,7 +8,7 @@ ghost use Rattle.replay_session.specs.Stages.{ForEachStage};
 
 use crate::serving::listening::Listening;
 use crate::session::Session;
-use line_server::ServeFault;
+use line_protocol::ServeFault;
 use std::io::{Read, Write};
 
 /// Reads lines and writes the reply to each: `ok`, the report, `worked N` or `refused N`, with a newline at its end. Flushes after each
@@ -38,5 +38,5 @@ pub fn serve<R: Read, W: Write>(
             bytes: 0,
         });
     };
-    line_server::serve(alloc, &mut listening, reader, writer)
+    line_protocol::serve(alloc, &mut listening, reader, writer)
 }

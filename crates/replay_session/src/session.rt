@@ -7,14 +7,14 @@ ghost use Rattle.scenario.specs.Limits.{most_steps};
 ghost use Rattle.scenario.specs.Scenario.{run_of};
 
 use crate::reply::Reply;
-use crate::trying::{Compared, Seed, Tried, compare_edit, try_edit};
+use crate::trying::{Compared, ForkPoint, Tried, compare_edit, try_edit};
 use checkpoints::laws::keeps_lower;
 use checkpoints::{Effect, Happened, Sides, Sought, Trail};
 use clean_reports::{certify, push_verdict};
 use commands::{BeginFault, Command, Edit, Fault, parse};
 use guest_elf::Image;
 use guest_machine::{Machine, Meter, Span};
-use line_server::LONGEST_LINE;
+use line_protocol::LONGEST_LINE;
 use scenario::laws::edits_follow;
 use scenario::{LONGEST_INPUT, MOST_STEPS, Scenario};
 use std::alloc::{AllocError, Global};
@@ -51,7 +51,7 @@ impl<'a> Session<'a> {
     ghost use Rattle.commands.specs.Commands.{Reads};
     ghost use Rattle.replay_session.specs.Replies.{is_over};
     ghost use Rattle.replay_session.specs.Session.{Carried, Finds, happened_of, IsSidesOf, IsVerdictOf, Meets, MeetsAs, scenario_of, turn_of, trail_of, work_of};
-    ghost use Rattle.replay_session.specs.Trying.{GivesInput, IsCompared, IsSeed, IsTried};
+    ghost use Rattle.replay_session.specs.Trying.{GivesInput, IsCompared, IsForkPoint, IsTried};
     ghost use Rattle.replay_session.specs.Turns.{accepted, accepted_as, changed, command_refusal, counted, if_command, line_refusal, opening, passed};
     ghost use Rattle.replay_session.specs.Work.{MayShorten, MovesWork, Works, WorksAs, WorksLine, work_on, no_work};
 
@@ -358,11 +358,11 @@ impl<'a> Session<'a> {
     /// Returns a machine of the run up to the chosen step, before the last step at which an edit that changes only the setup doesn't show. The
     /// trail is moved as by a report at the next multiple of 1,024 above the chosen step.
     #[tactic(auto, unfolding(crate::specs::Session::turn_of, crate::specs::Session::trail_of))]
-    pub fn seed(&mut self, effect: Effect, range: Span) -> Result<Seed, AllocError>
+    pub fn fork_point(&mut self, effect: Effect, range: Span) -> Result<ForkPoint, AllocError>
         requires { IsOfSetup effect }
         ensures turn { turn_of self.new ≡ turn_of self.old }
         ensures short { is_short (trail_of self.new) ≡ is_short (trail_of self.old) }
-        ensures seed { IfOk result (IsSeed (scenario_of self.old) effect range) }
+        ensures fork_point { IfOk result (IsForkPoint (scenario_of self.old) effect range) }
         ensures work { OnOk result (ForkMoves (scenario_of self.old).step (work_on (trail_of self.old)) (work_on (trail_of self.new))) }
     {
         let step = self.scenario.step();
@@ -372,39 +372,44 @@ impl<'a> Session<'a> {
         let sides = self
             .trail
             .sides(self.alloc, range, fork.step, setup, marks)?;
-        Ok(Seed { fork, sides })
+        Ok(ForkPoint { fork, sides })
     }
 
-    /// Returns what the run does with an edit that gives the input bytes, from a seed for the edit. Nothing is changed.
+    /// Returns what the run does with an edit that gives the input bytes, from a fork point for the edit. Nothing is changed.
     #[tactic(auto, unfolding(crate::specs::Session::turn_of, crate::specs::Session::trail_of))]
-    pub fn try_edit(&mut self, edit: Edit, seed: &Seed, range: Span) -> Result<Tried, AllocError>
+    pub fn try_edit(
+        &mut self,
+        edit: Edit,
+        fork_point: &ForkPoint,
+        range: Span,
+    ) -> Result<Tried, AllocError>
         requires taken { IsTaken (scenario_of self.old) edit }
         requires input { GivesInput edit }
-        requires seed { IsSeed (scenario_of self.old) (row (scenario_of self.old) edit).effect range seed.now }
+        requires fork_point { IsForkPoint (scenario_of self.old) (row (scenario_of self.old) edit).effect range fork_point.now }
         ensures turn { turn_of self.new ≡ turn_of self.old }
         ensures trail { trail_of self.new ≡ trail_of self.old }
         ensures tried { IfOk result (IsTried (row (scenario_of self.old) edit).after range) }
     {
-        try_edit(self.alloc, &mut self.scenario, edit, seed, range)
+        try_edit(self.alloc, &mut self.scenario, edit, fork_point, range)
     }
 
-    /// Returns the first compares of the run, and those of the run with an edit that gives the input bytes, from the step of a seed for the
+    /// Returns the first compares of the run, and those of the run with an edit that gives the input bytes, from the step of a fork point for the
     /// edit on. Nothing is changed.
     #[tactic(auto, unfolding(crate::specs::Session::turn_of, crate::specs::Session::trail_of))]
     pub fn compare_edit(
         &mut self,
         edit: Edit,
-        seed: &Seed,
+        fork_point: &ForkPoint,
         most: usize,
     ) -> Result<Compared, AllocError>
         requires taken { IsTaken (scenario_of self.old) edit }
         requires input { GivesInput edit }
-        requires fork { IsForkFor (row (scenario_of self.old) edit).effect (run_of (scenario_of self.old)) (scenario_of self.old).step seed.now.fork }
+        requires fork { IsForkFor (row (scenario_of self.old) edit).effect (run_of (scenario_of self.old)) (scenario_of self.old).step fork_point.now.fork }
         ensures turn { turn_of self.new ≡ turn_of self.old }
         ensures trail { trail_of self.new ≡ trail_of self.old }
-        ensures compared { IfOk result (IsCompared (scenario_of self.old) (row (scenario_of self.old) edit).after seed.now.fork.step most) }
+        ensures compared { IfOk result (IsCompared (scenario_of self.old) (row (scenario_of self.old) edit).after fork_point.now.fork.step most) }
     {
-        compare_edit(self.alloc, &mut self.scenario, edit, &seed.fork, most)
+        compare_edit(self.alloc, &mut self.scenario, edit, &fork_point.fork, most)
     }
 
     /// Returns the number of bytes of the input.

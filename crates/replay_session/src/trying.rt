@@ -7,7 +7,7 @@ ghost use Rattle.checkpoints.specs.Forks.{IsForkFor};
 ghost use Rattle.checkpoints.specs.Sides.{IsSides};
 ghost use Rattle.scenario.specs.Edits.{row, IsTaken};
 ghost use Rattle.scenario.specs.Scenario.{first_state, run_of};
-ghost use Rattle.replay_session.specs.Trying.{GivesInput, IsCompared, IsSeed, IsTried, compares_of};
+ghost use Rattle.replay_session.specs.Trying.{GivesInput, IsCompared, IsForkPoint, IsTried, compares_of};
 
 use checkpoints::{Compare, Effect, Fork, Sides};
 use commands::Edit;
@@ -18,7 +18,7 @@ use std::alloc::{AllocError, Global};
 
 /// A machine of a session's run at which an edit doesn't show yet, and what the steps before it have done.
 #[derive(Drop)]
-pub struct Seed {
+pub struct ForkPoint {
     /// The machine, and its step.
     pub fork: Fork,
     /// What the steps before that have done with each instruction of a range.
@@ -45,7 +45,7 @@ pub struct Compared {
 
 /// Returns what a scenario's run does, which continues from a fork; an effect leads to it from the fork's run. `sides` are what the steps
 /// before the fork's have done.
-fn follow(
+fn run_from_fork(
     scenario: &Scenario<'_>,
     effect: Effect,
     fork: &Fork,
@@ -70,26 +70,26 @@ fn follow(
     Ok(Tried { outcome, sides })
 }
 
-/// Runs a scenario with an edit that gives the input bytes, from a seed. Afterwards the scenario is as it was.
+/// Runs a scenario with an edit that gives the input bytes, from a fork point. Afterwards the scenario is as it was.
 pub(crate) fn try_edit(
     alloc: Global,
     scenario: &mut Scenario<'_>,
     edit: Edit,
-    seed: &Seed,
+    fork_point: &ForkPoint,
     range: Span,
 ) -> Result<Tried, AllocError>
     requires taken { IsTaken scenario.old edit }
     requires input { GivesInput edit }
-    requires seed { IsSeed scenario.old (row scenario.old edit).effect range seed.now }
+    requires fork_point { IsForkPoint scenario.old (row scenario.old edit).effect range fork_point.now }
     ensures same { scenario.new ≡ scenario.old }
     ensures tried { IfOk result (IsTried (row scenario.old edit).after range) }
 {
     edits_follow();
     let effect = scenario.effect(&edit);
     let given = scenario.input().to_vec(alloc)?;
-    let sides = seed.sides.as_slice().to_vec(alloc)?;
+    let sides = fork_point.sides.as_slice().to_vec(alloc)?;
     scenario.edit(edit)?;
-    let tried = follow(scenario, effect, &seed.fork, sides, range);
+    let tried = run_from_fork(scenario, effect, &fork_point.fork, sides, range);
     scenario.give(given);
     tried
 }

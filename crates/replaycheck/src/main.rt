@@ -10,14 +10,13 @@ ghost use Rattle.replaycheck.specs.Shown.{end_of_showing, names_exec, place_of};
 use clap::error::ErrorKind;
 use command_line::{Order, Task, read_order};
 use driver::{End, run_order, tell};
-use ends::{tell_exec, tell_for};
-use exec_orders::{Log, exec_order};
-use executions::Streams;
+use exit_status::{tell_exec, tell_for};
 use std::fs::File;
 use std::io::Write;
 use std::process::ExitCode;
 use std::rt::Env;
 use std::{env, io};
+use test_runs::{Log, Streams, exec_order};
 
 /// The arguments of the command line.
 fn words_of<R: Env + AllocGlobal>(rt: &R) -> io::Result<Vec<String>> {
@@ -126,7 +125,7 @@ impl<'a> Log for ReportFile<'a> {
 }
 
 /// Follows an order, and returns the exit status.
-fn follow(rt: &HostRuntime, order: &Order) -> u8 {
+fn run_command(rt: &HostRuntime, order: &Order) -> u8 {
     match &order.task {
         Task::Exec(asked) => {
             let mut log = ReportFile {
@@ -165,7 +164,7 @@ fn finish(rt: &HostRuntime) -> u8 {
         Err(error) => return tell(&end_without_words(&error), &mut rt.stderr()),
     };
     match read_order(rt.alloc(), &words) {
-        Ok(order) => follow(rt, &order),
+        Ok(order) => run_command(rt, &order),
         Err(error) => {
             let end = show(rt, &error);
             tell_for(names_exec(&words), &end, &mut rt.stderr())

@@ -9,7 +9,7 @@ use Rattle.std.proofs.lemmas.List.Concat.{flat_map-append}
 use Rattle.std.specs.List.{flat_map}
 use Rattle.std.specs.Fmt.{decimal}
 use Rattle.report_lines.specs.Text.{address_text, newline}
-use Rattle.heap_blocks.specs.declared.block.Block.{Block}
+use Rattle.call_stacks.specs.declared.block.Block.{Block}
 use Rattle.error_events.specs.Parameters.{parameter_text}
 use Rattle.error_events.specs.declared.parameter.Parameter.{Parameter}
 use Rattle.error_events.specs.declared.kind.ParameterFault.{ParameterFault}

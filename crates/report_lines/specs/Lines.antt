@@ -8,10 +8,10 @@ use Rattle.run_values.specs.declared.status.Status.{Status}
 use Rattle.run_values.specs.declared.status.Status.TheVariants.{Running, Exited, Stopped}
 use Rattle.run_values.specs.declared.status.Stop.{Stop}
 use Rattle.run_values.specs.declared.status.Stop.TheVariants.{Jump as JumpStop, Break, Illegal, Misaligned}
-use Rattle.heap_blocks.specs.declared.block.Block.{Block}
-use Rattle.heap_blocks.specs.declared.block.Near.{Near as NearBlock}
-use Rattle.heap_blocks.specs.declared.block.Place.{Place}
-use Rattle.heap_blocks.specs.declared.block.Place.TheVariants.{Before, Inside, After}
+use Rattle.call_stacks.specs.declared.block.Block.{Block}
+use Rattle.call_stacks.specs.declared.block.Near.{Near as NearBlock}
+use Rattle.call_stacks.specs.declared.block.Place.{Place}
+use Rattle.call_stacks.specs.declared.block.Place.TheVariants.{Before, Inside, After}
 use Rattle.error_events.specs.Groups.{most}
 use Rattle.error_events.specs.Parameters.{parameter_text}
 use Rattle.error_events.specs.declared.parameter.Parameter.{Parameter}

@@ -9,10 +9,9 @@ ghost use Rattle.error_events.specs.Shown.{groups_of};
 ghost use Rattle.error_events.specs.declared.event.Group.{Group};
 
 use crate::text::{push_address, push_name, push_number, push_text};
-use call_stacks::Trace;
+use call_stacks::{Block, Near, Place, Trace};
 use error_events::{Group, Groups, Kind, Note, Parameter, ParameterFault};
 use guest_elf::Image;
-use heap_blocks::{Block, Near, Place};
 use run_values::{Status, Stop};
 use std::alloc::AllocError;
 

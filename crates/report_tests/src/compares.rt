@@ -3,8 +3,8 @@ use crate::runs::setup_of;
 use checkpoints::{Compare, Effect, Fork, Trail};
 use guest_elf::{Image, read};
 use guest_machine::{Input, Machine, Setup};
-use guest_programs::program;
 use std::alloc::{AllocError, Global};
+use test_support::program;
 
 /// `addi x5, x0, 7; slti x6, x5, -1; sltiu x6, x5, 9; sltu x7, x6, x5; slt x8, x5, x0; sub x8, x6, x7; bne x6, x7, 8; bltu x6, x5, 8;
 /// ebreak; bge x0, x5, -4; ebreak`: each branch but `bltu` falls through.

@@ -2,7 +2,6 @@
 use call_stacks::Trace;
 use guest_elf::{Image, read};
 use guest_machine::{Hooks, Input, Machine, Mark, Meter, Setup};
-use guest_programs::program;
 use leak_graph::LeakKind;
 use leak_search::{LeakRecord, search};
 use replay_report::{Options, outline, render};
@@ -10,6 +9,7 @@ use shadow_memory::RangeKind;
 use std::alloc::{AllocError, Global};
 use std::process::Abort;
 use suppressions::Suppression;
+use test_support::program;
 
 /// What is reported of a run. A report shows the kinds of leaks that Memcheck shows, and has no input, unless something else is said.
 pub(crate) enum Telling {

@@ -7,12 +7,12 @@ use crate::runs::setup_of;
 use checkpoints::{Effect, Fork, Sought, Trail, Watch, run_to};
 use guest_elf::{Image, Isa, read};
 use guest_machine::{
-    Act as Deed, Alteration, Code, Input, Machine, Mark, Meter, Setup, Span, Status, Stop, Width,
+    Act as Action, Alteration, Code, Input, Machine, Mark, Meter, Setup, Span, Status, Stop, Width,
 };
-use guest_programs::sized_program;
 use shadow_memory::RangeKind;
 use std::alloc::{AllocError, Global};
 use std::process::Abort;
+use test_support::sized_program;
 
 /// `lui x5, 0x10; lw x6, 20(x5); addi x5, x5, 4; beq x6, x0, -8; ebreak`: the words from 0x10014 on are read until one isn't 0, word i of
 /// them in step 1 + 3i.
@@ -358,14 +358,14 @@ impl<'a> Edited<'a> {
     }
 
     /// Has the machine altered just before a step.
-    fn alters(&mut self, step: u32, act: Deed) -> Result<bool, AllocError> {
+    fn alters(&mut self, step: u32, act: Action) -> Result<bool, AllocError> {
         self.marks.push(Alteration { step, act })?;
         self.trail.cut(Effect::After(step));
         Ok(true)
     }
 
     fn adds_mark(&mut self, mark: &Mark) -> Result<bool, AllocError> {
-        let act = Deed::Make {
+        let act = Action::Make {
             addr: mark.addr,
             len: mark.len,
             kind: mark.kind,
@@ -375,7 +375,7 @@ impl<'a> Edited<'a> {
 
     /// Has a word written just before a step.
     fn writes(&mut self, step: u32, addr: u32, value: u32) -> Result<bool, AllocError> {
-        let act = Deed::Write {
+        let act = Action::Write {
             addr,
             width: Width::Word,
             value,

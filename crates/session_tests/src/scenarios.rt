@@ -1,9 +1,9 @@
 //! An edited scenario, by one run from step zero, and its outlines.
 use guest_elf::{Image, read};
 use guest_machine::{Machine, Meter};
-use guest_programs::program;
 use scenario::{Edit, Scenario};
 use std::alloc::{AllocError, Global};
+use test_support::program;
 
 /// Three words: exit with status 0.
 const EXITS: [u32; 3] = [0x05D0_0893, 0x0000_0513, 0x0000_0073];

@@ -1,11 +1,10 @@
 //! Lines and their replies, over readers and writers that fail.
-use fake_streams::{Interruptions, Refusal, Room, Script};
 use guest_elf::{Image, read};
-use guest_programs::program;
 use replay_session::laws::work_of_lines;
 use replay_session::{BeginFault, LONGEST_INPUT, ServeFault, Session, serve};
 use std::alloc::{AllocError, Global};
 use std::process::Abort;
+use test_support::{Interruptions, Refusal, Room, Script, program};
 
 /// Three words: exit with status 0.
 pub(crate) const EXITS: [u32; 3] = [0x05D0_0893, 0x0000_0513, 0x0000_0073];

@@ -1,9 +1,9 @@
 //! Lines and their replies, by calls of a session.
 use crate::serving::{EXITS, REPORT};
 use guest_elf::{Image, read};
-use guest_programs::program;
 use replay_session::{Reply, Session};
 use std::alloc::{AllocError, Global};
+use test_support::program;
 
 /// Returns whether a session without input prints a report at step 3.
 fn reports(session: &mut Session<'_>, out: &mut Vec<u8>) -> bool {

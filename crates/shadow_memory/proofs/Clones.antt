@@ -7,12 +7,12 @@ use Rattle.std.specs.List.{AllZip}
 use Rattle.shadow_memory.specs.Directories.{cells_at, cells_under, page_at, page_of}
 use Rattle.shadow_memory.specs.Marks.{blank}
 use Rattle.shadow_memory.specs.Memories.{cells_of}
-use Rattle.shadow_memory.specs.Shelves.{cells_below, cells_on, shelf_of}
+use Rattle.shadow_memory.specs.TopDirectories.{cells_below, cells_on, top_directory_of}
 use Rattle.shadow_memory.specs.declared.cells.Cell.{Cell}
 use Rattle.shadow_memory.specs.declared.cells.RangeKind.TheVariants.{NoAccess}
 use Rattle.shadow_memory.specs.declared.directories.Directory.{Directory}
 use Rattle.shadow_memory.specs.declared.memory.Memory.{Memory}
-use Rattle.shadow_memory.specs.declared.shelves.Shelf.{Shelf}
+use Rattle.shadow_memory.specs.declared.top_directories.TopDirectory.{TopDirectory}
 use Rattle.shadow_memory.specs.declared.directory_slots.DirectorySlot.TheVariants as Below
 use Rattle.shadow_memory.specs.declared.slots.PageSlot.TheVariants as At
 
@@ -40,17 +40,17 @@ same_under a b e h = fun_ext (λ n.
     ∙ ap (λ f. f (n % 4096)) (either_slot cells_at (nat_lt (n / 4096) a.first) (At.Blank NoAccess) _ _
     (h (n / 4096 - a.first))))
 
-pub same_on : (a b : Shelf) → ((i : ℕ) → cells_below (slice_index_or b.directories.items i Below.Blank)
+pub same_on : (a b : TopDirectory) → ((i : ℕ) → cells_below (slice_index_or b.directories.items i Below.Blank)
     ≡ cells_below (slice_index_or a.directories.items i Below.Blank)) → cells_on b ≡ cells_on a
 unfolding cells_on
 same_on a b h = fun_ext (λ n. ap (λ f. f (n % 4194304)) (h (n / 4194304)))
 
-pub same_of : (a b : Memory) → ((i : ℕ) → shelf_of b.shelves.items i ≡ shelf_of a.shelves.items i)
+pub same_of : (a b : Memory) → ((i : ℕ) → top_directory_of b.tops.items i ≡ top_directory_of a.tops.items i)
     → cells_of b ≡ cells_of a
 unfolding cells_of
 same_of a b h = fun_ext (λ n. ap (λ f. f (n % 134217728)) (h (n / 134217728)))
 
-cells_alike : (xs ys : List Shelf) → AllZip (λ x y. cells_on y ≡ cells_on x) xs ys
+cells_alike : (xs ys : List TopDirectory) → AllZip (λ x y. cells_on y ≡ cells_on x) xs ys
     → map cells_on ys ≡ map cells_on xs
 cells_alike [] [] h = refl
 cells_alike [] (y ∷ ys) h = absurd h
@@ -58,9 +58,9 @@ cells_alike (x ∷ xs) [] h = absurd h
 cells_alike (x ∷ xs) (y ∷ ys) h =
     ap (λ f. f ∷ map cells_on ys) h.0 ∙ ap (λ fs. cells_on x ∷ fs) (cells_alike xs ys h.1)
 
--- shelves that agree in order
-pub same_shelves : (xs ys : List Shelf) → AllZip (λ x y. cells_on y ≡ cells_on x) xs ys
-    → (i : ℕ) → shelf_of ys i ≡ shelf_of xs i
+-- tops that agree in order
+pub same_shelves : (xs ys : List TopDirectory) → AllZip (λ x y. cells_on y ≡ cells_on x) xs ys
+    → (i : ℕ) → top_directory_of ys i ≡ top_directory_of xs i
 same_shelves xs ys h i =
     ap (λ (cells : List (ℕ → Cell)). slice_index_or cells i (λ at. blank NoAccess)) (cells_alike xs ys h)
 
@@ -71,9 +71,9 @@ one_more d [] (suc i) = refl
 one_more d (x ∷ xs) zero = refl
 one_more d (x ∷ xs) (suc i) = one_more d xs i
 
--- nor does a blank shelf
-pub more_shelves : (xs : List Shelf) (x : Shelf) (i : ℕ) → cells_on x ≡ (λ at. blank NoAccess)
-    → shelf_of (xs ++ (x ∷ [])) i ≡ shelf_of xs i
+-- nor does a blank top directory
+pub more_shelves : (xs : List TopDirectory) (x : TopDirectory) (i : ℕ) → cells_on x ≡ (λ at. blank NoAccess)
+    → top_directory_of (xs ++ (x ∷ [])) i ≡ top_directory_of xs i
 more_shelves xs x i e =
     ap (λ (cells : List (ℕ → Cell)). slice_index_or cells i (λ at. blank NoAccess))
     (map-append cells_on xs (x ∷ []) ∙ ap (λ (f : ℕ → Cell). map cells_on xs ++ (f ∷ [])) e)

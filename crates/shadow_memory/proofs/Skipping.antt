@@ -4,20 +4,20 @@ use Rattle.std.proofs.lemmas.Bool.{cases_lt}
 use Rattle.std.proofs.lemmas.List.{get_or_past, length-map}
 use Rattle.shadow_memory.specs.Cells.{shadow_in}
 use Rattle.shadow_memory.specs.Marks.{blank}
-use Rattle.shadow_memory.specs.Shelves.{cells_on, shelf_of}
+use Rattle.shadow_memory.specs.TopDirectories.{cells_on, top_directory_of}
 use Rattle.shadow_memory.specs.Shadows.{is_bad, HoldNoWord}
 use Rattle.shadow_memory.specs.Values.{HoldNoneInRange}
 use Rattle.shadow_memory.specs.declared.cells.Cell.{Cell}
 use Rattle.shadow_memory.specs.declared.cells.RangeKind.TheVariants.{NoAccess}
-use Rattle.shadow_memory.specs.declared.shelves.Shelf.{Shelf}
+use Rattle.shadow_memory.specs.declared.top_directories.TopDirectory.{TopDirectory}
 use Rattle.shadow_memory.proofs.Ranging.{bad-first, bad-holds-none}
 
--- a shelf past the last
-pub no-shelf : (shelves : List Shelf) (number at : ℕ) → length shelves ≤ number
-    → shelf_of shelves number at ≡ blank NoAccess
-no-shelf shelves number at past =
+-- a top directory past the last
+pub no-shelf : (tops : List TopDirectory) (number at : ℕ) → length tops ≤ number
+    → top_directory_of tops number at ≡ blank NoAccess
+no-shelf tops number at past =
     ap (λ (f : ℕ → Cell). f at)
-    (get_or_past (map cells_on shelves) number (λ k. blank NoAccess) (omega (arith, length-map shelves cells_on)))
+    (get_or_past (map cells_on tops) number (λ k. blank NoAccess) (omega (arith, length-map tops cells_on)))
 
 module _ (cells : ℕ → Cell) (addr page next from : ℕ) (near : from ≤ 4096) (blanks : (a : ℕ) → page ≤ a / 4096
     → a / 4096 < next → cells a ≡ blank NoAccess) where

@@ -8,10 +8,10 @@ use Rattle.std.proofs.lemmas.Grind.{get_or-set_at}
 use Rattle.std.proofs.lemmas.List.{get_or_default, get_or-map, get_or-set_other, length-map, map-set}
 use Rattle.shadow_memory.specs.Places.{AgreeInDirectory, changed_from, is_between}
 use Rattle.shadow_memory.specs.Marks.{blank}
-use Rattle.shadow_memory.specs.Shelves.{cells_on, shelf_of}
+use Rattle.shadow_memory.specs.TopDirectories.{cells_on, top_directory_of}
 use Rattle.shadow_memory.specs.declared.cells.Cell.{Cell}
 use Rattle.shadow_memory.specs.declared.cells.RangeKind.TheVariants.{NoAccess}
-use Rattle.shadow_memory.specs.declared.shelves.Shelf.{Shelf}
+use Rattle.shadow_memory.specs.declared.top_directories.TopDirectory.{TopDirectory}
 
 choose-same : (b c : Bool) (i j : ℕ) (x y : Cell) (change : ℕ → Cell → Cell) → b ≡ c → i ≡ j → x ≡ y
     → cond b (change i x) x ≡ cond c (change j y) y
@@ -95,50 +95,55 @@ away-from-shelf : (at n a : ℕ) → at % 134217728 + n ≤ 134217728 → a / 13
     → is_between at (at + n) a ≡ false
 away-from-shelf at n a fits away = grind (arith, nat_tests)
 
-other-shelf : (xs : List Shelf) (i k : ℕ) (made : Shelf) → k ≢ i → shelf_of (set xs i made) k ≡ shelf_of xs k
+other-shelf : (xs : List TopDirectory) (i k : ℕ) (made : TopDirectory) → k ≢ i
+    → top_directory_of (set xs i made) k ≡ top_directory_of xs k
 other-shelf xs i k made away =
     ap (λ (cells : List (ℕ → Cell)). get_or cells k (λ at. blank NoAccess)) (map-set cells_on xs i made)
     ∙ get_or-set_other (map cells_on xs) i k (cells_on made) (λ at. blank NoAccess) away
 
-made-shelf : (xs : List Shelf) (i : ℕ) (made : Shelf) → i < length xs → shelf_of (set xs i made) i ≡ cells_on made
+made-shelf : (xs : List TopDirectory) (i : ℕ) (made : TopDirectory) → i < length xs
+    → top_directory_of (set xs i made) i ≡ cells_on made
 made-shelf xs i made within =
     let within : i < length (map cells_on xs) = rw (length-map xs cells_on) within in
     ap (λ (cells : List (ℕ → Cell)). get_or cells i (λ at. blank NoAccess)) (map-set cells_on xs i made)
     ∙ get_or-set_at (map cells_on xs) i i (cells_on made) (λ at. blank NoAccess) refl within
 
--- the cells of a shelf that is kept
-shelf-is : (xs : List Shelf) (i : ℕ) (x : Shelf) → i < length xs → x ≡ get_or xs i x → shelf_of xs i ≡ cells_on x
+-- the cells of a top directory that is kept
+shelf-is : (xs : List TopDirectory) (i : ℕ) (x : TopDirectory) → i < length xs → x ≡ get_or xs i x
+    → top_directory_of xs i ≡ cells_on x
 shelf-is xs i x within there =
     get_or-map cells_on xs i x (λ at. blank NoAccess) within ∙ ap cells_on (sym there)
 
-pub seen-there : (xs : List Shelf) (x : Shelf) (at a : ℕ) → at / 134217728 < length xs
+pub seen-there : (xs : List TopDirectory) (x : TopDirectory) (at a : ℕ) → at / 134217728 < length xs
     → x ≡ get_or xs (at / 134217728) x → a / 134217728 ≡ at / 134217728
-    → shelf_of xs (a / 134217728) (a % 134217728) ≡ cells_on x (a % 134217728)
+    → top_directory_of xs (a / 134217728) (a % 134217728) ≡ cells_on x (a % 134217728)
 seen-there xs x at a within there here =
-    ap (λ k. shelf_of xs k (a % 134217728)) here
+    ap (λ k. top_directory_of xs k (a % 134217728)) here
     ∙ ap (λ (f : ℕ → Cell). f (a % 134217728)) (shelf-is xs (at / 134217728) x within there)
 
-pub shelf-changed : (xs : List Shelf) (old made : Shelf) (at n : ℕ) (change : ℕ → Cell → Cell)
+pub shelf-changed : (xs : List TopDirectory) (old made : TopDirectory) (at n : ℕ) (change : ℕ → Cell → Cell)
     → at / 134217728 < length xs → at % 134217728 + n ≤ 134217728 → old ≡ get_or xs (at / 134217728) old
     → cells_on made ≡ changed_from (cells_on old) (at % 134217728) n change
-    → (λ a. shelf_of (set xs (at / 134217728) made) (a / 134217728) (a % 134217728))
-    ≡ changed_from (λ a. shelf_of xs (a / 134217728) (a % 134217728)) at n change
+    → (λ a. top_directory_of (set xs (at / 134217728) made) (a / 134217728) (a % 134217728))
+    ≡ changed_from (λ a. top_directory_of xs (a / 134217728) (a % 134217728)) at n change
 shelf-changed xs old made at n change within fits there is =
     let i = at / 134217728 in
-    slot-changed (λ (f : ℕ → Cell). f) (shelf_of xs) (shelf_of (set xs i made)) 134217728 at (λ a. omega arith)
+    slot-changed (λ (f : ℕ → Cell). f) (top_directory_of xs) (top_directory_of (set xs i made)) 134217728 at
+    (λ a. omega arith)
     (λ k away. other-shelf xs i k made away) n
     change (λ a here. same-in-shelf at n a fits here) (λ a here. omega arith)
     (λ a away. away-from-shelf at n a fits away)
     (λ k low. ap (λ (f : ℕ → Cell). f k) (made-shelf xs i made within ∙ is)
     ∙ ap (λ (f : ℕ → Cell). changed_from f (at % 134217728) n change k) (sym (shelf-is xs i old within there)))
 
-pub shelf-kept : (xs : List Shelf) (old made : Shelf) (at : ℕ)
+pub shelf-kept : (xs : List TopDirectory) (old made : TopDirectory) (at : ℕ)
     → at / 134217728 < length xs → old ≡ get_or xs (at / 134217728) old → cells_on made ≡ cells_on old
-    → ◌≡◌ {A = ℕ → Cell} (λ a. shelf_of (set xs (at / 134217728) made) (a / 134217728) (a % 134217728))
-    (λ a. shelf_of xs (a / 134217728) (a % 134217728))
+    → ◌≡◌ {A = ℕ → Cell} (λ a. top_directory_of (set xs (at / 134217728) made) (a / 134217728) (a % 134217728))
+    (λ a. top_directory_of xs (a / 134217728) (a % 134217728))
 shelf-kept xs old made at within there is =
     let i = at / 134217728 in
-    slot-kept (λ (f : ℕ → Cell). f) (shelf_of xs) (shelf_of (set xs i made)) 134217728 at (λ a. omega arith)
+    slot-kept (λ (f : ℕ → Cell). f) (top_directory_of xs) (top_directory_of (set xs i made)) 134217728 at
+    (λ a. omega arith)
     (λ k away. other-shelf xs i k made away)
     (λ k low. ap (λ (f : ℕ → Cell). f k)
     (made-shelf xs i made within ∙ is ∙ sym (shelf-is xs i old within there)))

@@ -9,7 +9,7 @@ pub mod Codes
 pub mod Pages
 pub mod Edits
 pub mod Directories
-pub mod Shelves
+pub mod TopDirectories
 pub mod Views
 pub mod Memories
 pub mod Changes

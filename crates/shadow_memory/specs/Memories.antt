@@ -2,13 +2,13 @@
 -- `shadows_in`.
 use Rattle.std.specs.Prelude.{ℕ, ◌/◌, ◌%◌}
 use Rattle.shadow_memory.specs.Cells.{shadow_in}
-use Rattle.shadow_memory.specs.Shelves.{shelf_of}
+use Rattle.shadow_memory.specs.TopDirectories.{top_directory_of}
 use Rattle.shadow_memory.specs.Shadows.{Shadow}
 use Rattle.shadow_memory.specs.declared.cells.Cell.{Cell}
 use Rattle.shadow_memory.specs.declared.memory.Memory.{Memory}
 
 unfoldable pub cells_of : Memory → ℕ → Cell
-cells_of memory = λ a. shelf_of memory.shelves.items (a / 134217728) (a % 134217728)
+cells_of memory = λ a. top_directory_of memory.tops.items (a / 134217728) (a % 134217728)
 
 -- the byte at each address
 unfoldable pub bytes_in : Memory → ℕ → ℕ

@@ -221,14 +221,14 @@ impl Directory {
     }
 
     /// Changes each byte of blank pages, one page after another from a kept one on, at most `most` of them. Returns the number of pages.
-    fn sweep(&mut self, place: usize, most: usize, each: Each) -> usize
+    fn change_blank_pages(&mut self, place: usize, most: usize, each: Each) -> usize
         requires { place + most ≤ vec_len self.old.pages }
         ensures within { result ≤ most }
         ensures swept { cells_under self.new ≡ changed_from (cells_under self.old) (page_len * (self.old.first + place)) (page_len * result)
             (λ i cell. each_of each cell) }
     {
         for i in 0..most {
-            if !self.pages[place + i].sweep(each) {
+            if !self.pages[place + i].change_if_blank(each) {
                 return i;
             }
         }
@@ -256,7 +256,7 @@ impl Directory {
         self.reach(alloc, number)?;
         let place = number - self.first;
         let kept = self.pages.len() - place;
-        Ok(self.sweep(place, most.min(kept), each))
+        Ok(self.change_blank_pages(place, most.min(kept), each))
     }
 
     /// Changes bytes of one page alike, at most `most` of them. Returns the number of bytes.

@@ -6,7 +6,7 @@ ghost use Rattle.shadow_memory.specs.Directories.{cells_at};
 ghost use Rattle.shadow_memory.specs.Edits.{change_of, count_of, each_of, Fits};
 ghost use Rattle.shadow_memory.specs.Places.{changed_from, page_len, AgreeInDirectory};
 ghost use Rattle.shadow_memory.specs.Views.{cells_seen};
-ghost use Rattle.shadow_memory.specs.Shelves.{cells_below};
+ghost use Rattle.shadow_memory.specs.TopDirectories.{cells_below};
 
 use crate::cells::RangeKind;
 use crate::contents::HasCells;
@@ -29,7 +29,7 @@ pub(crate) enum DirectorySlot {
     Held(Rc<Directory>),
 }
 
-#[tactic(auto, unfolding(crate::specs::Shelves::cells_below, crate::specs::Views::cells_seen, crate::specs::Directories::cells_at))]
+#[tactic(auto, unfolding(crate::specs::TopDirectories::cells_below, crate::specs::Views::cells_seen, crate::specs::Directories::cells_at))]
 impl DirectorySlot {
     /// Returns the page of a place, to read.
     #[inline(always)]
@@ -167,7 +167,7 @@ impl DirectorySlot {
     }
 }
 
-#[tactic(auto, unfolding(crate::specs::Shelves::cells_below))]
+#[tactic(auto, unfolding(crate::specs::TopDirectories::cells_below))]
 impl HasCells for DirectorySlot {
     ghost cells = { cells_below };
 
@@ -182,7 +182,7 @@ impl HasCells for DirectorySlot {
     }
 }
 
-#[tactic(auto, unfolding(crate::specs::Shelves::cells_below))]
+#[tactic(auto, unfolding(crate::specs::TopDirectories::cells_below))]
 impl Clone for DirectorySlot {
     ghost is_clone = { λ slot copy. cells_below copy ≡ cells_below slot };
 

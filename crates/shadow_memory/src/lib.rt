@@ -55,14 +55,14 @@
 //!   failed call leaves, `IsWidth`, `AreApart`. `Cells`: `shadow_in`, `set_at`, `IsClean`.
 //!
 //! For this crate's own proofs: `Marks` (what a page keeps of a byte), `Edits` (one change of cells in a page), `Loads` (what a load
-//! takes of cells), `Shelves`, `Directories`, `Pages`, `Views`, `Codes` and `Parts` (what each level of the table holds), `Places`,
+//! takes of cells), `TopDirectories`, `Directories`, `Pages`, `Views`, `Codes` and `Parts` (what each level of the table holds), `Places`,
 //! `Firsts`, `Comparisons` (bytes that are those of others).
 //!
 //! # How a memory is kept
 //!
-//! There are up to 32 shelves of 32 directories of 1,024 pages of 4,096 bytes. Each directory and each page is held by an `Rc`. The table
-//! reaches as far as the last shelf that was changed, and a shelf as far as its last directory that was. What was not changed is blank. So
-//! to share a memory is to copy short lists, although a stack is at high addresses: a shelf in which nothing was changed has an empty list.
+//! There are up to 32 tops of 32 directories of 1,024 pages of 4,096 bytes. Each directory and each page is held by an `Rc`. The table
+//! reaches as far as the last top directory that was changed, and a top directory as far as its last directory that was. What was not changed is blank. So
+//! to share a memory is to copy short lists, although a stack is at high addresses: a top directory in which nothing was changed has an empty list.
 //! A directory keeps its pages from the first to the last that was changed, so a copy of it is no longer than what a program uses there. A
 //! page of zeros of one kind is blank too: it has no bytes at all. A search goes from one kept page to the next (`Memory::next_kept`).
 //! `Memory::words_apart` follows it in both memories, and looks at single words only in the chunks of a page that differ.
@@ -103,9 +103,9 @@ mod memory;
 mod pages;
 mod ranges;
 mod searches;
-mod shelves;
 mod slices;
 mod slots;
+mod top_directories;
 mod views;
 mod word_scans;
 mod words;

@@ -17,16 +17,16 @@ use crate::differences::WordApart;
 use crate::edits::{Each, PageEdit};
 use crate::pages::PAGE;
 use crate::ranges::PAGE_LEN;
-use crate::shelves::{SHELF, SHELF_PAGES, Shelf};
 use crate::slots::PageSlot;
+use crate::top_directories::{TOP_PAGES, TOP_SIZE, TopDirectory};
 use crate::views::View;
 use std::alloc::{AllocError, Global};
 
 /// The number of pages of the address space.
 pub(crate) const PAGES: u32 = 1048576;
 
-/// The number of shelves of the address space.
-const SHELVES: usize = 32;
+/// The number of tops of the address space.
+const TOPS: usize = 32;
 
 /// The greatest number of pages in which words that differ are looked for.
 const MOST_COMPARED: u32 = 512;
@@ -34,8 +34,8 @@ const MOST_COMPARED: u32 = 512;
 /// A byte for each of 2^32 addresses, and what is known of it.
 #[derive(Drop)]
 pub struct Memory {
-    // Shelves from the end of this list on are blank.
-    shelves: Vec<Shelf>,
+    // Top directories from the end of this list on are blank.
+    tops: Vec<TopDirectory>,
     alloc: Global,
 }
 
@@ -47,7 +47,7 @@ impl Memory {
         ensures shadows { shadows_in result ≡ (λ a. shadow_of RangeKind.NoAccess) }
     {
         Memory {
-            shelves: Vec::new(alloc),
+            tops: Vec::new(alloc),
             alloc,
         }
     }
@@ -74,8 +74,8 @@ impl Memory {
         ensures { (a : ℕ) → a / page_len ≡ addr / page_len → cells_of self.now a ≡ cells_seen result (a % page_len) }
     {
         let at = addr as usize;
-        if at / SHELF < self.shelves.len() {
-            self.shelves[at / SHELF].view(at % SHELF)
+        if at / TOP_SIZE < self.tops.len() {
+            self.tops[at / TOP_SIZE].view(at % TOP_SIZE)
         } else {
             View::Blank(RangeKind::NoAccess)
         }
@@ -86,8 +86,8 @@ impl Memory {
         ensures { IfOk result (λ slot. (a : ℕ) → a / page_len ≡ addr / page_len → cells_of self.now a ≡ cells_at slot (a % page_len)) }
     {
         let at = addr as usize;
-        if at / SHELF < self.shelves.len() {
-            self.shelves[at / SHELF].slot(at % SHELF)
+        if at / TOP_SIZE < self.tops.len() {
+            self.tops[at / TOP_SIZE].slot(at % TOP_SIZE)
         } else {
             Ok(PageSlot::Blank(RangeKind::NoAccess))
         }
@@ -101,22 +101,22 @@ impl Memory {
         ensures blank { (a : ℕ) → number ≤ a / page_len → a / page_len < result → cells_of self.now a ≡ blank RangeKind.NoAccess }
     {
         let number = number as usize;
-        let shelf = number / SHELF_PAGES;
-        if shelf >= self.shelves.len() {
+        let top = number / TOP_PAGES;
+        if top >= self.tops.len() {
             return PAGES;
         }
-        let next = shelf * SHELF_PAGES + self.shelves[shelf].next_kept(number % SHELF_PAGES);
+        let next = top * TOP_PAGES + self.tops[top].next_kept(number % TOP_PAGES);
         next as u32
     }
 
-    // Makes room for the shelf of a number.
+    // Makes room for the top directory of a number.
     fn grow(&mut self, number: usize) -> Result<(), AllocError>
         requires { number < 32 }
         ensures same { cells_of self.new ≡ cells_of self.old }
-        ensures room { OnOk result (number < vec_len self.new.shelves) }
+        ensures room { OnOk result (number < vec_len self.new.tops) }
     {
-        for _i in self.shelves.len()..number + 1 {
-            self.shelves.push(Shelf::new(self.alloc))?;
+        for _i in self.tops.len()..number + 1 {
+            self.tops.push(TopDirectory::new(self.alloc))?;
         }
         Ok(())
     }
@@ -131,8 +131,8 @@ impl Memory {
         ensures kept { IsFalse result → cells_of self.new ≡ cells_of self.old }
     {
         let at = addr as usize;
-        let number = at / SHELF;
-        number < self.shelves.len() && self.shelves[number].put(at % SHELF, bytes)
+        let number = at / TOP_SIZE;
+        number < self.tops.len() && self.tops[number].put(at % TOP_SIZE, bytes)
     }
 
     // Changes cells of one page, if no other memory has it and that allocates nothing. Returns whether it did.
@@ -144,8 +144,8 @@ impl Memory {
         ensures kept { IsFalse result → cells_of self.new ≡ cells_of self.old }
     {
         let at = addr as usize;
-        let number = at / SHELF;
-        number < self.shelves.len() && self.shelves[number].change_own(at % SHELF, edit)
+        let number = at / TOP_SIZE;
+        number < self.tops.len() && self.tops[number].change_own(at % TOP_SIZE, edit)
     }
 
     /// Changes cells of one page, all of them or none.
@@ -169,8 +169,8 @@ impl Memory {
         ensures err { OnErr result (cells_of self.new ≡ cells_of self.old) }
     {
         let at = addr as usize;
-        self.grow(at / SHELF)?;
-        self.shelves[at / SHELF].change(self.alloc, at % SHELF, edit)
+        self.grow(at / TOP_SIZE)?;
+        self.tops[at / TOP_SIZE].change(self.alloc, at % TOP_SIZE, edit)
     }
 
     // Changes bytes of one page alike, if no other memory has it and that allocates nothing. Returns whether it did.
@@ -213,11 +213,11 @@ impl Memory {
         ensures ok { IfOk result (λ n. cells_of self.new ≡ changed_from (cells_of self.old) addr n (λ i cell. each_of each cell)) }
         ensures err { OnErr result (cells_of self.new ≡ cells_of self.old) }
     {
-        let number = addr as usize / SHELF;
-        let at = addr as usize % SHELF;
-        let most = (most as usize).min(SHELF - at);
+        let number = addr as usize / TOP_SIZE;
+        let at = addr as usize % TOP_SIZE;
+        let most = (most as usize).min(TOP_SIZE - at);
         self.grow(number)?;
-        let count = self.shelves[number].change_some(self.alloc, at, most, each)?;
+        let count = self.tops[number].change_some(self.alloc, at, most, each)?;
         Ok(count as u32)
     }
 
@@ -227,14 +227,14 @@ impl Memory {
         ensures bytes { IsTrue result → bytes_in self.now ≡ bytes_in other.now }
         ensures shadows { IsTrue result → shadows_in self.now ≡ shadows_in other.now }
     {
-        are_same(&self.shelves, &other.shelves)
+        are_same(&self.tops, &other.tops)
     }
 
     // Returns whether no page after the last address is kept, as none is in any memory that the program makes.
     fn ends_in_time(&self) -> bool
         ensures { IsTrue result → (a : ℕ) → 2 ^ 32 ≤ a → cells_of self.now a ≡ blank RangeKind.NoAccess }
     {
-        self.shelves.len() <= SHELVES
+        self.tops.len() <= TOPS
     }
 
     /// Returns how many pages are kept. No contract says so, as pages don't show: it is for limits of memory.
@@ -288,9 +288,9 @@ impl Memory {
         ensures bytes { IfOk result (λ copy. bytes_in copy ≡ bytes_in self.now) }
         ensures shadows { IfOk result (λ copy. shadows_in copy ≡ shadows_in self.now) }
     {
-        let shelves = self.shelves.clone()?;
+        let tops = self.tops.clone()?;
         Ok(Memory {
-            shelves,
+            tops,
             alloc: self.alloc,
         })
     }

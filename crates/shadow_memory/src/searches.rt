@@ -95,7 +95,7 @@ impl Memory {
 
     /// Returns the least multiple of 4, at or above an address, whose four bytes are all accessible and defined, with a value from `low` up
     /// to, but not including, `high`. Zeros never have such a value, so a blank page costs one step. Pages that aren't kept cost one step for
-    /// all of a directory or a shelf.
+    /// all of a directory or a top directory.
     pub fn next_in_range(&self, addr: u32, low: u32, high: u64) -> Option<u32>
         requires { 0 < low }
         ensures none { IfNone result (HoldNoneInRange (bytes_in self.now) (shadows_in self.now) low high addr (2 ^ 32)) }

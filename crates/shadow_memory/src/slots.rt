@@ -104,7 +104,7 @@ impl PageSlot {
     }
 
     /// Changes each byte of a blank page. Returns whether it was one.
-    pub(crate) fn sweep(&mut self, each: Each) -> bool
+    pub(crate) fn change_if_blank(&mut self, each: Each) -> bool
         ensures done { IsTrue result → cells_at self.new ≡ (λ k. each_of each (cells_at self.old k)) }
         ensures kept { IsFalse result → cells_at self.new ≡ cells_at self.old }
     {

@@ -8,7 +8,7 @@ use Rattle.suppressions.specs.declared.fault.SuppFault.{SuppFault}
 use Rattle.suppressions.specs.declared.fault.SuppFault.TheVariants.{Memory, BadSuppression}
 use Rattle.suppressions.specs.declared.subject.Subject.{Subject}
 use Rattle.suppressions.specs.declared.subject.Subject.TheVariants.{Parameter, Leak}
-use Rattle.text_parts.specs.Parts.{parts}
+use Rattle.texts.specs.Parts.{parts}
 use Rattle.suppressions.specs.Rules.{Rule}
 use Rattle.suppressions.specs.Words.{are_frames, frames_among, plain_subject, leak_kinds, each_kind}
 

@@ -11,7 +11,7 @@ use Rattle.suppressions.specs.declared.leak_kinds.LeakKinds.{LeakKinds}
 use Rattle.suppressions.specs.declared.subject.Subject.{Subject}
 use Rattle.suppressions.specs.declared.subject.Subject.TheVariants.{Parameter, Leak, Nothing}
 use Rattle.suppressions.specs.Lines.{Line}
-use Rattle.text_parts.specs.Parts.{parts}
+use Rattle.texts.specs.Parts.{parts}
 use Rattle.suppressions.specs.Rules.{Rule}
 use Rattle.suppressions.specs.Words.{frame_of, plain_subject, leak_kinds, each_kind}
 

@@ -2,7 +2,7 @@
 -- comments, which begin with `#`, are skipped).
 use Rattle.std.specs.Prelude.{ℕ, ◌+◌, ◌==◌, Bool, true, ◌||◌, List, [], ◌∷◌, if◌then◌else◌, codes}
 use Rattle.std.specs.Str.{bytes_eq}
-use Rattle.text_parts.specs.Parts.{parts}
+use Rattle.texts.specs.Parts.{parts}
 
 -- a line, trimmed, and its number in the text; the first line is 1
 pub record Line : Type 0 where

@@ -9,7 +9,7 @@ use Rattle.suppressions.specs.declared.frames.FrameLine.TheVariants.{Function, O
 use Rattle.suppressions.specs.declared.leak_kinds.LeakKinds.{LeakKinds}
 use Rattle.suppressions.specs.declared.subject.Subject.{Subject}
 use Rattle.suppressions.specs.declared.subject.Subject.TheVariants.{Access, Value, Condition, Release, Jump}
-use Rattle.text_parts.specs.Parts.{parts}
+use Rattle.texts.specs.Parts.{parts}
 
 -- a frame line, if a word is one
 unfoldable pub frame_of : List ℕ → Option FrameLine

@@ -11,7 +11,7 @@ use crate::suppression::Suppression;
 use crate::text::Text;
 use crate::words::{LEAK, PARAM, are_frames, frames_among, plain_subject};
 use std::alloc::Global;
-use text_parts::Parts;
+use texts::Parts;
 
 /// The fault of arguments that aren't a suppression's.
 const REFUSED: SuppFault = SuppFault::BadSuppression(1);

@@ -4,7 +4,7 @@ ghost use Rattle.suppressions.specs.Lines.{is_blank, trim_start, trim_end, trimm
 ghost use Rattle.suppressions.specs.Texts.{closing, after_block};
 
 use std::marker::Model;
-use text_parts::Parts;
+use texts::Parts;
 
 /// The longest text that is read, in bytes.
 pub const TEXT_LIMIT: usize = 1_048_576;

@@ -8,8 +8,8 @@ use Rattle.std.proofs.lemmas.Bool.Decides.{Decides-eqb, nat_tests}
 use Rattle.std.proofs.lemmas.Option.{slice_get_past}
 use Rattle.sweep_plans.specs.Plans.{count, has_only_bytes, nth, place_at, place_behind, place_behind_words, place_by}
 use Rattle.sweep_plans.specs.Plans.{step_place}
-use Rattle.sweep_plans.specs.declared.plan.Place.{Place}
-use Rattle.sweep_plans.specs.declared.plan.Place.TheVariants.{Byte as ByteAt, Word as WordAt, Nowhere}
+use Rattle.sweep_plans.specs.declared.plan.SweepPlace.{SweepPlace}
+use Rattle.sweep_plans.specs.declared.plan.SweepPlace.TheVariants.{Byte as ByteAt, Word as WordAt, Nowhere}
 use Rattle.sweep_plans.specs.declared.plan.Places.{Places}
 use Rattle.sweep_plans.specs.declared.plan.Plan.{Plan}
 
@@ -50,7 +50,7 @@ module _ (plan : Plan) (only : has_only_bytes plan ≡ true) where
   unfolding place_behind_words
   none-behind-words i =
       let list = plan.instructions.items in
-      ap (λ (o : Option Place). unwrap_or o (step_place (nth plan.steps (i - length list))))
+      ap (λ (o : Option SweepPlace). unwrap_or o (step_place (nth plan.steps (i - length list))))
       (slice_get_past list i (omega (arith, no-instructions)))
       ∙ ap step_place (none-at plan.steps (i - length list) no-steps)
 
@@ -62,7 +62,8 @@ module _ (plan : Plan) (only : has_only_bytes plan ≡ true) where
       ∙ none-behind-words (i - count plan.words)
 
   -- what holds of bytes and of nothing holds of each place
-  pub only-bytes : (P : Place → Type 0) → ((offset : ℕ) → P (ByteAt offset)) → P Nowhere → (i : ℕ) → P (place_at plan i)
+  pub only-bytes : (P : SweepPlace → Type 0) → ((offset : ℕ) → P (ByteAt offset)) → P Nowhere → (i : ℕ)
+      → P (place_at plan i)
   unfolding place_at
   only-bytes P bytes nowhere i = go (nth plan.bytes i)
     where

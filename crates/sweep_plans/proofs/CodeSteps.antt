@@ -9,8 +9,8 @@ use Rattle.guest_elf.specs.declared.image.Image.{Image}
 use Rattle.guest_elf.specs.declared.segment.Segment.{Segment}
 use Rattle.sweep_plans.proofs.ListSteps.{plus-one}
 use Rattle.sweep_plans.specs.Plans.{instruction_at, instructions, is_long, somewhere}
-use Rattle.sweep_plans.specs.declared.plan.Place.{Place}
-use Rattle.sweep_plans.specs.declared.plan.Place.TheVariants.{Byte, Word, Half, Step, Nowhere}
+use Rattle.sweep_plans.specs.declared.plan.SweepPlace.{SweepPlace}
+use Rattle.sweep_plans.specs.declared.plan.SweepPlace.TheVariants.{Byte, Word, Half, Step, Nowhere}
 
 -- what the segments from one on load: what that one does, or else those after it
 loaded-next : (segments : List Segment) (i addr : ℕ) (segment : Segment) → i < length segments
@@ -42,13 +42,13 @@ loaded-nowhere segments i addr past same =
     ap (λ o. unwrap_or o 0) (sym (ap (λ rest. loaded rest addr) (drop_all i segments past)) ∙ same)
 
 -- nothing was found in a list
-pub nothing-there : {R : Type 0} (now : R → Place) (found : Option R) (other : Place)
+pub nothing-there : {R : Type 0} (now : R → SweepPlace) (found : Option R) (other : SweepPlace)
     → ((x : R) → found ≡ Some x → ⊥) → unwrap_or (option_map now found) other ≡ other
 nothing-there now None other h = refl
 nothing-there now (Some x) other h = absurd (h x refl)
 
 -- a place is listed once at most
-pub one-at-most : (place : Place) → length (somewhere place) ≤ 1
+pub one-at-most : (place : SweepPlace) → length (somewhere place) ≤ 1
 one-at-most (Byte offset) = omega arith
 one-at-most (Word addr) = omega arith
 one-at-most (Half addr) = omega arith
@@ -56,7 +56,7 @@ one-at-most (Step step) = omega arith
 one-at-most Nowhere = omega arith
 
 -- the next half
-pub next-half : (image : Image) (inside : Bool) (addr next all rest : ℕ) (list : List Place) → all ≡ suc rest
+pub next-half : (image : Image) (inside : Bool) (addr next all rest : ℕ) (list : List SweepPlace) → all ≡ suc rest
     → next ≡ addr + 2
     → list ++ instructions image inside addr all
     ≡ (list ++ somewhere (instruction_at image inside addr))
@@ -69,7 +69,7 @@ next-half image inside addr next all rest list more on =
     ++ instructions image (is_long (instruction_at image inside addr)) a rest) (sym on)
 
 -- none are left
-pub no-halves : (image : Image) (inside : Bool) (addr n : ℕ) (list : List Place) → n ≡ 0
+pub no-halves : (image : Image) (inside : Bool) (addr n : ℕ) (list : List SweepPlace) → n ≡ 0
     → list ++ instructions image inside addr n ≡ list
 unfolding instructions
 no-halves image inside addr n list none =

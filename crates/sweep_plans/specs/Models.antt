@@ -1,7 +1,7 @@
 -- A list of fault models.
 use Rattle.std.specs.Prelude.{ℕ, Bool, true, false, if◌then◌else◌, List, [], ◌∷◌, codes, Option, Some, None}
 use Rattle.std.specs.Str.{bytes_eq}
-use Rattle.text_parts.specs.Parts.{parts}
+use Rattle.texts.specs.Parts.{parts}
 use Rattle.sweep_plans.specs.declared.models.FaultModel.{FaultModel}
 use Rattle.sweep_plans.specs.declared.models.FaultModel.TheVariants.{Skip, Registers, Pc, Words, Memory}
 use Rattle.sweep_plans.specs.declared.models.FaultModel.TheVariants.{Zero, Ones}

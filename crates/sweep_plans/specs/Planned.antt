@@ -4,11 +4,11 @@ use Rattle.std.specs.Prelude.{if◌then◌else◌, List, [], ◌∷◌, Option, 
 use Rattle.guest_elf.specs.declared.image.Image.{Image}
 use Rattle.guest_elf.specs.Images.{profile_of}
 use Rattle.guest_elf.specs.Profiles.{has_halves}
-use Rattle.command_line.specs.declared.order.SweepWords.{SweepWords}
+use Rattle.command_line.specs.declared.order.SweepArgs.{SweepArgs}
 use Rattle.command_line.specs.Orders.{text_of}
 use Rattle.sweep_plans.specs.Plans.{any_word, count, instructions, place_count}
 use Rattle.sweep_plans.specs.declared.plan.ByteValues.{ByteValues}
-use Rattle.sweep_plans.specs.declared.plan.Place.{Place}
+use Rattle.sweep_plans.specs.declared.plan.SweepPlace.{SweepPlace}
 use Rattle.sweep_plans.specs.declared.plan.Places.{Places}
 use Rattle.sweep_plans.specs.declared.plan.WordValues.{WordValues}
 use Rattle.sweep_plans.specs.declared.plan.Plan.{Plan}
@@ -19,16 +19,16 @@ use Rattle.sweep_plans.specs.Models.{no_models}
 use Rattle.sweep_plans.specs.Steps.{AreNoSteps, AreSteps}
 use Rattle.sweep_plans.specs.declared.plan.FaultModels.{FaultModels}
 use Rattle.sweep_plans.specs.declared.steps.StepRequest.{StepRequest}
-use Rattle.ends.specs.declared.ends.End.{End}
-use Rattle.ends.specs.declared.ends.End.TheVariants.{BytesRefused, Lone, NoMemory, StepsRefused, WordsRefused}
-use Rattle.ends.specs.declared.ends.LoneOption.TheVariants as Alone
-use Rattle.ends.specs.declared.ends.SweepOption.TheVariants.{Bytes, Values, Words, WordsValues, Part as ThePart}
+use Rattle.exit_status.specs.declared.ends.End.{End}
+use Rattle.exit_status.specs.declared.ends.End.TheVariants.{BytesRefused, Lone, NoMemory, StepsRefused, WordsRefused}
+use Rattle.exit_status.specs.declared.ends.LoneOption.TheVariants as Alone
+use Rattle.exit_status.specs.declared.ends.SweepOption.TheVariants.{Bytes, Values, Words, WordsValues, Part as ThePart}
 use Rattle.sweep_plans.specs.declared.request.Part.{Part}
 use Rattle.sweep_plans.specs.declared.request.Range.{Range}
 use Rattle.sweep_plans.specs.declared.request.Request.{Request}
 
 -- the edits that the arguments of a sweep ask for
-pub record AreEditsOf (asked : SweepWords) (request : Request) : Type 0 where
+pub record AreEditsOf (asked : SweepArgs) (request : Request) : Type 0 where
   pub bytes : NamesRange range_of (text_of asked.bytes) request.bytes
   pub byte_values : NamesByteValues asked.byte_values.now request.byte_values
   pub words : NamesRange closed_range_of (text_of asked.words) request.words
@@ -42,7 +42,7 @@ abbrev pub has_others : Request → Bool
 has_others request = is_some request.words || is_some request.steps
 
 -- the request in these arguments: `--sides` goes with edits of bytes only
-abbrev pub IsRequestOf : SweepWords → Request → Type 0
+abbrev pub IsRequestOf : SweepArgs → Request → Type 0
 IsRequestOf asked request = AreEditsOf asked request × ((asked.with_sides && has_others request) ≡ false)
 
 -- a text that names no values or no part is how the sweep ends; or, if a list may be read, lack of memory
@@ -57,35 +57,35 @@ IsBadPart text end = (part_of text ≡ None) × NamesText ThePart text end
 
 -- why the arguments of a sweep ask for no edits. Its options are read in this order: `--bytes`, `--values`, `--words`,
 -- `--words-values`, those on steps, and `--part`; the first whose text can't be read is how the sweep ends
-abbrev pub NoSteps : SweepWords → End → Type 0
+abbrev pub NoSteps : SweepArgs → End → Type 0
 NoSteps asked end =
     AreNoSteps (text_of asked.at) (text_of asked.faults) (text_of asked.code) (text_of asked.pairs) end
     ⊎ ((steps : Option StepRequest)
     × AreSteps (text_of asked.at) (text_of asked.faults) (text_of asked.code) (text_of asked.pairs) steps
     × IsBadPart asked.part.now end)
 
-abbrev pub NoWordValues : SweepWords → End → Type 0
+abbrev pub NoWordValues : SweepArgs → End → Type 0
 NoWordValues asked end =
     AreBadWordValues asked.word_values.now end
     ⊎ ((values : WordValues) × NamesWordValues asked.word_values.now values × NoSteps asked end)
 
-abbrev pub NoWords : SweepWords → End → Type 0
+abbrev pub NoWords : SweepArgs → End → Type 0
 NoWords asked end =
     IsBadRange Words closed_range_of (text_of asked.words) end
     ⊎ ((words : Option Range) × NamesRange closed_range_of (text_of asked.words) words × NoWordValues asked end)
 
-abbrev pub NoByteValues : SweepWords → End → Type 0
+abbrev pub NoByteValues : SweepArgs → End → Type 0
 NoByteValues asked end =
     AreBadByteValues asked.byte_values.now end
     ⊎ ((values : ByteValues) × NamesByteValues asked.byte_values.now values × NoWords asked end)
 
-abbrev pub AreNoEdits : SweepWords → End → Type 0
+abbrev pub AreNoEdits : SweepArgs → End → Type 0
 AreNoEdits asked end =
     IsBadRange Bytes range_of (text_of asked.bytes) end
     ⊎ ((bytes : Option Range) × NamesRange range_of (text_of asked.bytes) bytes × NoByteValues asked end)
 
 -- why they make no request: they ask for no edits, or `--sides` is there with edits of words or at steps
-abbrev pub IsNoRequest : SweepWords → End → Type 0
+abbrev pub IsNoRequest : SweepArgs → End → Type 0
 IsNoRequest asked end =
     AreNoEdits asked end
     ⊎ ((request : Request) × AreEditsOf asked request × ((asked.with_sides && has_others request) ≡ true)
@@ -131,14 +131,14 @@ words_by image None = Some nowhere
 abbrev pub halves_in : Range → Places
 halves_in range = record { first = (range.first + 1) / 2; end = (end_behind range.last 4294967296 + 1) / 2 }
 
-abbrev pub instructions_in : Image → Range → List Place
+abbrev pub instructions_in : Image → Range → List SweepPlace
 instructions_in image range = instructions image false (2 * (halves_in range).first) (count (halves_in range))
 
-abbrev pub if_any : List Place → Option (List Place)
+abbrev pub if_any : List SweepPlace → Option (List SweepPlace)
 if_any [] = None
 if_any (place ∷ places) = Some (place ∷ places)
 
-abbrev pub instructions_by : Image → Option Range → Option (List Place)
+abbrev pub instructions_by : Image → Option Range → Option (List SweepPlace)
 instructions_by image (Some range) =
     if has_halves (profile_of image).isa then if_any (instructions_in image range) else Some []
 instructions_by image None = Some []
@@ -170,7 +170,7 @@ NoInstructions named image end =
 abbrev pub NoPlanInstructions : Request → Image → ℕ → End → Type 0
 NoPlanInstructions request image step end =
     NoInstructions request.words image end
-    ⊎ ((list : List Place) × (instructions_by image request.words ≡ Some list) × (end ≡ StepsRefused)
+    ⊎ ((list : List SweepPlace) × (instructions_by image request.words ≡ Some list) × (end ≡ StepsRefused)
     × (steps_by request.steps step ≡ None))
 
 abbrev pub NoPlanWords : Request → Image → ℕ → End → Type 0

@@ -7,9 +7,9 @@ use Rattle.std.specs.List.{list_any}
 use Rattle.guest_elf.specs.declared.image.Image.{Image}
 use Rattle.guest_elf.specs.Images.{is_half_word, is_word, loaded_at, profile_of}
 use Rattle.guest_elf.specs.Profiles.{is_half}
-use Rattle.sweep_plans.specs.declared.plan.Place.{Place}
-use Rattle.sweep_plans.specs.declared.plan.Place.TheVariants.{Byte as ByteAt, Word as WordAt, Half as HalfAt}
-use Rattle.sweep_plans.specs.declared.plan.Place.TheVariants.{Step as StepAt, Nowhere}
+use Rattle.sweep_plans.specs.declared.plan.SweepPlace.{SweepPlace}
+use Rattle.sweep_plans.specs.declared.plan.SweepPlace.TheVariants.{Byte as ByteAt, Word as WordAt, Half as HalfAt}
+use Rattle.sweep_plans.specs.declared.plan.SweepPlace.TheVariants.{Step as StepAt, Nowhere}
 use Rattle.sweep_plans.specs.declared.plan.Places.{Places}
 use Rattle.sweep_plans.specs.declared.plan.Plan.{Plan}
 use Rattle.sweep_plans.specs.declared.plan.ByteValues.{ByteValues}
@@ -44,24 +44,24 @@ abbrev pub loaded_half : Image → ℕ → ℕ
 loaded_half image addr = unwrap_or (loaded_at image addr) 0 + 256 * unwrap_or (loaded_at image (addr + 1)) 0
 
 -- the instruction that begins at an address, of 16 or of 32 bits, all of which are loaded. None begins inside of a word
-unfoldable pub instruction_at : Image → Bool → ℕ → Place
+unfoldable pub instruction_at : Image → Bool → ℕ → SweepPlace
 instruction_at image inside addr =
     if inside || not (is_half_word image addr) then Nowhere
     else if is_half (profile_of image).isa (loaded_half image addr) then HalfAt addr
     else if is_word image addr then WordAt addr
     else Nowhere
 
-abbrev pub somewhere : Place → List Place
+abbrev pub somewhere : SweepPlace → List SweepPlace
 somewhere Nowhere = []
 somewhere place = place ∷ []
 
 -- is the next half the second one of a word?
-abbrev pub is_long : Place → Bool
+abbrev pub is_long : SweepPlace → Bool
 is_long (WordAt addr) = true
 is_long _ = false
 
 -- the instructions that begin in a number of halves from an address on, the first of which may be inside of a word
-unfoldable pub instructions : Image → Bool → ℕ → ℕ → List Place
+unfoldable pub instructions : Image → Bool → ℕ → ℕ → List SweepPlace
 instructions image inside addr zero = []
 instructions image inside addr (suc n) =
     let place = instruction_at image inside addr in
@@ -80,24 +80,24 @@ nth places i = if nat_lt i (count places) then Some (places.first + i) else None
 
 -- a place by its number: the bytes come first, then the words, each at a multiple of 4, or the instructions, then the
 -- steps
-abbrev pub step_place : Option ℕ → Place
+abbrev pub step_place : Option ℕ → SweepPlace
 step_place (Some step) = StepAt step
 step_place None = Nowhere
 
-abbrev pub place_by : (ℕ → Place) → Option ℕ → Place → Place
+abbrev pub place_by : (ℕ → SweepPlace) → Option ℕ → SweepPlace → SweepPlace
 place_by at (Some n) other = at n
 place_by at None other = other
 
-unfoldable pub place_behind_words : Plan → ℕ → Place
+unfoldable pub place_behind_words : Plan → ℕ → SweepPlace
 place_behind_words plan i =
     let list = plan.instructions.items in
     unwrap_or (slice_get list i) (step_place (nth plan.steps (i - length list)))
 
-unfoldable pub place_behind : Plan → ℕ → Place
+unfoldable pub place_behind : Plan → ℕ → SweepPlace
 place_behind plan i =
     place_by (λ word. WordAt (4 * word)) (nth plan.words i) (place_behind_words plan (i - count plan.words))
 
-unfoldable pub place_at : Plan → ℕ → Place
+unfoldable pub place_at : Plan → ℕ → SweepPlace
 place_at plan i = place_by ByteAt (nth plan.bytes i) (place_behind plan (i - count plan.bytes))
 
 -- is a number one of these?

@@ -4,10 +4,10 @@ use Rattle.std.specs.Prelude.{codes, length, Option, Some, None, is_some}
 use Rattle.std.specs.List.{list_any}
 use Rattle.std.specs.Str.{bytes_eq}
 use Rattle.commands.specs.Commands.{number}
-use Rattle.text_parts.specs.Parts.{parts}
-use Rattle.ends.specs.declared.ends.End.{End}
-use Rattle.ends.specs.declared.ends.End.TheVariants.{BadText}
-use Rattle.ends.specs.declared.ends.SweepOption.{SweepOption}
+use Rattle.texts.specs.Parts.{parts}
+use Rattle.exit_status.specs.declared.ends.End.{End}
+use Rattle.exit_status.specs.declared.ends.End.TheVariants.{BadText}
+use Rattle.exit_status.specs.declared.ends.SweepOption.{SweepOption}
 use Rattle.sweep_plans.specs.declared.plan.ByteValues.{ByteValues}
 use Rattle.sweep_plans.specs.declared.plan.ByteValues.TheVariants.{All, Flips as FlippedBytes, Edges}
 use Rattle.sweep_plans.specs.declared.plan.ByteValues.TheVariants.{Listed as ListedBytes}

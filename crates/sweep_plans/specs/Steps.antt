@@ -1,10 +1,10 @@
 -- The steps that the arguments of a sweep name, with what is tried at them; or why they name none.
 use Rattle.std.specs.Prelude.{◌≡◌, ℕ, ◌⊎◌, Bool, true, false, if◌then◌else◌, List, codes, Option, Some, None}
 use Rattle.std.specs.Str.{bytes_eq}
-use Rattle.ends.specs.declared.ends.End.{End}
-use Rattle.ends.specs.declared.ends.End.TheVariants.{Lone}
-use Rattle.ends.specs.declared.ends.LoneOption.TheVariants as Alone
-use Rattle.ends.specs.declared.ends.SweepOption.TheVariants.{At, Faults, CodeRange, Pairs}
+use Rattle.exit_status.specs.declared.ends.End.{End}
+use Rattle.exit_status.specs.declared.ends.End.TheVariants.{Lone}
+use Rattle.exit_status.specs.declared.ends.LoneOption.TheVariants as Alone
+use Rattle.exit_status.specs.declared.ends.SweepOption.TheVariants.{At, Faults, CodeRange, Pairs}
 use Rattle.sweep_plans.specs.Models.{models_of}
 use Rattle.sweep_plans.specs.Requests.{IsBadRange, NamesRange, NamesText, closed_range_of, range_of}
 use Rattle.sweep_plans.specs.declared.plan.FaultModels.{FaultModels}

@@ -4,7 +4,7 @@ ghost use Rattle.guest_elf.specs.Images.{loaded_at};
 ghost use Rattle.guest_elf.specs.Segments.{loaded, loaded_by};
 ghost use Rattle.sweep_plans.specs.Plans.{count, instruction_at, instructions, is_long, loaded_half, somewhere};
 
-use crate::plan::{Place, Places};
+use crate::plan::{Places, SweepPlace};
 use guest_elf::{Image, Segment};
 use std::alloc::{AllocError, Global};
 
@@ -50,36 +50,36 @@ fn loaded_half(image: &Image<'_>, addr: u32) -> u32
 
 /// Returns the instruction that begins at an address, if it isn't inside of a word.
 #[tactic(auto, unfolding(crate::specs::Plans::instruction_at))]
-fn instruction_at(image: &Image<'_>, inside: bool, addr: u32) -> Place
+fn instruction_at(image: &Image<'_>, inside: bool, addr: u32) -> SweepPlace
     requires { addr + 1 < 2 ^ 32 }
     ensures { result ≡ instruction_at image.now inside addr }
 {
     if inside || !image.is_half_word(addr) {
-        Place::Nowhere
+        SweepPlace::Nowhere
     } else if image.profile().isa.is_half(loaded_half(image, addr)) {
-        Place::Half(addr)
+        SweepPlace::Half(addr)
     } else if image.is_word(addr) {
-        Place::Word(addr)
+        SweepPlace::Word(addr)
     } else {
-        Place::Nowhere
+        SweepPlace::Nowhere
     }
 }
 
 /// Appends a place, if it is somewhere.
-fn push_place(places: &mut Vec<Place>, place: Place) -> Result<(), AllocError>
+fn push_place(places: &mut Vec<SweepPlace>, place: SweepPlace) -> Result<(), AllocError>
     ensures { OnOk result (places.new.items ≡ places.old.items ++ somewhere place) }
 {
-    if !matches!(place, Place::Nowhere) {
+    if !matches!(place, SweepPlace::Nowhere) {
         places.push(place)?;
     }
     Ok(())
 }
 
 /// Returns whether the next half is the second one of a word.
-fn is_long(place: Place) -> bool
+fn is_long(place: SweepPlace) -> bool
     ensures { result ≡ is_long place }
 {
-    matches!(place, Place::Word(_))
+    matches!(place, SweepPlace::Word(_))
 }
 
 /// Returns the instructions that begin in some halves, which are given by half of their addresses.
@@ -87,7 +87,7 @@ pub fn instructions(
     alloc: Global,
     image: &Image<'_>,
     halves: Places,
-) -> Result<Vec<Place>, AllocError>
+) -> Result<Vec<SweepPlace>, AllocError>
     requires { halves.end ≤ 2 ^ 31 }
     ensures list { IfOk result (λ list. list.items ≡ instructions image.now false (2 * halves.first) (count halves)) }
     ensures few { IfOk result (λ list. length list.items ≤ 2 ^ 31) }

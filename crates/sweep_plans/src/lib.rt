@@ -4,7 +4,7 @@
 //! |---|---|
 //! | [`Request::of`] | reads the arguments of a sweep, or says which of them can't be read: a [`Request`], with [`Range`]s and a [`Part`] |
 //! | [`plan_of`] | returns the [`Plan`] of a request for a program and an input, or why its places are rejected |
-//! | [`Plan::places`], [`Plan::place`] | return the number of [`Place`]s, and one of them |
+//! | [`Plan::places`], [`Plan::place`] | return the number of [`SweepPlace`]s, and one of them |
 //! | [`Plan::changes`] | returns the [`Change`]s at a place, given its value, or pc before its step and whether the instruction there has 16 bits: a [`Standing`] |
 //! | [`byte_flips`] | returns the changes at a step that turn the bits of a byte |
 //! | [`Places::count`] | returns the number of consecutive bytes, words or steps |
@@ -33,7 +33,7 @@ mod values;
 pub use change::{Change, Glitch};
 pub use glitches::byte_flips;
 pub use loaded::has_word;
-pub use plan::{ByteValues, FaultModels, Place, Places, Plan, WordValues};
+pub use plan::{ByteValues, FaultModels, Places, Plan, SweepPlace, WordValues};
 pub use planning::plan_of;
 pub use request::{Part, Range, Request};
 pub use standing::Standing;

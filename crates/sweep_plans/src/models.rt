@@ -3,7 +3,7 @@ ghost use Rattle.std.specs.Prelude.{◌≡◌};
 ghost use Rattle.sweep_plans.specs.Models.{has, joined, model_of, models_of, no_models, with_model};
 
 use crate::plan::FaultModels;
-use text_parts::Parts;
+use texts::Parts;
 
 const SKIP: &[u8] = b"skip";
 

@@ -56,7 +56,7 @@ impl Places {
 
 /// A place.
 #[derive(Clone, Copy)]
-pub enum Place {
+pub enum SweepPlace {
     /// The byte of the input at an offset.
     Byte(u32),
     /// The word of the program at an address.
@@ -122,7 +122,7 @@ pub struct Plan {
     /// The words of a program all of whose instructions are words, by a quarter of their addresses.
     pub words: Places,
     /// The instructions of a program that has some of 16 bits, in ascending order of their addresses.
-    pub instructions: Vec<Place>,
+    pub instructions: Vec<SweepPlace>,
     /// The values that each word and each instruction gets.
     pub word_values: WordValues,
     /// The steps of the run.
@@ -160,27 +160,27 @@ impl Plan {
     }
 
     /// Returns the place of a number: the bytes come first, then the words or the instructions, then the steps.
-    pub fn place(&self, i: u64) -> Place
+    pub fn place(&self, i: u64) -> SweepPlace
         ensures { result ≡ place_at self.now i }
     {
         if let Some(offset) = self.bytes.at(i) {
-            return Place::Byte(offset);
+            return SweepPlace::Byte(offset);
         }
         self.place_behind(i.saturating_sub(u64::from(self.bytes.count())))
     }
 
     /// Returns the place of a number among those after the bytes.
-    fn place_behind(&self, i: u64) -> Place
+    fn place_behind(&self, i: u64) -> SweepPlace
         ensures { result ≡ place_behind self.now i }
     {
         if let Some(word) = self.words.at(i) {
-            return Place::Word(4 * word);
+            return SweepPlace::Word(4 * word);
         }
         self.place_behind_words(i.saturating_sub(u64::from(self.words.count())))
     }
 
     /// Returns the place of a number among those after the words.
-    fn place_behind_words(&self, i: u64) -> Place
+    fn place_behind_words(&self, i: u64) -> SweepPlace
         ensures { result ≡ place_behind_words self.now i }
     {
         if let Some(place) = self.instructions.get(i as usize) {
@@ -190,8 +190,8 @@ impl Plan {
             .steps
             .at(i.saturating_sub(self.instructions.len() as u64))
         {
-            Some(step) => Place::Step(step),
-            None => Place::Nowhere,
+            Some(step) => SweepPlace::Step(step),
+            None => SweepPlace::Nowhere,
         }
     }
 

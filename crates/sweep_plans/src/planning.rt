@@ -1,14 +1,14 @@
 //! The places of a sweep of a program with an input.
 ghost use Rattle.std.specs.Prelude.{◌≡◌, ◌≤◌, ◌+◌, ◌/◌, ◌^◌, ◌⊎◌, ◌||◌, IfErr, IfOk, None, Some, is_some, length};
 ghost use Rattle.sweep_plans.specs.Planned.{HasNoPlan, IsPlanOf, NoInstructions, bytes_by, bytes_meant, code_by, end_behind, if_any, inside, instructions_by, instructions_in, models_by, pairs_by, steps_by, words_by};
-ghost use Rattle.ends.specs.declared.ends.End.TheVariants.{BytesRefused, NoMemory, StepsRefused, WordsRefused};
+ghost use Rattle.exit_status.specs.declared.ends.End.TheVariants.{BytesRefused, NoMemory, StepsRefused, WordsRefused};
 
 use crate::code::instructions;
 use crate::loaded::has_word;
-use crate::plan::{FaultModels, Place, Places, Plan};
+use crate::plan::{FaultModels, Places, Plan, SweepPlace};
 use crate::request::{Range, Request};
 use crate::steps::StepRequest;
-use ends::End;
+use exit_status::End;
 use guest_elf::Image;
 use std::alloc::Global;
 
@@ -90,7 +90,11 @@ fn half(address: u64) -> u32
 }
 
 /// Returns the instructions that begin at the addresses of a range, if there is one.
-fn instructions_in<'a>(alloc: Global, range: Range, image: &Image) -> Result<Vec<Place>, End<'a>>
+fn instructions_in<'a>(
+    alloc: Global,
+    range: Range,
+    image: &Image,
+) -> Result<Vec<SweepPlace>, End<'a>>
     ensures ok { IfOk result (λ list. if_any (instructions_in image.now range) ≡ Some list.items) }
     ensures few { IfOk result (λ list. length list.items ≤ 2 ^ 31) }
     ensures err { IfErr result (λ end. ((end ≡ WordsRefused) × (if_any (instructions_in image.now range) ≡ None)) ⊎ (end ≡ NoMemory)) }
@@ -114,7 +118,7 @@ fn instructions_of<'a>(
     alloc: Global,
     named: Option<Range>,
     image: &Image,
-) -> Result<Vec<Place>, End<'a>>
+) -> Result<Vec<SweepPlace>, End<'a>>
     ensures ok { IfOk result (λ list. instructions_by image.now named ≡ Some list.items) }
     ensures few { IfOk result (λ list. length list.items ≤ 2 ^ 31) }
     ensures err { IfErr result (NoInstructions named image.now) }

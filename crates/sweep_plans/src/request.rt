@@ -3,15 +3,15 @@ ghost use Rattle.std.specs.Prelude.{◌≡◌, IfErr, IfOk, IfSome, MatchOption,
 ghost use Rattle.command_line.specs.Orders.{text_of};
 ghost use Rattle.sweep_plans.specs.Planned.{AreBadByteValues, AreBadWordValues, AreEditsOf, AreNoEdits, IsBadPart, IsNoRequest, IsPart, IsRequestOf, has_others};
 ghost use Rattle.sweep_plans.specs.Requests.{IsBadRange, NamesByteValues, NamesNoByteValues, NamesNoWordValues, NamesRange, NamesWordValues, closed_range_of, joined_by, list_of, part_in, part_of, range_in, range_of, up_to};
-ghost use Rattle.ends.specs.declared.ends.SweepOption.TheVariants.{Bytes, Words};
+ghost use Rattle.exit_status.specs.declared.ends.SweepOption.TheVariants.{Bytes, Words};
 
 use crate::plan::{ByteValues, WordValues};
 use crate::steps::{StepRequest, named_steps};
-use command_line::SweepWords;
+use command_line::SweepArgs;
 use commands::number;
-use ends::{End, LoneOption, SweepOption};
+use exit_status::{End, LoneOption, SweepOption};
 use std::alloc::{AllocError, Global};
-use text_parts::Parts;
+use texts::Parts;
 
 const ALL: &[u8] = b"all";
 
@@ -281,9 +281,9 @@ fn named_part<'a>(text: &'a str) -> Result<Part, End<'a>>
 }
 
 impl Request {
-    /// Returns the request in the arguments of a sweep. They are read in the order of the fields of [`SweepWords`]. The first that can't be
+    /// Returns the request in the arguments of a sweep. They are read in the order of the fields of [`SweepArgs`]. The first that can't be
     /// read is how the sweep ends, or `--sides` if there are other edits than of bytes.
-    pub fn of<'a>(alloc: Global, words: &SweepWords<'a>) -> Result<Request, End<'a>>
+    pub fn of<'a>(alloc: Global, words: &SweepArgs<'a>) -> Result<Request, End<'a>>
         ensures ok { IfOk result (λ request. IsRequestOf words.now request) }
         ensures part { IfOk result (λ request. IsPart request.part) }
         ensures err { IfErr result (λ end. IsNoRequest words.now end) }
@@ -303,7 +303,7 @@ impl Request {
     }
 
     /// Returns the edits that the arguments of a sweep ask for.
-    fn edits_of<'a>(alloc: Global, words: &SweepWords<'a>) -> Result<Request, End<'a>>
+    fn edits_of<'a>(alloc: Global, words: &SweepArgs<'a>) -> Result<Request, End<'a>>
         ensures ok { IfOk result (λ request. AreEditsOf words.now request) }
         ensures part { IfOk result (λ request. IsPart request.part) }
         ensures err { IfErr result (λ end. AreNoEdits words.now end) }

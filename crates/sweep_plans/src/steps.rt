@@ -4,13 +4,13 @@ ghost use Rattle.command_line.specs.Orders.{text_of};
 ghost use Rattle.sweep_plans.specs.Models.{models_of};
 ghost use Rattle.sweep_plans.specs.Requests.{IsBadRange, NamesRange, closed_range_of, range_of};
 ghost use Rattle.sweep_plans.specs.Steps.{AreBadFaults, AreBadPairs, AreBadSteps, AreNoSteps, AreSteps, IsBadAt, NamesSteps, pairs_of};
-ghost use Rattle.ends.specs.declared.ends.SweepOption.TheVariants.{CodeRange};
+ghost use Rattle.exit_status.specs.declared.ends.SweepOption.TheVariants.{CodeRange};
 
 use crate::models::models_of;
 use crate::plan::FaultModels;
 use crate::request::{Range, closed_range, open_range};
-use command_line::SweepWords;
-use ends::{End, LoneOption, SweepOption};
+use command_line::SweepArgs;
+use exit_status::{End, LoneOption, SweepOption};
 
 /// The steps that a sweep strikes by faults.
 #[derive(Clone, Copy)]

@@ -15,12 +15,12 @@ use Rattle.sweeps.specs.Tables.{rows_text, table_text}
 use Rattle.sweep_plans.specs.declared.change.Change.{Change}
 use Rattle.sweep_plans.specs.declared.plan.Plan.{Plan}
 use Rattle.sweeps.specs.declared.sweep.Sweep.{Sweep}
-use Rattle.ends.specs.Ends.{AppendsFront, end_of}
+use Rattle.exit_status.specs.Ends.{AppendsFront, end_of}
 use Rattle.sweep_tables.specs.SidesLines.{TellsSides}
 use Rattle.sweep_tables.specs.Swept.{AreOf, Case, HasTable, Reached, TellsSidesOf, Writes, WritesTable, sides_told}
-use Rattle.ends.specs.declared.ends.End.{End}
-use Rattle.ends.specs.declared.ends.End.TheVariants.{CannotWrite, Done, NoMemory}
-use Rattle.ends.proofs.Pieces.{front-next}
+use Rattle.exit_status.specs.declared.ends.End.{End}
+use Rattle.exit_status.specs.declared.ends.End.TheVariants.{CannotWrite, Done, NoMemory}
+use Rattle.exit_status.proofs.Pieces.{front-next}
 
 -- the changes that were met
 abbrev changes : List Met → List Change

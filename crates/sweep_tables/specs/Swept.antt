@@ -8,7 +8,7 @@ use Rattle.hex.specs.Hex.{encode_lower}
 use Rattle.sha2.specs.Sha256.{sha256}
 use Rattle.command_line.specs.Isas.{isa_name}
 use Rattle.command_line.specs.Orders.{text_of}
-use Rattle.command_line.specs.declared.order.SweepWords.{SweepWords}
+use Rattle.command_line.specs.declared.order.SweepArgs.{SweepArgs}
 use Rattle.guest_elf.specs.File.{is_moved}
 use Rattle.guest_elf.specs.Images.{profile_of}
 use Rattle.guest_elf.specs.Profiles.{usual_limits}
@@ -37,10 +37,10 @@ use Rattle.sweep_plans.specs.declared.change.Change.{Change}
 use Rattle.sweep_plans.specs.declared.plan.Places.{Places}
 use Rattle.sweep_plans.specs.declared.plan.Plan.{Plan}
 use Rattle.sweeps.specs.declared.sweep.Sweep.{Sweep}
-use Rattle.ends.specs.declared.ends.End.{End}
-use Rattle.ends.specs.Ends.{AppendsFront}
-use Rattle.ends.specs.ExecEnds.{most_text}
-use Rattle.ends.specs.declared.ends.End.TheVariants.{CannotWrite, Done, NoMemory}
+use Rattle.exit_status.specs.declared.ends.End.{End}
+use Rattle.exit_status.specs.Ends.{AppendsFront}
+use Rattle.exit_status.specs.ExecEnds.{most_text}
+use Rattle.exit_status.specs.declared.ends.End.TheVariants.{CannotWrite, Done, NoMemory}
 use Rattle.sweep_plans.specs.declared.request.Part.{Part}
 use Rattle.sweep_plans.specs.declared.request.Range.{Range}
 use Rattle.sweep_plans.specs.declared.request.Request.{Request}
@@ -180,7 +180,7 @@ step_lines step with_output part =
     ++ newline
 
 -- the head of a table
-unfoldable pub head_text : List ℕ → List ℕ → List ℕ → Profile → SweepWords → Plan → Option Range → Part → List ℕ
+unfoldable pub head_text : List ℕ → List ℕ → List ℕ → Profile → SweepArgs → Plan → Option Range → Part → List ℕ
 head_text program input rules profile words plan named part =
     version_line plan.steps profile words.with_sides ++ profile_lines profile ++ file_lines program input rules
     ++ bytes_line plan.bytes words.byte_values.now ++ words_line named words.word_values.now
@@ -262,7 +262,7 @@ Reached case n old now sweep =
 
 -- the sweep of a program with an input and suppressions, of which these bytes were read, by a plan: with words, if some
 -- are named, and a part of the places; the instruction set is the program's
-abbrev pub case_with : List ℕ → List ℕ → ProgramImage → List ℕ → List Rule → SweepWords → Option Range → Part → Plan
+abbrev pub case_with : List ℕ → List ℕ → ProgramImage → List ℕ → List Rule → SweepArgs → Option Range → Part → Plan
     → Case
 case_with file text image input list words named part plan = record {
   head = head_text file input text (profile_of image) words plan named part;
@@ -274,13 +274,13 @@ case_with file text image input list words named part plan = record {
 }
 
 -- and by the plan of a request
-abbrev pub case_of : List ℕ → List ℕ → ProgramImage → List ℕ → List Rule → SweepWords → Request → Plan → Case
+abbrev pub case_of : List ℕ → List ℕ → ProgramImage → List ℕ → List Rule → SweepArgs → Request → Plan → Case
 case_of file text image input list words request plan =
     case_with file text image input list words request.words request.part plan
 
 -- the places are rejected, the bytes before the words before the steps, and nothing is written; or the table of the
 -- places of the part is written
-abbrev pub Sweeps : List ℕ → List ℕ → ProgramImage → List ℕ → List Rule → SweepWords → Request → Option (List ℕ)
+abbrev pub Sweeps : List ℕ → List ℕ → ProgramImage → List ℕ → List Rule → SweepArgs → Request → Option (List ℕ)
     → Option (List ℕ) → End → Type 0
 Sweeps file text image input list words request old new end =
     (HasNoPlan request image (length input) words.step end × Appends old new [])

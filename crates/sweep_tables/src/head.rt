@@ -5,10 +5,10 @@ ghost use Rattle.sha2.specs.Sha256.{sha256};
 ghost use Rattle.report_lines.specs.Text.{newline};
 ghost use Rattle.command_line.specs.Orders.{text_of};
 ghost use Rattle.guest_elf.specs.File.{is_moved};
-ghost use Rattle.ends.specs.ExecEnds.{most_text};
+ghost use Rattle.exit_status.specs.ExecEnds.{most_text};
 ghost use Rattle.sweep_tables.specs.Swept.{bytes_line, code_text, fault_text, file_line, file_lines, head_text, heap_line, heap_text, heap_word, is_heap_moved, is_other, is_other_moved, is_other_room, is_unusual, isa_line, moved_line, moved_text, output_line, pairs_text, profile_lines, room_line, room_text, sides_head, stack_line, stack_text, stack_word, step_lines, steps_line, version_line, words_line};
 
-use command_line::{SweepWords, isa_name};
+use command_line::{SweepArgs, isa_name};
 use guest_elf::{Isa, Profile, StreamLimits};
 use memory_map::{Regions, StackRegion};
 use report_lines::{push_address, push_number, push_text};
@@ -101,7 +101,7 @@ fn is_other(isa: Isa) -> bool
 }
 
 /// Returns whether the heap's region begins elsewhere than the usual one.
-#[tactic(auto, unfolding(memory_map::specs::Regions::is_heap_begin, memory_map::specs::Regions::is_stack_region, memory_map::specs::Regions::meet))]
+#[tactic(auto, unfolding(memory_map::specs::Regions::is_heap_begin, memory_map::specs::Regions::is_stack_region, memory_map::specs::Regions::overlap))]
 fn is_heap_moved(regions: Regions) -> bool
     ensures { result ≡ is_heap_moved regions }
 {
@@ -109,7 +109,7 @@ fn is_heap_moved(regions: Regions) -> bool
 }
 
 /// Returns whether the stack's region is another than the usual one.
-#[tactic(auto, unfolding(guest_elf::specs::File::is_moved, memory_map::specs::Regions::is_heap_begin, memory_map::specs::Regions::is_stack_region, memory_map::specs::Regions::meet))]
+#[tactic(auto, unfolding(guest_elf::specs::File::is_moved, memory_map::specs::Regions::is_heap_begin, memory_map::specs::Regions::is_stack_region, memory_map::specs::Regions::overlap))]
 fn is_moved(stack: StackRegion) -> bool
     ensures { result ≡ is_moved stack }
 {
@@ -377,7 +377,7 @@ pub(crate) fn push_head(
     out: &mut Vec<u8>,
     sources: &Sources,
     profile: Profile,
-    words: &SweepWords,
+    words: &SweepArgs,
     plan: &Plan,
     named: Option<Range>,
     part: Part,

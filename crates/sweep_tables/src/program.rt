@@ -1,6 +1,6 @@
 //! A sweep of a program with an input and suppressions.
 ghost use Rattle.std.specs.Prelude.{◌≡◌, ◌≤◌, ◌-◌, ◌++◌, [], ℕ, List, Option, IfOk, length};
-ghost use Rattle.ends.specs.Ends.{end_of};
+ghost use Rattle.exit_status.specs.Ends.{end_of};
 ghost use Rattle.guest_elf.specs.Images.{profile_of};
 ghost use Rattle.sweep_plans.specs.Planned.{IsPart, part_from, part_to};
 ghost use Rattle.sweep_tables.specs.SidesLines.{range_for};
@@ -14,8 +14,8 @@ ghost use Rattle.sweeps.specs.Tables.{rows_text};
 use crate::head::{Sources, push_head};
 use crate::sides::range_for;
 use crate::table::{first_place, write_all, write_table};
-use command_line::SweepWords;
-use ends::End;
+use command_line::SweepArgs;
+use exit_status::End;
 use guest_elf::Image;
 use std::alloc::{AllocError, Global};
 use std::io::Write;
@@ -31,7 +31,7 @@ fn begin_table<'p>(
     image: Image<'p>,
     input: Vec<u8>,
     suppressions: Vec<Suppression>,
-    words: &SweepWords,
+    words: &SweepArgs,
     plan: &Plan,
     named: Option<Range>,
     part: Part,
@@ -94,7 +94,7 @@ fn sweep_part<'a, W: Write>(
     image: Image<'_>,
     input: Vec<u8>,
     suppressions: Vec<Suppression>,
-    words: &SweepWords<'a>,
+    words: &SweepArgs<'a>,
     plan: &Plan,
     named: Option<Range>,
     part: Part,
@@ -136,7 +136,7 @@ pub fn sweep_program<'a, W: Write>(
     image: Image<'_>,
     input: Vec<u8>,
     suppressions: Vec<Suppression>,
-    words: &SweepWords<'a>,
+    words: &SweepArgs<'a>,
     request: Request,
     writer: &mut W,
 ) -> Result<(), End<'a>>

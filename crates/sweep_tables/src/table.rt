@@ -1,10 +1,10 @@
 //! The table of a sweep, place by place.
 ghost use Rattle.std.specs.Prelude.{◌≡◌, ◌+◌, ◌-◌, ◌++◌, ◌<◌, ◌≤◌, ◌^◌, ℕ, List, Option, OnOk, IfOk, IfErr, map};
 ghost use Rattle.std.specs.Io.KnownBytes.{Appends};
-ghost use Rattle.ends.specs.Ends.{AppendsFront, end_of};
+ghost use Rattle.exit_status.specs.Ends.{AppendsFront, end_of};
 ghost use Rattle.sweep_plans.specs.Planned.{first_place};
 ghost use Rattle.sweep_tables.specs.Swept.{Case, Reached, Writes, sides_told};
-ghost use Rattle.ends.specs.declared.ends.End.TheVariants.{CannotWrite};
+ghost use Rattle.exit_status.specs.declared.ends.End.TheVariants.{CannotWrite};
 ghost use Rattle.sweeps.specs.Outcomes.{Met};
 ghost use Rattle.sweeps.specs.Standing.{changes_at};
 ghost use Rattle.sweep_plans.specs.declared.change.Change.{Change};
@@ -13,8 +13,8 @@ ghost use Rattle.sweeps.specs.Sweeps.{HasMet, scenario_of, tells_output};
 ghost use Rattle.sweeps.specs.Tables.{rows_text, table_text};
 
 use crate::sides::push_lines;
-use ends::End;
-use line_server::send;
+use exit_status::End;
+use line_protocol::send;
 use look_lines::push_digits;
 use std::alloc::{AllocError, Global};
 use std::io::Write;

@@ -26,13 +26,13 @@ use Rattle.checkpoints.specs.Effects.{code_effect}
 use Rattle.checkpoints.specs.Forks.{IsForkFor}
 use Rattle.checkpoints.specs.declared.effect.Effect.TheVariants.{After, Input as InputFrom}
 use Rattle.checkpoints.specs.declared.forks.Fork.{Fork}
-use Rattle.sweeps.specs.Spots.{Continues, IsFoundAt}
-use Rattle.sweeps.specs.declared.spots.Spot.{Spot}
+use Rattle.sweeps.specs.Sites.{Continues, IsFoundAt}
+use Rattle.sweeps.specs.declared.sites.Site.{Site}
 use Rattle.sweeps.specs.Standing.{GoesBack, IsAt, IsBelow, MayFollow, Stands, is_struck, standing_byte, standing_in}
 use Rattle.sweeps.specs.Standing.{is_half_next, standing_half, standing_step, standing_word, state_before}
-use Rattle.sweep_plans.specs.declared.plan.Place.{Place}
-use Rattle.sweep_plans.specs.declared.plan.Place.TheVariants.{Byte as ByteAt, Word as WordAt, Half as HalfAt}
-use Rattle.sweep_plans.specs.declared.plan.Place.TheVariants.{Step as StepAt, Nowhere}
+use Rattle.sweep_plans.specs.declared.plan.SweepPlace.{SweepPlace}
+use Rattle.sweep_plans.specs.declared.plan.SweepPlace.TheVariants.{Byte as ByteAt, Word as WordAt, Half as HalfAt}
+use Rattle.sweep_plans.specs.declared.plan.SweepPlace.TheVariants.{Step as StepAt, Nowhere}
 use Rattle.sweep_plans.specs.declared.plan.Plan.{Plan}
 use Rattle.sweep_plans.specs.declared.request.Range.{Range}
 use Rattle.sweep_plans.specs.declared.change.Change.{Change}
@@ -65,7 +65,7 @@ module _ (sc : Scenario) (plan : Plan) (near : sc.step ≤ most_steps) (none : s
       first-test true b h = refl
       first-test false b h = cc
 
-  pub stands-there : (place : Place) (s : Standing) → standing_in sc plan place ≡ Some s
+  pub stands-there : (place : SweepPlace) (s : Standing) → standing_in sc plan place ≡ Some s
       → Stands sc s × IsBelow sc.step s
   unfolding standing_byte standing_word standing_half
   stands-there (ByteAt offset) s h =
@@ -391,11 +391,11 @@ step-continues sc code step standing fork h is =
     go pc short _ e = absurd e
 
 -- what was found
-pub found-some : (sc : Scenario) (here : Option Standing) (found : Option Spot) (spot : Spot) → found ≡ Some spot
-    → IsFoundAt sc here found → (here ≡ Some spot.standing) × Continues sc spot.standing spot.fork
-found-some sc here found spot is h = subst (λ (f : Option Spot). IsFoundAt sc here f) is h
+pub found-some : (sc : Scenario) (here : Option Standing) (found : Option Site) (site : Site) → found ≡ Some site
+    → IsFoundAt sc here found → (here ≡ Some site.standing) × Continues sc site.standing site.fork
+found-some sc here found site is h = subst (λ (f : Option Site). IsFoundAt sc here f) is h
 
-pub found-none : (sc : Scenario) (here : Option Standing) (found : Option Spot)
-    → ((spot : Spot) → found ≡ Some spot → ⊥) → IsFoundAt sc here found → here ≡ None
-found-none sc here (Some spot) none h = absurd (none spot refl)
+pub found-none : (sc : Scenario) (here : Option Standing) (found : Option Site)
+    → ((site : Site) → found ≡ Some site → ⊥) → IsFoundAt sc here found → here ≡ None
+found-none sc here (Some site) none h = absurd (none site refl)
 found-none sc here None none h = h

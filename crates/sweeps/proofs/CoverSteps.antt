@@ -30,7 +30,7 @@ use Rattle.sweep_plans.specs.Changes.{edit_of, second_of}
 use Rattle.sweep_plans.specs.Plans.{HasNext, changes_of, has_only_bytes, place_at}
 use Rattle.sweep_plans.specs.declared.change.Change.{Change}
 use Rattle.sweep_plans.specs.declared.change.Change.TheVariants.{Byte}
-use Rattle.sweep_plans.specs.declared.plan.Place.{Place}
+use Rattle.sweep_plans.specs.declared.plan.SweepPlace.{SweepPlace}
 use Rattle.sweep_plans.specs.declared.plan.Plan.{Plan}
 use Rattle.sweep_plans.specs.declared.standing.Standing.{Standing}
 use Rattle.sweep_plans.specs.declared.standing.Standing.TheVariants as At

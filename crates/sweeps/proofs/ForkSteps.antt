@@ -19,7 +19,7 @@ use Rattle.checkpoints.specs.declared.effect.Effect.TheVariants.{After}
 use Rattle.checkpoints.specs.declared.forks.Fork.{Fork}
 use Rattle.checkpoints.specs.declared.trail.Trail.{Trail}
 use Rattle.scenario.specs.Scenario.{Scenario, chosen_state, first_state, run_of}
-use Rattle.sweeps.specs.Spots.{IsScout}
+use Rattle.sweeps.specs.Sites.{IsLastFork}
 
 pub fork-for : (effect : List Alteration → Effect) (sc : Scenario) (setup : Setup) (marks : List Alteration) (step : ℕ)
     (trail : Trail) (fork : Fork) → setup ≡ sc.setup → marks ≡ sc.marks → step ≡ sc.step
@@ -60,9 +60,9 @@ fork-before step last run fork is = elim (cases_lt step fork.step) [
 ]
 
 -- a fork of the run is one for its step
-pub scout-for : (sc : Scenario) (fork : Fork) → IsScout sc (Some fork)
+pub last_fork-for : (sc : Scenario) (fork : Fork) → IsLastFork sc (Some fork)
     → IsForkFor (After fork.step) (run_of sc) sc.step fork
-scout-for sc fork is = record {
+last_fork-for sc fork is = record {
   whole = tt;
   shows = is.1;
   step = record {
@@ -73,9 +73,9 @@ scout-for sc fork is = record {
 }
 
 -- and the other way round
-pub for-scout : (sc : Scenario) (step : ℕ) (fork : Fork) → IsForkFor (After step) (run_of sc) sc.step fork
-    → IsScout sc (Some fork)
-for-scout sc step fork is = (is.step.within, is.shows)
+pub for-last_fork : (sc : Scenario) (step : ℕ) (fork : Fork) → IsForkFor (After step) (run_of sc) sc.step fork
+    → IsLastFork sc (Some fork)
+for-last_fork sc step fork is = (is.step.within, is.shows)
 
 -- the machine of an edited run, by what the setup and marks of the scenario are equal to
 pub edited-for : (effect : Effect) (fork : Fork) (sc : Scenario) (setup : Setup) (marks : List Alteration)

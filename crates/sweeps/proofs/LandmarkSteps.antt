@@ -12,8 +12,8 @@ use Rattle.checkpoints.specs.declared.effect.Effect.{Effect}
 use Rattle.checkpoints.specs.declared.forks.Fork.{Fork}
 use Rattle.checkpoints.proofs.MarkSteps.{after-no_marks, after-none, made-until}
 use Rattle.guest_machine.specs.Exec.{exec}
-use Rattle.jumps.proofs.ApartSteps.{steps-on}
-use Rattle.jumps.proofs.CourseSteps.{get-push, get-within}
+use Rattle.pruning.proofs.ApartSteps.{steps-on}
+use Rattle.pruning.proofs.CourseSteps.{get-push, get-within}
 use Rattle.guest_machine.specs.Run.{marks_at, post, pre}
 use Rattle.guest_machine.specs.Shows.{Shows}
 use Rattle.guest_machine.specs.State.{State}

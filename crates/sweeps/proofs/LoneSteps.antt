@@ -29,7 +29,7 @@ use Rattle.sweeps.specs.Standing.{is_half_next, is_in_code, is_struck, skipped, 
 use Rattle.sweeps.specs.declared.landmarks.Landmarks.{Landmarks}
 use Rattle.sweeps.specs.declared.lone_skips.LoneSkip.{LoneSkip}
 use Rattle.sweeps.specs.declared.lone_skips.LoneSkips.{LoneSkips}
-use Rattle.jumps.proofs.CourseSteps.{get-push, get-within}
+use Rattle.pruning.proofs.CourseSteps.{get-push, get-within}
 use Rattle.sweeps.proofs.LandmarkSteps.{marks-more, quiet-on, same-held}
 
 -- ---- the table

@@ -8,11 +8,11 @@ use Rattle.guest_machine.specs.Run.{after_marks, marks_at, post, pre}
 use Rattle.guest_machine.specs.State.{State}
 use Rattle.guest_machine.specs.declared.setup.Setup.{Setup}
 use Rattle.run_values.specs.declared.alteration.Alteration.{Alteration}
-use Rattle.step_uses.specs.Laws.{HasBytes, IsOf, RunsKeep, RunsKeepWords, RunsOverwrite, also}
-use Rattle.step_uses.specs.Words.{passing_word, touches_word}
-use Rattle.step_uses.specs.Passing.{passing}
-use Rattle.step_uses.specs.declared.passing.Passing.{Passing}
-use Rattle.step_uses.specs.declared.passing.Passing.TheVariants.{Keeps, Looks, Overwrites}
+use Rattle.pruning.specs.Laws.{HasBytes, IsOf, RunsKeep, RunsKeepWords, RunsOverwrite, also}
+use Rattle.pruning.specs.Words.{passing_word, touches_word}
+use Rattle.pruning.specs.Passing.{passing}
+use Rattle.pruning.specs.declared.passing.Passing.{Passing}
+use Rattle.pruning.specs.declared.passing.Passing.TheVariants.{Keeps, Looks, Overwrites}
 use Rattle.replay_report.specs.Outlines.{IsOutline}
 use Rattle.scenario.specs.Scenario.{Scenario, IsOutlineOf, chosen_state, first_state, run_of}
 use Rattle.sweep_plans.specs.Changes.{act_of}
@@ -26,13 +26,13 @@ use Rattle.sweep_plans.specs.Changes.{IsRight}
 use Rattle.sweep_plans.specs.declared.standing.Standing.{Standing}
 use Rattle.sweep_plans.specs.declared.standing.Standing.TheVariants as At
 use Rattle.sweeps.specs.Recall.{AreKnown, IsGone, IsKept, Passes, Recalls, RegisterIs}
-use Rattle.sweeps.specs.Spots.{Continues, IsBefore}
+use Rattle.sweeps.specs.Sites.{Continues, IsBefore}
 use Rattle.sweeps.specs.Standing.{IsAt, IsBelow, Stands, state_before}
 use Rattle.sweeps.specs.declared.endings.Ends.{Ends}
 use Rattle.sweeps.specs.declared.recall.Recall.{Recall}
 use Rattle.sweeps.proofs.LoneSteps.{none-foreseen}
 use Rattle.sweeps.proofs.MemorySteps.{fork-there}
-use Rattle.sweeps.specs.declared.spots.Spot.{Spot}
+use Rattle.sweeps.specs.declared.sites.Site.{Site}
 
 -- without marks, the state after those of a step is the state before the step
 bare : (start : State) (setup : Setup) (marks : List Alteration) (k : ℕ) → marks ≡ []
@@ -131,7 +131,7 @@ passes-turn s setup addr mask Looks near e fits = tt
 passes-turn s setup addr mask Keeps near e fits = (near, fits refl, sym e)
 passes-turn s setup addr mask Overwrites near e fits = never-overwrites s setup addr (sym e)
 
--- ---- a spot before a step
+-- ---- a site before a step
 
 -- a change there that is one glitch strikes this step
 pub at-once : (sc : Scenario) (standing : Standing) (step at : ℕ) (glitch : Glitch)
@@ -141,12 +141,12 @@ at-once sc standing step at glitch (pc, short, is) h =
     let there = subst (λ st. IsAt sc st (Once at glitch)) is h in
     (there.0, (subst (λ st. IsAt sc st (Once step glitch)) (sym is) (refl, there.1), there.1))
 
--- a spot at a step is just before it
-pub before-there : (sc : Scenario) (step pc : ℕ) (short : Bool) (spot : Spot) → spot.standing ≡ At.Step step pc short
+-- a site at a step is just before it
+pub before-there : (sc : Scenario) (step pc : ℕ) (short : Bool) (site : Site) → site.standing ≡ At.Step step pc short
     → sc.marks ≡ []
-    → Stands sc spot.standing → IsBelow sc.step spot.standing → Continues sc spot.standing spot.fork
-    → IsBefore sc step spot
-before-there sc step pc short spot is unmarked stands under goes =
+    → Stands sc site.standing → IsBelow sc.step site.standing → Continues sc site.standing site.fork
+    → IsBefore sc step site
+before-there sc step pc short site is unmarked stands under goes =
     let below : step < sc.step = subst (IsBelow sc.step) is under in
     let fork = goes (Once step Skip) (subst (λ st. IsAt sc st (Once step Skip)) (sym is) (refl, tt)) in record {
       unmarked = unmarked;
@@ -154,15 +154,15 @@ before-there sc step pc short spot is unmarked stands under goes =
       standing = (pc, short, is);
       stands = stands;
       continues = goes;
-      shows = subst (λ k. Shows spot.fork.machine (state_before sc k))
-          (fork-there step sc.step (run_of sc) spot.fork below fork) fork.shows;
+      shows = subst (λ k. Shows site.fork.machine (state_before sc k))
+          (fork-there step sc.step (run_of sc) site.fork below fork) fork.shows;
     }
 
 -- its fork is there
-pub fork-at : (sc : Scenario) (step : ℕ) (spot : Spot) → IsBefore sc step spot → spot.fork.step ≡ step
-fork-at sc step spot before =
+pub fork-at : (sc : Scenario) (step : ℕ) (site : Site) → IsBefore sc step site → site.fork.step ≡ step
+fork-at sc step site before =
     let standing = before.standing in
-    fork-there step sc.step (run_of sc) spot.fork before.below
+    fork-there step sc.step (run_of sc) site.fork before.below
     (before.continues (Once step Skip) (subst (λ st. IsAt sc st (Once step Skip)) (sym standing.2) (refl, tt)))
 
 -- before the first place the outcome of the unedited run is recalled alone

@@ -4,7 +4,7 @@ use Rattle.std.proofs.Common.{append_assoc, append-nil, arith, rules, subst}
 use Rattle.std.proofs.lemmas.List.{length-append, map-append}
 use Rattle.std.proofs.lemmas.List.Sums.{fold-append, sum_by_push}
 use Rattle.scenario.specs.Scenario.{Scenario}
-use Rattle.tallies.specs.Tallied.{entries_of, with_text}
+use Rattle.texts.specs.Tallied.{entries_of, with_text}
 use Rattle.sweeps.specs.Outcomes.{Met, AreMet, IsOutcome, TakesSteps, standing, steps_of, tallied}
 use Rattle.sweep_plans.specs.declared.change.Change.{Change}
 use Rattle.sweeps.specs.Sweeps.{Counted, CountsMore, IsSameBut}

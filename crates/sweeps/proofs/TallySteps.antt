@@ -3,9 +3,9 @@ use Rattle.std.proofs.Common.{◌≡◌, ℕ, ◌+◌, List, [], ◌∷◌, ◌+
 use Rattle.std.specs.Prelude.{slice_get}
 use Rattle.std.specs.Str.{bytes_eq}
 use Rattle.std.proofs.lemmas.List.{map-append}
-use Rattle.tallies.specs.Distinct.{distinct}
-use Rattle.tallies.specs.Laws.{CountsTexts, NumbersTexts, counted}
-use Rattle.tallies.specs.Tallied.{number_of, with_text}
+use Rattle.texts.specs.Distinct.{distinct}
+use Rattle.texts.specs.Laws.{CountsTexts, NumbersTexts, counted}
+use Rattle.texts.specs.Tallied.{number_of, with_text}
 use Rattle.sweeps.specs.Laws.{NumbersArePlaces, RowsHaveNumbers, TalliesCount, outcomes_of}
 use Rattle.sweeps.specs.Outcomes.{Met, standing, tallied}
 use Rattle.sweeps.specs.Tables.{met_text, rows_after, rows_text}

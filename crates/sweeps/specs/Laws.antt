@@ -8,8 +8,8 @@ use Rattle.checkpoints.specs.Searches.{Hits}
 use Rattle.checkpoints.specs.declared.searches.Watch.{Watch}
 use Rattle.checkpoints.specs.declared.searches.Watch.TheVariants.{Read, Write}
 use Rattle.scenario.specs.Scenario.{Scenario, IsOutlineOf, first_state}
-use Rattle.tallies.specs.Distinct.{distinct}
-use Rattle.tallies.specs.Tallied.{number_of}
+use Rattle.texts.specs.Distinct.{distinct}
+use Rattle.texts.specs.Tallied.{number_of}
 use Rattle.sweeps.specs.Memory.{is_read}
 use Rattle.sweeps.specs.Outcomes.{Met, AreMet, TakesSteps, standing, tallied}
 use Rattle.sweeps.specs.Standing.{changes_from}

@@ -1,7 +1,7 @@
 pub mod Memory
 pub mod Standing
-pub mod Spots
-pub mod Scouts
+pub mod Sites
+pub mod LastForks
 pub mod Outcomes
 pub mod Landmarks
 pub mod LoneSkips

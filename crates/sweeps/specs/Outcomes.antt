@@ -4,7 +4,7 @@ use Rattle.std.specs.Prelude.{◌≡◌, ℕ, ◌-◌, Bool, List, [], ◌∷◌
 use Rattle.checkpoints.specs.Forks.{IsLastUnshown}
 use Rattle.scenario.specs.Edits.{row}
 use Rattle.scenario.specs.Scenario.{Scenario, IsOutlineOf, run_of}
-use Rattle.tallies.specs.Tallied.{with_text}
+use Rattle.texts.specs.Tallied.{with_text}
 use Rattle.commands.specs.declared.edit.Edit.{Edit}
 use Rattle.sweep_plans.specs.Changes.{edit_of, second_of}
 use Rattle.sweep_plans.specs.declared.change.Change.{Change}

@@ -7,11 +7,11 @@ use Rattle.guest_machine.specs.State.{State}
 use Rattle.guest_machine.specs.declared.machine.Machine.{Machine}
 use Rattle.guest_machine.specs.declared.setup.Setup.{Setup}
 use Rattle.guest_machine.specs.declared.setup.Touched.{Touched}
-use Rattle.step_uses.specs.Laws.{HasBytes}
-use Rattle.step_uses.specs.Passing.{passing}
-use Rattle.step_uses.specs.Words.{passing_word}
-use Rattle.step_uses.specs.declared.passing.Passing.{Passing}
-use Rattle.step_uses.specs.declared.passing.Passing.TheVariants.{Keeps, Looks, Overwrites}
+use Rattle.pruning.specs.Laws.{HasBytes}
+use Rattle.pruning.specs.Passing.{passing}
+use Rattle.pruning.specs.Words.{passing_word}
+use Rattle.pruning.specs.declared.passing.Passing.{Passing}
+use Rattle.pruning.specs.declared.passing.Passing.TheVariants.{Keeps, Looks, Overwrites}
 use Rattle.scenario.specs.Scenario.{Scenario, IsOutlineOf}
 use Rattle.sweep_plans.specs.declared.change.Change.TheVariants.{Once}
 use Rattle.sweep_plans.specs.declared.change.Glitch.{Glitch}

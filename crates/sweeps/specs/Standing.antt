@@ -19,9 +19,9 @@ use Rattle.sweep_plans.specs.Plans.{changes_of, place_at}
 use Rattle.sweep_plans.specs.declared.change.Change.{Change}
 use Rattle.sweep_plans.specs.declared.change.Change.TheVariants.{Byte, Word, Half, Once, Twice}
 use Rattle.sweep_plans.specs.declared.change.Glitch.TheVariants.{Skip}
-use Rattle.sweep_plans.specs.declared.plan.Place.{Place}
-use Rattle.sweep_plans.specs.declared.plan.Place.TheVariants.{Byte as ByteAt, Word as WordAt, Half as HalfAt}
-use Rattle.sweep_plans.specs.declared.plan.Place.TheVariants.{Step as StepAt, Nowhere}
+use Rattle.sweep_plans.specs.declared.plan.SweepPlace.{SweepPlace}
+use Rattle.sweep_plans.specs.declared.plan.SweepPlace.TheVariants.{Byte as ByteAt, Word as WordAt, Half as HalfAt}
+use Rattle.sweep_plans.specs.declared.plan.SweepPlace.TheVariants.{Step as StepAt, Nowhere}
 use Rattle.sweep_plans.specs.declared.plan.Plan.{Plan}
 use Rattle.sweep_plans.specs.declared.request.Range.{Range}
 use Rattle.sweep_plans.specs.declared.standing.Standing.{Standing}
@@ -74,7 +74,7 @@ standing_step sc code step =
     else None
 
 -- what is at a place of a plan
-abbrev pub standing_in : Scenario → Plan → Place → Option Standing
+abbrev pub standing_in : Scenario → Plan → SweepPlace → Option Standing
 standing_in sc plan (ByteAt offset) = standing_byte sc offset
 standing_in sc plan (WordAt addr) = standing_word sc addr
 standing_in sc plan (HalfAt addr) = standing_half sc addr
@@ -112,7 +112,7 @@ all_changes sc plan (Some standing) =
     changes_of plan standing ++ (memory_at sc plan standing ++ pairs_at sc plan standing)
 all_changes sc plan None = []
 
-abbrev pub place_changes : Scenario → Plan → Place → List Change
+abbrev pub place_changes : Scenario → Plan → SweepPlace → List Change
 place_changes sc plan place = all_changes sc plan (standing_in sc plan place)
 
 abbrev pub changes_at : Scenario → Plan → ℕ → List Change

@@ -1,7 +1,7 @@
 -- The scenario of a sweep, and what it has met.
 use Rattle.std.specs.Prelude.{◌≡◌, ℕ, ◌++◌, Bool, List, length, map}
 use Rattle.scenario.specs.Scenario.{Scenario, IsOutlineOf}
-use Rattle.tallies.specs.Tallied.{entries_of}
+use Rattle.texts.specs.Tallied.{entries_of}
 use Rattle.sweeps.specs.Recall.{Recalls}
 use Rattle.sweeps.specs.Outcomes.{Met, AreMet, standing, steps_of, tallied}
 use Rattle.sweeps.specs.Tables.{rows_after, rows_text}

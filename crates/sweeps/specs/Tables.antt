@@ -3,8 +3,8 @@
 use Rattle.std.specs.Prelude.{ℕ, ◌+◌, Bool, if◌then◌else◌, List, [], ◌∷◌, ◌++◌, codes, length, map}
 use Rattle.std.specs.Fmt.{decimal}
 use Rattle.report_lines.specs.Text.{address_text, hex_digit, newline}
-use Rattle.tallies.specs.Tallied.{counts_of, is_met, number_of, with_text}
-use Rattle.tallies.specs.declared.Found.{Found}
+use Rattle.texts.specs.Tallied.{counts_of, is_met, number_of, with_text}
+use Rattle.texts.specs.declared.tallies.Found.{Found}
 use Rattle.sweeps.specs.Outcomes.{Met, standing, steps_of, tallied}
 use Rattle.sweep_plans.specs.declared.change.Change.{Change}
 use Rattle.sweep_plans.specs.declared.change.Change.TheVariants.{Byte, Word, Half, Once, Twice}

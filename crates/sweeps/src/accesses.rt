@@ -79,7 +79,7 @@ pub(crate) fn first_accesses(
     ensures { IfOk result (IsTable scenario.now step (scenario.now.step - step)) }
 {
     stays_halted();
-    let mut machine = before.share_ready()?;
+    let mut machine = before.share_warm()?;
     let mut table = Memory::new(alloc);
     for k in step..scenario.step() {
         if !is_running(&machine) {

@@ -9,7 +9,7 @@ ghost use Rattle.sweeps.specs.Sweeps.{Counted};
 ghost use Rattle.sweeps.specs.Tables.{rows_text};
 
 use crate::counting::Counts;
-use crate::recall::{Outcome, Recall};
+use crate::recall::{Recall, SharedOutcome};
 use crate::rows::push_first;
 use checkpoints::Trail;
 use guest_elf::Image;
@@ -17,7 +17,7 @@ use guest_machine::Machine;
 use scenario::Scenario;
 use std::alloc::{AllocError, Global};
 use suppressions::Suppression;
-use tallies::Tallies;
+use texts::Tallies;
 
 /// Returns the scenario of a program with an input and suppressions, without edits and with a step chosen.
 pub(crate) fn scenario_at<'a>(
@@ -69,7 +69,7 @@ fn count_unedited(
     let first = unedited_outcome(trail, scenario, with_output)?;
     push_first(out, &first)?;
     let copy = Vec::from_slice(alloc, &first)?;
-    let unedited = Outcome::new(alloc, copy)?;
+    let unedited = SharedOutcome::new(alloc, copy)?;
     let tallies = Tallies::begin(alloc, first)?;
     Ok(Counts {
         tallies,

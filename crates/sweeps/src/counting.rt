@@ -1,7 +1,7 @@
 //! What a sweep has met so far: the number of edits that lead to each outcome, the number of edits, and the number of steps that they need
 //! by definition; and the outcomes that it recalls.
 ghost use Rattle.std.specs.Prelude.{◌≡◌, ◌+◌, ◌++◌, OnOk};
-ghost use Rattle.tallies.specs.Tallied.{entries_of, with_text};
+ghost use Rattle.texts.specs.Tallied.{entries_of, with_text};
 ghost use Rattle.sweeps.specs.Outcomes.{standing};
 ghost use Rattle.sweeps.specs.Sweeps.{IsSameBut};
 ghost use Rattle.sweeps.specs.Tables.{found_text, met_text, total_lines};
@@ -10,12 +10,12 @@ use crate::endings::is_long;
 use crate::recall::Recall;
 use crate::rows::{push_end, push_outcome, push_row, push_tallies};
 use checkpoints::Fork;
-use jumps::Course;
+use pruning::Course;
 use replay_report::push_text;
 use scenario::Scenario;
 use std::alloc::{AllocError, Global};
 use sweep_plans::Change;
-use tallies::{Found, Tallies};
+use texts::{Found, Tallies};
 
 /// The least number of edits for which the course of the unedited run pays.
 const MANY: u64 = 16;
@@ -64,7 +64,7 @@ impl Counts {
         ensures recall { OnOk result (self.new.recall ≡ self.old.recall) }
         ensures text { OnOk result (out.new.items ≡ out.old.items ++ met_text (entries_of self.old.tallies) change outcome.now) }
     {
-        let found = self.tallies.meet(outcome)?;
+        let found = self.tallies.record(outcome)?;
         push_met(out, found, change, outcome)?;
         self.edits = self.edits.saturating_add(1);
         self.steps = self.steps.saturating_add(u64::from(steps));

@@ -16,7 +16,7 @@ ghost use Rattle.sweeps.specs.Outcomes.{IsOutcome};
 
 use crate::landmarks::{Landmarks, SPACING};
 use crate::outcomes::unmark;
-use crate::recall::{Outcome, Recall};
+use crate::recall::{Recall, SharedOutcome};
 use checkpoints::Fork;
 use guest_machine::{Machine, Meter};
 use scenario::Scenario;
@@ -41,9 +41,9 @@ const LEAST_LEFT: u32 = 128;
 pub(crate) struct Ends {
     pub(crate) landmarks: Landmarks,
     /// The outcome at the chosen step.
-    pub(crate) same: Outcome,
+    pub(crate) same: SharedOutcome,
     /// That of one step after the chosen one.
-    pub(crate) ahead: Outcome,
+    pub(crate) ahead: SharedOutcome,
 }
 
 /// A machine of a run before a step.
@@ -69,7 +69,7 @@ impl Ends {
         let left = scenario.step() - before.step;
         let count = (left / SPACING).min(MOST_HELD);
         let mut landmarks = Landmarks::begin(alloc, before.step);
-        let machine = before.machine.share_ready()?;
+        let machine = before.machine.share_warm()?;
         let held = landmarks.run_held(machine, scenario.setup(), count)?;
         let rest = left - landmarks.steps;
         let last = landmarks.run(held, scenario.setup(), rest)?;
@@ -78,8 +78,8 @@ impl Ends {
         let ahead = scenario.outline(&after, with_output)?;
         Ok(Ends {
             landmarks,
-            same: Outcome::new(alloc, same)?,
-            ahead: Outcome::new(alloc, ahead)?,
+            same: SharedOutcome::new(alloc, same)?,
+            ahead: SharedOutcome::new(alloc, ahead)?,
         })
     }
 
@@ -146,12 +146,12 @@ pub(crate) fn outcome_from(
     scenario: &Scenario,
     recall: &Recall,
     landmarks: &Landmarks,
-    known: &Outcome,
+    known: &SharedOutcome,
     machine: Machine,
     from: u32,
     lead: u32,
     with_output: bool,
-) -> Result<Outcome, AllocError>
+) -> Result<SharedOutcome, AllocError>
     requires { from ≤ scenario.now.step }
     ensures { IfOk result (λ outcome. EndsIn with_output scenario.now landmarks.now lead known.now → (s : State) → Shows machine s
         → Outlines with_output scenario.now (pre s scenario.now.setup [] (scenario.now.step - from)) outcome) }
@@ -178,7 +178,7 @@ fn outcome_behind(
     from: u32,
     is_ahead: bool,
     with_output: bool,
-) -> Result<Outcome, AllocError>
+) -> Result<SharedOutcome, AllocError>
     requires before { fork.now.step ≤ from }
     requires within { from ≤ scenario.now.step }
     requires quiet { NoneFrom from scenario.now.marks }
@@ -227,7 +227,7 @@ pub(crate) fn outcome_of_glitch(
     step: u32,
     glitch: Glitch,
     with_output: bool,
-) -> Result<Outcome, AllocError>
+) -> Result<SharedOutcome, AllocError>
     requires unmarked { scenario.old.marks ≡ [] }
     requires near { step ≤ most_steps }
     requires below { step < scenario.old.step }

@@ -11,14 +11,14 @@ ghost use Rattle.scenario.specs.Scenario.{IsOutlineOf, run_of};
 ghost use Rattle.sweep_plans.specs.Changes.{edit_of};
 ghost use Rattle.sweeps.specs.Covered.{AreCovered, CoversMore, IsByte, MayCover};
 ghost use Rattle.sweeps.specs.Outcomes.{IsOutcome};
-ghost use Rattle.sweeps.specs.Spots.{Continues};
+ghost use Rattle.sweeps.specs.Sites.{Continues};
 ghost use Rattle.sweeps.specs.Standing.{IsAt, IsBelow, Stands, all_changes};
 ghost use Rattle.sweeps.specs.Sweeps.{CountsMore};
 
 use crate::counting::Counts;
-use crate::meeting::meet_place;
+use crate::meeting::try_place;
 use crate::outcomes::take_back;
-use crate::spots::Spot;
+use crate::sites::Site;
 use checkpoints::{Effect, Fork, Sides, Trail};
 use guest_machine::Span;
 use scenario::Scenario;
@@ -104,64 +104,64 @@ fn outcome_entering(
     told
 }
 
-/// Applies a change of a byte at a spot, and no other edit, counts the outcome, appends its row, and enters in a table what its run executes.
+/// Applies a change of a byte at a site, and no other edit, counts the outcome, appends its row, and enters in a table what its run executes.
 /// Afterwards the scenario is as it was.
-fn meet_entering(
+fn try_entering(
     scenario: &mut Scenario,
     counts: &mut Counts,
-    spot: &Spot,
+    site: &Site,
     change: Change,
     first: u32,
     table: &mut Vec<Sides>,
     with_output: bool,
     out: &mut Vec<u8>,
 ) -> Result<(), AllocError>
-    requires stands { Stands scenario.old spot.now.standing }
-    requires byte { IsByte spot.now.standing }
-    requires at { IsAt scenario.old spot.now.standing change }
-    requires fork { IsForkFor (row scenario.old (edit_of change)).effect (run_of scenario.old) scenario.old.step spot.now.fork }
+    requires stands { Stands scenario.old site.now.standing }
+    requires byte { IsByte site.now.standing }
+    requires at { IsAt scenario.old site.now.standing change }
+    requires fork { IsForkFor (row scenario.old (edit_of change)).effect (run_of scenario.old) scenario.old.step site.now.fork }
     ensures same { scenario.new ≡ scenario.old }
     ensures met { OnOk result (CountsMore counts.old counts.new with_output scenario.old (change ∷ []) out.old.items out.new.items) }
     ensures covers { OnOk result (CoversMore scenario.old first (change ∷ []) table.old.items table.new.items) }
 {
     let outcome = outcome_entering(
         scenario,
-        &spot.fork,
-        spot.standing,
+        &site.fork,
+        site.standing,
         change,
         first,
         table,
         with_output,
     )?;
-    let steps = scenario.step() - spot.fork.step;
+    let steps = scenario.step() - site.fork.step;
     counts.count(change, &outcome, steps, out)?;
     Ok(())
 }
 
 /// Does the same for each of some changes.
-fn meet_each_entering(
+fn try_each_entering(
     scenario: &mut Scenario,
     counts: &mut Counts,
-    spot: &Spot,
+    site: &Site,
     changes: &[Change],
     first: u32,
     table: &mut Vec<Sides>,
     with_output: bool,
     out: &mut Vec<u8>,
 ) -> Result<(), AllocError>
-    requires stands { Stands scenario.old spot.now.standing }
-    requires byte { IsByte spot.now.standing }
-    requires at { All (IsAt scenario.old spot.now.standing) changes.now }
-    requires fork { Continues scenario.old spot.now.standing spot.now.fork }
+    requires stands { Stands scenario.old site.now.standing }
+    requires byte { IsByte site.now.standing }
+    requires at { All (IsAt scenario.old site.now.standing) changes.now }
+    requires fork { Continues scenario.old site.now.standing site.now.fork }
     ensures same { scenario.new ≡ scenario.old }
     ensures met { OnOk result (CountsMore counts.old counts.new with_output scenario.old changes.now out.old.items out.new.items) }
     ensures covers { OnOk result (CoversMore scenario.old first changes.now table.old.items table.new.items) }
 {
     for change in changes {
-        meet_entering(
+        try_entering(
             scenario,
             counts,
-            spot,
+            site,
             *change,
             first,
             table,
@@ -173,12 +173,12 @@ fn meet_each_entering(
 }
 
 /// Does the same for each change of a plan there.
-fn meet_byte(
+fn try_byte(
     alloc: Global,
     scenario: &mut Scenario,
     counts: &mut Counts,
     plan: &Plan,
-    spot: &Spot,
+    site: &Site,
     first: u32,
     table: &mut Vec<Sides>,
     with_output: bool,
@@ -186,18 +186,18 @@ fn meet_byte(
 ) -> Result<(), AllocError>
     requires near { scenario.old.step ≤ most_steps }
     requires unmarked { scenario.old.marks ≡ [] }
-    requires stands { Stands scenario.old spot.now.standing }
-    requires byte { IsByte spot.now.standing }
-    requires fork { Continues scenario.old spot.now.standing spot.now.fork }
+    requires stands { Stands scenario.old site.now.standing }
+    requires byte { IsByte site.now.standing }
+    requires fork { Continues scenario.old site.now.standing site.now.fork }
     ensures same { scenario.new ≡ scenario.old }
-    ensures met { OnOk result (CountsMore counts.old counts.new with_output scenario.old (all_changes scenario.old plan.now (Some spot.now.standing)) out.old.items out.new.items) }
-    ensures covers { OnOk result (CoversMore scenario.old first (all_changes scenario.old plan.now (Some spot.now.standing)) table.old.items table.new.items) }
+    ensures met { OnOk result (CountsMore counts.old counts.new with_output scenario.old (all_changes scenario.old plan.now (Some site.now.standing)) out.old.items out.new.items) }
+    ensures covers { OnOk result (CoversMore scenario.old first (all_changes scenario.old plan.now (Some site.now.standing)) table.old.items table.new.items) }
 {
-    let changes = plan.changes(alloc, spot.standing)?;
-    meet_each_entering(
+    let changes = plan.changes(alloc, site.standing)?;
+    try_each_entering(
         scenario,
         counts,
-        spot,
+        site,
         &changes,
         first,
         table,
@@ -206,13 +206,13 @@ fn meet_byte(
     )
 }
 
-/// Applies each change of a plan at a spot, one at a time. If a table has rows and a byte is there, what the runs execute is entered in it.
-pub(crate) fn meet_spot(
+/// Applies each change of a plan at a site, one at a time. If a table has rows and a byte is there, what the runs execute is entered in it.
+pub(crate) fn try_spot(
     alloc: Global,
     scenario: &mut Scenario,
     counts: &mut Counts,
     plan: &Plan,
-    spot: &Spot,
+    site: &Site,
     first: u32,
     table: &mut Vec<Sides>,
     with_output: bool,
@@ -220,29 +220,29 @@ pub(crate) fn meet_spot(
 ) -> Result<(), AllocError>
     requires near { scenario.old.step ≤ most_steps }
     requires unmarked { scenario.old.marks ≡ [] }
-    requires stands { Stands scenario.old spot.now.standing }
-    requires below { IsBelow scenario.old.step spot.now.standing }
-    requires fork { Continues scenario.old spot.now.standing spot.now.fork }
+    requires stands { Stands scenario.old site.now.standing }
+    requires below { IsBelow scenario.old.step site.now.standing }
+    requires fork { Continues scenario.old site.now.standing site.now.fork }
     ensures same { scenario.new ≡ scenario.old }
-    ensures met { OnOk result (CountsMore counts.old counts.new with_output scenario.old (all_changes scenario.old plan.now (Some spot.now.standing)) out.old.items out.new.items) }
-    ensures covers { OnOk result (MayCover spot.now.standing table.old.items
-        → CoversMore scenario.old first (all_changes scenario.old plan.now (Some spot.now.standing)) table.old.items table.new.items) }
+    ensures met { OnOk result (CountsMore counts.old counts.new with_output scenario.old (all_changes scenario.old plan.now (Some site.now.standing)) out.old.items out.new.items) }
+    ensures covers { OnOk result (MayCover site.now.standing table.old.items
+        → CoversMore scenario.old first (all_changes scenario.old plan.now (Some site.now.standing)) table.old.items table.new.items) }
 {
     if table.is_empty() {
-        return meet_place(alloc, scenario, counts, plan, spot, with_output, out);
+        return try_place(alloc, scenario, counts, plan, site, with_output, out);
     }
-    match spot.standing {
-        Standing::Byte { .. } => meet_byte(
+    match site.standing {
+        Standing::Byte { .. } => try_byte(
             alloc,
             scenario,
             counts,
             plan,
-            spot,
+            site,
             first,
             table,
             with_output,
             out,
         ),
-        _ => meet_place(alloc, scenario, counts, plan, spot, with_output, out),
+        _ => try_place(alloc, scenario, counts, plan, site, with_output, out),
     }
 }

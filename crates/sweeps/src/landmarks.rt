@@ -47,7 +47,7 @@ impl Landmarks {
             return Ok(machine);
         }
         let mut machine = machine;
-        let next = machine.hand_on()?;
+        let next = machine.share_moving()?;
         self.machines.push(machine)?;
         Ok(next)
     }

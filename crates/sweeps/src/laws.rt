@@ -2,7 +2,7 @@
 ghost use Rattle.sweeps.specs.Laws.{MetAreOne, NumbersArePlaces, OutlineIsOne, PartsHaveAllChanges, ReadsAreLooks, RowsHaveNumbers, StepsAreOne, TalliesCount};
 
 use sweep_plans::laws::parts_make_the_whole;
-use tallies::laws::texts_are_counted;
+use texts::laws::texts_are_counted;
 
 /// The number of a row is the place of its outcome among the distinct outcomes. The tally of a number is the number of edits with that
 /// outcome.

@@ -25,7 +25,7 @@
 //!
 //! Not each outcome needs a run. That of a register that is set or has a bit turned before a step is the outcome of the same change before
 //! the next step, if the step keeps the register; if the step overwrites the register, it is that of the unedited run. Bits of a word of
-//! memory are like a register that is kept, if the step doesn't touch the word (`step_uses` has the laws). So from one step to the next a
+//! memory are like a register that is kept, if the step doesn't touch the word (`pruning` has the laws). So from one step to the next a
 //! sweep recalls up to 2^20 outcomes of up to 4,096 bytes (`Recalls`), and makes a run only for what the step before looked at or
 //! overwrote.
 //!
@@ -36,7 +36,7 @@
 //! # Where the definitions are
 //!
 //! In `specs/`: `Standing` (what is at a place, and the changes there), `Memory` (those of bytes that are read later), `Outcomes` (the
-//! outcome of a change), `Tables` (the text), `Spots` (where the runs of a place continue), `Recall` (which outcomes are known without a run),
+//! outcome of a change), `Tables` (the text), `Sites` (where the runs of a place continue), `Recall` (which outcomes are known without a run),
 //! `Landmarks` (the unedited run's machines that are held, and the runs that meet it), `LoneSkips` (what each skip leads to by itself),
 //! `Sweeps` (what a sweep has met), `Covered` (what its runs have executed), `Accesses` (the table of what steps do first with each byte), `Laws` (what the numbers of a table mean).
 //! The places of a plan and the changes at each are defined in the crate `sweep_plans`.
@@ -56,7 +56,7 @@ mod outcomes;
 mod pairs;
 mod recall;
 mod rows;
-mod spots;
+mod sites;
 mod striking;
 mod sweep;
 

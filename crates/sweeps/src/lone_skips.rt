@@ -10,8 +10,8 @@ ghost use Rattle.sweeps.specs.LoneSkips.{IsFound, IsLone, left_out, struck_pc, s
 ghost use Rattle.sweeps.specs.declared.lone_skips.LoneSkip.{LoneSkip as LoneSkipOf};
 
 use crate::landmarks::Landmarks;
-use crate::recall::Outcome;
-use crate::spots::is_in_code;
+use crate::recall::SharedOutcome;
+use crate::sites::is_in_code;
 use checkpoints::Fork;
 use guest_machine::{Act, Alteration, Machine, Meter, Setup, Status};
 use scenario::Scenario;
@@ -24,7 +24,7 @@ pub(crate) struct LoneSkip {
     /// pc before its step, if a fault may strike there in some code.
     pub(crate) pc: Option<u32>,
     /// The outcome of the skip, one step after the chosen one.
-    pub(crate) outcome: Outcome,
+    pub(crate) outcome: SharedOutcome,
 }
 
 /// Machines of a run from a step on, and a row for each step from there.
@@ -67,7 +67,7 @@ fn skip_outline(
     ensures { IfOk result (λ text. (s : State) → Shows machine.now s
         → Outlines with_output scenario.now (pre (left_out s) scenario.now.setup [] steps) text.items) }
 {
-    let copy = machine.share_ready()?;
+    let copy = machine.share_warm()?;
     let struck = copy.alter(&Alteration {
         step: 0,
         act: Act::Skip,
@@ -89,7 +89,7 @@ fn lone_skip(
     let text = skip_outline(scenario, machine, steps, with_output)?;
     Ok(LoneSkip {
         pc: struck_pc(machine, scenario.setup()),
-        outcome: Outcome::new(alloc, text)?,
+        outcome: SharedOutcome::new(alloc, text)?,
     })
 }
 
@@ -145,7 +145,7 @@ impl LoneSkips {
         ensures { IfOk result (λ skips. AreForeseen with_output scenario.now skips) }
     {
         let mut skips = LoneSkips::begin(alloc, first);
-        let mut machine = before.share_ready()?;
+        let mut machine = before.share_warm()?;
         for step in first..end + 1 {
             let steps = scenario.step() - step + 1;
             let held = skips.landmarks.hold(machine)?;
@@ -190,7 +190,7 @@ impl LoneSkips {
         &self,
         step: u32,
         code: Option<Range>,
-    ) -> Result<Option<Outcome>, AllocError>
+    ) -> Result<Option<SharedOutcome>, AllocError>
         requires first { self.now.landmarks.first ≤ step }
         requires rows { step < self.now.landmarks.first + length self.now.rows.items }
         ensures { IfOk result (λ found. (row : LoneSkipOf) → slice_get self.now.rows.items (step - self.now.landmarks.first) ≡ Some row → IsFound code row found) }

@@ -5,15 +5,15 @@ ghost use Rattle.scenario.specs.Limits.{most_steps};
 ghost use Rattle.sweeps.specs.Accesses.{IsTable, TurnsOn};
 ghost use Rattle.sweeps.specs.Memory.{memory_at};
 ghost use Rattle.sweeps.specs.Recall.{IsTouched};
-ghost use Rattle.sweeps.specs.Spots.{Continues, MayTurn};
+ghost use Rattle.sweeps.specs.Sites.{Continues, MayTurn};
 ghost use Rattle.sweeps.specs.Standing.{IsAt, IsBelow, Stands};
 ghost use Rattle.sweeps.specs.Sweeps.{CountsMore};
 
 use crate::accesses::{READ, first_accesses};
 use crate::counting::Counts;
-use crate::meeting::meet_each;
-use crate::spots::Spot;
-use crate::striking::meet_changes;
+use crate::meeting::try_each;
+use crate::sites::Site;
+use crate::striking::try_changes;
 use guest_machine::{Machine, Setup, Touched};
 use scenario::Scenario;
 use shadow_memory::Memory;
@@ -34,32 +34,32 @@ struct Turning {
 fn touched_by(machine: &Machine, setup: &Setup) -> Result<Touched, AllocError>
     ensures { IfOk result (IsTouched machine.now setup.now) }
 {
-    let (_stepped, touched) = machine.share_ready()?.step_on(setup)?;
+    let (_stepped, touched) = machine.share_warm()?.step_on(setup)?;
     Ok(touched)
 }
 
 /// Makes some changes just before the step, one at a time. An outcome that is recalled comes without a run.
-fn meet_turned(
+fn try_turned(
     scenario: &mut Scenario,
     counts: &mut Counts,
-    spot: &Spot,
+    site: &Site,
     turning: Turning,
     changes: &[Change],
     out: &mut Vec<u8>,
 ) -> Result<(), AllocError>
-    requires turning { MayTurn scenario.old spot.now turning }
-    requires at { All (IsAt scenario.old spot.now.standing) changes.now }
+    requires turning { MayTurn scenario.old site.now turning }
+    requires at { All (IsAt scenario.old site.now.standing) changes.now }
     ensures same { scenario.new ≡ scenario.old }
     ensures met { OnOk result (CountsMore counts.old counts.new turning.with_output scenario.old changes.now out.old.items out.new.items) }
 {
     if counts.recall.step != turning.step {
-        return meet_each(scenario, counts, spot, changes, turning.with_output, out);
+        return try_each(scenario, counts, site, changes, turning.with_output, out);
     }
-    meet_changes(
+    try_changes(
         turning.alloc,
         scenario,
         counts,
-        spot,
+        site,
         turning.step,
         Some(turning.touched),
         changes,
@@ -69,16 +69,16 @@ fn meet_turned(
 }
 
 /// Turns each bit of a byte, one at a time, if the run reads the byte later.
-fn meet_byte(
+fn try_byte(
     scenario: &mut Scenario,
     counts: &mut Counts,
     table: &Memory,
-    spot: &Spot,
+    site: &Site,
     turning: Turning,
     addr: u32,
     out: &mut Vec<u8>,
 ) -> Result<(), AllocError>
-    requires turning { MayTurn scenario.old spot.now turning }
+    requires turning { MayTurn scenario.old site.now turning }
     requires table { IsTable scenario.old turning.step (scenario.old.step - turning.step) table.now }
     ensures same { scenario.new ≡ scenario.old }
     ensures met { OnOk result (TurnsOn scenario.old turning.step turning.with_output addr (addr + 1) counts.old out.old.items counts.new out.new.items) }
@@ -87,48 +87,48 @@ fn meet_byte(
         return Ok(());
     }
     let changes = byte_flips(turning.alloc, turning.step, addr)?;
-    meet_turned(scenario, counts, spot, turning, &changes, out)
+    try_turned(scenario, counts, site, turning, &changes, out)
 }
 
 /// Does the same for the four bytes of a word.
-fn meet_word(
+fn try_word(
     scenario: &mut Scenario,
     counts: &mut Counts,
     table: &Memory,
-    spot: &Spot,
+    site: &Site,
     turning: Turning,
     word: u32,
     out: &mut Vec<u8>,
 ) -> Result<(), AllocError>
     requires aligned { word % 4 ≡ 0 }
-    requires turning { MayTurn scenario.old spot.now turning }
+    requires turning { MayTurn scenario.old site.now turning }
     requires table { IsTable scenario.old turning.step (scenario.old.step - turning.step) table.now }
     ensures same { scenario.new ≡ scenario.old }
     ensures met { OnOk result (TurnsOn scenario.old turning.step turning.with_output word (word + 4) counts.old out.old.items counts.new out.new.items) }
 {
     for i in 0..4 {
-        meet_byte(scenario, counts, table, spot, turning, word + i, out)?;
+        try_byte(scenario, counts, table, site, turning, word + i, out)?;
     }
     Ok(())
 }
 
 /// Does the same for all bytes, in ascending order of their addresses.
-fn meet_bytes(
+fn try_bytes(
     scenario: &mut Scenario,
     counts: &mut Counts,
     table: &Memory,
-    spot: &Spot,
+    site: &Site,
     turning: Turning,
     out: &mut Vec<u8>,
 ) -> Result<(), AllocError>
-    requires turning { MayTurn scenario.old spot.now turning }
+    requires turning { MayTurn scenario.old site.now turning }
     requires table { IsTable scenario.old turning.step (scenario.old.step - turning.step) table.now }
     ensures same { scenario.new ≡ scenario.old }
     ensures met { OnOk result (TurnsOn scenario.old turning.step turning.with_output 0 (2 ^ 32) counts.old out.old.items counts.new out.new.items) }
 {
     let mut from = 0;
     while let Some(word) = table.next_word(from) {
-        meet_word(scenario, counts, table, spot, turning, word, out)?;
+        try_word(scenario, counts, table, site, turning, word, out)?;
         match word.checked_add(4) {
             Some(next) => from = next,
             None => return Ok(()),
@@ -137,39 +137,39 @@ fn meet_bytes(
     Ok(())
 }
 
-/// Executes the unedited run from a spot on, and then turns each bit of each byte that it reads before it overwrites the byte, one at a
+/// Executes the unedited run from a site on, and then turns each bit of each byte that it reads before it overwrites the byte, one at a
 /// time, if that was asked for. Afterwards the scenario is as it was.
 #[tactic(auto, unfolding(crate::specs::Memory::memory_at))]
-pub(crate) fn meet_memory(
+pub(crate) fn try_memory(
     alloc: Global,
     scenario: &mut Scenario,
     counts: &mut Counts,
     plan: &Plan,
-    spot: &Spot,
+    site: &Site,
     with_output: bool,
     out: &mut Vec<u8>,
 ) -> Result<(), AllocError>
     requires near { scenario.old.step ≤ most_steps }
     requires unmarked { scenario.old.marks ≡ [] }
-    requires stands { Stands scenario.old spot.now.standing }
-    requires below { IsBelow scenario.old.step spot.now.standing }
-    requires fork { Continues scenario.old spot.now.standing spot.now.fork }
+    requires stands { Stands scenario.old site.now.standing }
+    requires below { IsBelow scenario.old.step site.now.standing }
+    requires fork { Continues scenario.old site.now.standing site.now.fork }
     ensures same { scenario.new ≡ scenario.old }
-    ensures met { OnOk result (CountsMore counts.old counts.new with_output scenario.old (memory_at scenario.old plan.now spot.now.standing) out.old.items out.new.items) }
+    ensures met { OnOk result (CountsMore counts.old counts.new with_output scenario.old (memory_at scenario.old plan.now site.now.standing) out.old.items out.new.items) }
 {
-    let Standing::Step { step, .. } = spot.standing else {
+    let Standing::Step { step, .. } = site.standing else {
         return Ok(());
     };
     if !plan.models.memory {
         return Ok(());
     }
-    let table = first_accesses(alloc, scenario, &spot.fork.machine, step)?;
-    let touched = touched_by(&spot.fork.machine, scenario.setup())?;
+    let table = first_accesses(alloc, scenario, &site.fork.machine, step)?;
+    let touched = touched_by(&site.fork.machine, scenario.setup())?;
     let turning = Turning {
         alloc,
         step,
         touched,
         with_output,
     };
-    meet_bytes(scenario, counts, &table, spot, turning, out)
+    try_bytes(scenario, counts, &table, site, turning, out)
 }

@@ -16,7 +16,7 @@ ghost use Rattle.sweeps.specs.Standing.{GoesBack, IsAt, MayFollow, Stands};
 
 use checkpoints::{Effect, Fork};
 use guest_machine::{Alteration, Machine, Meter};
-use jumps::Course;
+use pruning::Course;
 use scenario::laws::{edits_follow, edits_go_back};
 use scenario::{Edit, Scenario};
 use std::alloc::AllocError;

@@ -10,14 +10,14 @@ ghost use Rattle.sweep_plans.specs.declared.change.Glitch.TheVariants.{Skip};
 ghost use Rattle.sweeps.specs.Landmarks.{NoneFrom};
 ghost use Rattle.sweeps.specs.LoneSkips.{Joins};
 ghost use Rattle.sweeps.specs.Outcomes.{IsOutcome, TakesSteps};
-ghost use Rattle.sweeps.specs.Spots.{Continues, IsLed};
+ghost use Rattle.sweeps.specs.Sites.{Continues, IsLed};
 ghost use Rattle.sweeps.specs.Standing.{IsBelow, pair_by, pairs_at, pairs_from, skipped, standing_step, state_before};
 ghost use Rattle.sweeps.specs.Sweeps.{CountsMore};
 ghost use Rattle.sweeps.specs.declared.counting.Counts.{Counts as CountsOf};
 
 use crate::counting::Counts;
 use crate::outcomes::{outcome_of_one, unmark};
-use crate::spots::{Spot, standing_step};
+use crate::sites::{Site, standing_step};
 use checkpoints::Fork;
 use scenario::Scenario;
 use scenario::laws::edits_follow;
@@ -60,7 +60,7 @@ fn count_pair(
 }
 
 /// Leaves out the instruction of a later step, too, counts the outcome, and appends the row of the pair. Afterwards the scenario is as it was.
-fn meet_pair(
+fn try_pair(
     scenario: &mut Scenario,
     counts: &mut Counts,
     fork: &Fork,
@@ -89,10 +89,10 @@ fn meet_pair(
 }
 
 /// Does the same if a fault may strike the later step. Returns the fork before it, given one before the step before it.
-fn meet_later(
+fn try_later(
     scenario: &mut Scenario,
     counts: &mut Counts,
-    scout: &Fork,
+    last_fork: &Fork,
     first: First,
     later: u32,
     out: &mut Vec<u8>,
@@ -100,22 +100,22 @@ fn meet_later(
     requires near { scenario.old.step ≤ most_steps }
     requires below { later < scenario.old.step }
     requires room { length scenario.old.marks < most_marks }
-    requires scout { (before : ℕ) × (later ≡ before + 1) × IsForkFor (After before) (run_of scenario.old) scenario.old.step scout.now }
+    requires last_fork { (before : ℕ) × (later ≡ before + 1) × IsForkFor (After before) (run_of scenario.old) scenario.old.step last_fork.now }
     ensures same { scenario.new ≡ scenario.old }
     ensures fork { IfOk result (λ fork. IsForkFor (After later) (run_of scenario.old) scenario.old.step fork) }
     ensures met { OnOk result ((sc : ScenarioOf) → scenario.old ≡ skipped sc first.step → TakesSteps sc (Once first.step Skip) first.steps
         → CountsMore counts.old counts.new first.with_output sc (pair_by first.step (standing_step scenario.old first.code later)) out.old.items out.new.items) }
 {
-    let fork = scout.go_on(later, scenario.setup(), scenario.marks())?;
+    let fork = last_fork.go_on(later, scenario.setup(), scenario.marks())?;
     if standing_step(scenario, &fork.machine, first.code, later).is_some() {
-        meet_pair(scenario, counts, &fork, first, later, out)?;
+        try_pair(scenario, counts, &fork, first, later, out)?;
         return Ok(fork);
     }
     Ok(fork)
 }
 
 /// Does the same by the table of skips, without a run, if that has the outcome of the skip of the step after the later one.
-fn meet_foreseen(
+fn try_foreseen(
     scenario: &Scenario,
     counts: &mut Counts,
     fork: &Fork,
@@ -143,7 +143,7 @@ fn meet_foreseen(
 }
 
 /// Does the same for each step from one on up to another.
-fn meet_rest(
+fn try_rest(
     scenario: &Scenario,
     counts: &mut Counts,
     fork: &Fork,
@@ -165,13 +165,13 @@ fn meet_rest(
         → CountsMore begun counts.new first.with_output sc (pairs_from sc first.code first.step (end - (first.step + 1))) before out.new.items) }
 {
     for later in from..end {
-        meet_foreseen(scenario, counts, fork, first, later, end, out)?;
+        try_foreseen(scenario, counts, fork, first, later, end, out)?;
     }
     Ok(())
 }
 
 /// Does the same for each later step below another.
-fn meet_until(
+fn try_until(
     scenario: &mut Scenario,
     counts: &mut Counts,
     fork: &Fork,
@@ -191,18 +191,18 @@ fn meet_until(
     ensures met { OnOk result ((sc : ScenarioOf) → scenario.old ≡ skipped sc first.step → TakesSteps sc (Once first.step Skip) first.steps
         → CountsMore counts.old counts.new first.with_output sc (pairs_from sc first.code first.step (end - (first.step + 1))) out.old.items out.new.items) }
 {
-    let mut scout = fork.go_on(first.step, scenario.setup(), scenario.marks())?;
+    let mut last_fork = fork.go_on(first.step, scenario.setup(), scenario.marks())?;
     for later in first.step + 1..end {
-        scout = meet_later(scenario, counts, &scout, first, later, out)?;
-        if counts.recall.lone.joins(&scout, later, end) {
-            return meet_rest(scenario, counts, &scout, first, later + 1, end, out);
+        last_fork = try_later(scenario, counts, &last_fork, first, later, out)?;
+        if counts.recall.lone.joins(&last_fork, later, end) {
+            return try_rest(scenario, counts, &last_fork, first, later + 1, end, out);
         }
     }
     Ok(())
 }
 
 /// Leaves out the first instruction of pairs, and then each later one. Afterwards the scenario is as it was.
-fn meet_after(
+fn try_after(
     scenario: &mut Scenario,
     counts: &mut Counts,
     fork: &Fork,
@@ -227,30 +227,30 @@ fn meet_after(
         glitch: Glitch::Skip,
     };
     scenario.edit(change.edit())?;
-    let met = meet_until(scenario, counts, fork, first, end, out);
+    let met = try_until(scenario, counts, fork, first, end, out);
     unmark(scenario);
     met
 }
 
-/// Tries the pairs at a spot, if they were asked for.
+/// Tries the pairs at a site, if they were asked for.
 #[tactic(auto, unfolding(crate::specs::Standing::pairs_at))]
-pub(crate) fn meet_pairs(
+pub(crate) fn try_pairs(
     alloc: Global,
     scenario: &mut Scenario,
     counts: &mut Counts,
     plan: &Plan,
-    spot: &Spot,
+    site: &Site,
     with_output: bool,
     out: &mut Vec<u8>,
 ) -> Result<(), AllocError>
     requires near { scenario.old.step ≤ most_steps }
     requires unmarked { scenario.old.marks ≡ [] }
-    requires below { IsBelow scenario.old.step spot.now.standing }
-    requires fork { Continues scenario.old spot.now.standing spot.now.fork }
+    requires below { IsBelow scenario.old.step site.now.standing }
+    requires fork { Continues scenario.old site.now.standing site.now.fork }
     ensures same { scenario.new ≡ scenario.old }
-    ensures met { OnOk result (CountsMore counts.old counts.new with_output scenario.old (pairs_at scenario.old plan.now spot.now.standing) out.old.items out.new.items) }
+    ensures met { OnOk result (CountsMore counts.old counts.new with_output scenario.old (pairs_at scenario.old plan.now site.now.standing) out.old.items out.new.items) }
 {
-    let Standing::Step { step, .. } = spot.standing else {
+    let Standing::Step { step, .. } = site.standing else {
         return Ok(());
     };
     let last = scenario.step();
@@ -263,12 +263,12 @@ pub(crate) fn meet_pairs(
     }
     let first = First {
         step,
-        steps: last - spot.fork.step,
+        steps: last - site.fork.step,
         code: plan.code,
         with_output,
     };
     counts
         .recall
-        .foresee(alloc, scenario, &spot.fork, end, with_output)?;
-    meet_after(scenario, counts, &spot.fork, first, end, out)
+        .foresee(alloc, scenario, &site.fork, end, with_output)?;
+    try_after(scenario, counts, &site.fork, first, end, out)
 }

@@ -33,11 +33,11 @@ const MOST: usize = 1 << 20;
 
 /// An outcome that several changes share. Contracts see the text.
 #[derive(Drop)]
-pub(crate) struct Outcome {
+pub(crate) struct SharedOutcome {
     text: Rc<Vec<u8>>,
 }
 
-impl Model for Outcome {
+impl Model for SharedOutcome {
     ghost use Rattle.std.specs.Prelude.{List, ℕ};
 
     ghost Value = { List ℕ };
@@ -45,12 +45,12 @@ impl Model for Outcome {
     ghost view = { λ outcome. outcome.text.value.items };
 }
 
-impl Outcome {
-    pub(crate) fn new(alloc: Global, text: Vec<u8>) -> Result<Outcome, AllocError>
+impl SharedOutcome {
+    pub(crate) fn new(alloc: Global, text: Vec<u8>) -> Result<SharedOutcome, AllocError>
         ensures { IfOk result (λ outcome. outcome ≡ text.items) }
     {
         let text = Rc::new(alloc, text)?;
-        Ok(Outcome { text })
+        Ok(SharedOutcome { text })
     }
 
     pub(crate) fn text(&self) -> &[u8]
@@ -66,14 +66,14 @@ impl Outcome {
     }
 }
 
-impl Clone for Outcome {
+impl Clone for SharedOutcome {
     ghost use Rattle.std.specs.Prelude.{◌≡◌};
 
     ghost is_clone = { λ outcome copy. copy ≡ outcome };
 
-    fn clone(&self) -> Result<Outcome, AllocError> {
+    fn clone(&self) -> Result<SharedOutcome, AllocError> {
         let text = self.text.clone()?;
-        Ok(Outcome { text })
+        Ok(SharedOutcome { text })
     }
 }
 
@@ -81,14 +81,14 @@ impl Clone for Outcome {
 #[derive(Drop)]
 pub(crate) struct Known {
     pub(crate) glitch: Glitch,
-    pub(crate) outcome: Outcome,
+    pub(crate) outcome: SharedOutcome,
 }
 
 /// What a sweep recalls of outcomes when it goes from one step to the next. Contracts say what is so of it by `Recalls`.
 #[derive(Drop)]
 pub(crate) struct Recall {
     /// The outcome of the unedited run.
-    pub(crate) unedited: Outcome,
+    pub(crate) unedited: SharedOutcome,
     /// The step that was visited last.
     pub(crate) step: u32,
     /// Outcomes of glitches just before that step, in the order in which a sweep tries them.
@@ -114,7 +114,7 @@ impl Recall {
     ghost use Rattle.sweeps.specs.Recall.{Recalls};
 
     /// Returns what is recalled before the first place: the outcome of the unedited run.
-    pub(crate) fn begin(alloc: Global, unedited: Outcome) -> Recall
+    pub(crate) fn begin(alloc: Global, unedited: SharedOutcome) -> Recall
         ensures unedited { result.unedited ≡ unedited }
         ensures here { result.here.items ≡ [] }
         ensures next { result.next.items ≡ [] }
@@ -205,7 +205,7 @@ impl Recall {
     }
 
     /// Returns the outcome of the next glitch just before the step, if it is known.
-    pub(crate) fn known(&self, glitch: Glitch) -> Result<Option<Outcome>, AllocError>
+    pub(crate) fn known(&self, glitch: Glitch) -> Result<Option<SharedOutcome>, AllocError>
         ensures { IfOk result (λ found. IfSome found (λ outcome. (with_output : Bool) (sc : ScenarioOf) → Recalls with_output sc self.now
             → IsOutcome with_output sc (Once self.now.step glitch) outcome)) }
     {
@@ -233,7 +233,7 @@ impl Recall {
     }
 
     /// Returns an outcome, which it shares with the unedited run or with the last glitch that is recalled if the text is the same.
-    pub(crate) fn outcome(&self, alloc: Global, text: Vec<u8>) -> Result<Outcome, AllocError>
+    pub(crate) fn outcome(&self, alloc: Global, text: Vec<u8>) -> Result<SharedOutcome, AllocError>
         ensures { IfOk result (λ outcome. outcome ≡ text.items) }
     {
         if self.unedited.is(&text) {
@@ -244,11 +244,11 @@ impl Recall {
                 return last.outcome.clone();
             }
         }
-        Outcome::new(alloc, text)
+        SharedOutcome::new(alloc, text)
     }
 
     /// Recalls the outcome of a glitch just before the next step, unless it is long or there are too many.
-    pub(crate) fn keep(&mut self, glitch: Glitch, outcome: Outcome) -> Result<(), AllocError>
+    pub(crate) fn keep(&mut self, glitch: Glitch, outcome: SharedOutcome) -> Result<(), AllocError>
         ensures step { OnOk result (self.new.step ≡ self.old.step) }
         ensures so { OnOk result ((with_output : Bool) (sc : ScenarioOf)
             → (is_running (state_before sc (self.old.step + 1)).core.status ≡ true

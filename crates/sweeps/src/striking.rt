@@ -4,28 +4,28 @@ ghost use Rattle.guest_machine.specs.Exec.{is_running};
 ghost use Rattle.guest_machine.specs.Shows.{Shows};
 ghost use Rattle.guest_machine.specs.State.{State};
 ghost use Rattle.scenario.specs.Scenario.{Scenario as ScenarioOf};
-ghost use Rattle.step_uses.specs.declared.passing.Passing.TheVariants.{Looks};
+ghost use Rattle.pruning.specs.declared.passing.Passing.TheVariants.{Looks};
 ghost use Rattle.std.specs.List.{All};
 ghost use Rattle.sweep_plans.specs.Changes.{IsRight};
 ghost use Rattle.sweep_plans.specs.declared.change.Change.TheVariants.{Once};
 ghost use Rattle.sweep_plans.specs.declared.change.Glitch.TheVariants.{Turn};
 ghost use Rattle.sweeps.specs.Outcomes.{IsOutcome};
 ghost use Rattle.sweeps.specs.Recall.{IsRecalled, IsTouched, Passes, Recalls, RegisterIs};
-ghost use Rattle.sweeps.specs.Spots.{IsBefore};
+ghost use Rattle.sweeps.specs.Sites.{IsBefore};
 ghost use Rattle.sweeps.specs.Standing.{IsAt, state_before};
 ghost use Rattle.sweeps.specs.Sweeps.{CountsMore};
 
 use crate::counting::Counts;
 use crate::endings::{is_long, often_meets, outcome_of_glitch};
-use crate::meeting::meet;
+use crate::meeting::try_change_at;
 use crate::outcomes::outcome_of;
-use crate::recall::{Outcome, Recall};
-use crate::spots::Spot;
+use crate::recall::{Recall, SharedOutcome};
+use crate::sites::Site;
 use guest_machine::{Machine, Register, Setup, Touched};
+use pruning::Passing;
+use pruning::laws::{runs_keep, runs_keep_words, runs_overwrite};
 use scenario::Scenario;
 use std::alloc::{AllocError, Global};
-use step_uses::Passing;
-use step_uses::laws::{runs_keep, runs_keep_words, runs_overwrite};
 use sweep_plans::{Change, Glitch};
 
 /// Returns what a register is to the next step of a machine; x0 counts as one that the step looks at.
@@ -36,7 +36,7 @@ fn passing_register(machine: &Machine, setup: &Setup, register: u8) -> Passing
     if register == 0 {
         return Passing::Looks;
     }
-    step_uses::passing_of(machine, setup, Register::new(register))
+    pruning::passing_of(machine, setup, Register::new(register))
 }
 
 /// Returns what a word of memory is to the next step of a machine, which touches these ranges. If they aren't given, it counts as one that the
@@ -46,7 +46,7 @@ fn passing_word(machine: &Machine, setup: &Setup, touched: Option<Touched>, addr
     ensures { (s : State) → Shows machine.now s → (mask : ℕ) → Passes s setup.now (Turn addr mask) result }
 {
     match touched {
-        Some(touched) => step_uses::passing_word(machine, touched, addr),
+        Some(touched) => pruning::passing_word(machine, touched, addr),
         None => Passing::Looks,
     }
 }
@@ -70,7 +70,7 @@ fn recalled(
     recall: &Recall,
     glitch: Glitch,
     passing: Passing,
-) -> Result<Option<Outcome>, AllocError>
+) -> Result<Option<SharedOutcome>, AllocError>
     ensures { IfOk result (λ found. IfSome found (IsRecalled recall.now glitch passing)) }
 {
     runs_overwrite();
@@ -85,7 +85,7 @@ fn keep(
     recall: &mut Recall,
     glitch: Glitch,
     passing: Passing,
-    outcome: Outcome,
+    outcome: SharedOutcome,
 ) -> Result<(), AllocError>
     ensures step { OnOk result (recall.new.step ≡ recall.old.step) }
     ensures so { OnOk result ((with_output : Bool) (sc : ScenarioOf) → sc.marks ≡ [] → recall.old.step < sc.step
@@ -110,18 +110,18 @@ struct Struck {
     touched: Option<Touched>,
 }
 
-/// Returns the outcome of a glitch at a spot: the one that is recalled, or that of a run. Afterwards the scenario is as it was.
+/// Returns the outcome of a glitch at a site: the one that is recalled, or that of a run. Afterwards the scenario is as it was.
 fn outcome_at(
     alloc: Global,
     scenario: &mut Scenario,
     counts: &Counts,
-    spot: &Spot,
+    site: &Site,
     struck: Struck,
     passing: Passing,
     with_output: bool,
-) -> Result<Outcome, AllocError>
-    requires before { IsBefore scenario.old struck.step spot.now }
-    requires at { IsAt scenario.old spot.now.standing (Once struck.step struck.glitch) }
+) -> Result<SharedOutcome, AllocError>
+    requires before { IsBefore scenario.old struck.step site.now }
+    requires at { IsAt scenario.old site.now.standing (Once struck.step struck.glitch) }
     requires here { counts.now.recall.step ≡ struck.step }
     requires passing { Passes (state_before scenario.old struck.step) scenario.old.setup struck.glitch passing }
     ensures same { scenario.new ≡ scenario.old }
@@ -137,7 +137,7 @@ fn outcome_at(
         && often_meets(glitch)
         && is_long(scenario, step)
     {
-        let fork = &spot.fork;
+        let fork = &site.fork;
         return outcome_of_glitch(
             alloc,
             scenario,
@@ -153,28 +153,28 @@ fn outcome_at(
     let text = outcome_of(
         counts.course.as_ref(),
         scenario,
-        &spot.fork,
-        spot.standing,
+        &site.fork,
+        site.standing,
         change,
         with_output,
     )?;
     recall.outcome(alloc, text)
 }
 
-/// Applies a glitch at a spot, and no other edit, counts the outcome, and appends its row. Afterwards the scenario is as it was.
-fn meet_glitch(
+/// Applies a glitch at a site, and no other edit, counts the outcome, and appends its row. Afterwards the scenario is as it was.
+fn try_glitch(
     alloc: Global,
     scenario: &mut Scenario,
     counts: &mut Counts,
-    spot: &Spot,
+    site: &Site,
     struck: Struck,
     with_output: bool,
     out: &mut Vec<u8>,
 ) -> Result<(), AllocError>
-    requires before { IsBefore scenario.old struck.step spot.now }
-    requires at { IsAt scenario.old spot.now.standing (Once struck.step struck.glitch) }
+    requires before { IsBefore scenario.old struck.step site.now }
+    requires at { IsAt scenario.old site.now.standing (Once struck.step struck.glitch) }
     requires right { IsRight struck.glitch }
-    requires touched { IfSome struck.touched (IsTouched spot.now.fork.machine scenario.old.setup) }
+    requires touched { IfSome struck.touched (IsTouched site.now.fork.machine scenario.old.setup) }
     requires here { counts.old.recall.step ≡ struck.step }
     ensures same { scenario.new ≡ scenario.old }
     ensures here { OnOk result (counts.new.recall.step ≡ struck.step) }
@@ -185,28 +185,28 @@ fn meet_glitch(
         glitch,
         touched,
     } = struck;
-    let passing = passing_of(&spot.fork.machine, scenario.setup(), touched, glitch);
-    let outcome = outcome_at(alloc, scenario, counts, spot, struck, passing, with_output)?;
-    let steps = scenario.step() - spot.fork.step;
+    let passing = passing_of(&site.fork.machine, scenario.setup(), touched, glitch);
+    let outcome = outcome_at(alloc, scenario, counts, site, struck, passing, with_output)?;
+    let steps = scenario.step() - site.fork.step;
     counts.count(Change::Once { step, glitch }, outcome.text(), steps, out)?;
     keep(&mut counts.recall, glitch, passing, outcome)
 }
 
-/// Does the same for a change at a spot just before a step.
-fn meet_change(
+/// Does the same for a change at a site just before a step.
+fn try_change(
     alloc: Global,
     scenario: &mut Scenario,
     counts: &mut Counts,
-    spot: &Spot,
+    site: &Site,
     step: u32,
     touched: Option<Touched>,
     change: Change,
     with_output: bool,
     out: &mut Vec<u8>,
 ) -> Result<(), AllocError>
-    requires before { IsBefore scenario.old step spot.now }
-    requires at { IsAt scenario.old spot.now.standing change }
-    requires touched { IfSome touched (IsTouched spot.now.fork.machine scenario.old.setup) }
+    requires before { IsBefore scenario.old step site.now }
+    requires at { IsAt scenario.old site.now.standing change }
+    requires touched { IfSome touched (IsTouched site.now.fork.machine scenario.old.setup) }
     requires here { counts.old.recall.step ≡ step }
     ensures same { scenario.new ≡ scenario.old }
     ensures here { OnOk result (counts.new.recall.step ≡ step) }
@@ -219,37 +219,37 @@ fn meet_change(
                 glitch,
                 touched,
             };
-            meet_glitch(alloc, scenario, counts, spot, struck, with_output, out)
+            try_glitch(alloc, scenario, counts, site, struck, with_output, out)
         }
-        _ => meet(scenario, counts, spot, change, with_output, out),
+        _ => try_change_at(scenario, counts, site, change, with_output, out),
     }
 }
 
 /// Does the same for each of some changes just before a step.
-pub(crate) fn meet_changes(
+pub(crate) fn try_changes(
     alloc: Global,
     scenario: &mut Scenario,
     counts: &mut Counts,
-    spot: &Spot,
+    site: &Site,
     step: u32,
     touched: Option<Touched>,
     changes: &[Change],
     with_output: bool,
     out: &mut Vec<u8>,
 ) -> Result<(), AllocError>
-    requires before { IsBefore scenario.old step spot.now }
-    requires at { All (IsAt scenario.old spot.now.standing) changes.now }
-    requires touched { IfSome touched (IsTouched spot.now.fork.machine scenario.old.setup) }
+    requires before { IsBefore scenario.old step site.now }
+    requires at { All (IsAt scenario.old site.now.standing) changes.now }
+    requires touched { IfSome touched (IsTouched site.now.fork.machine scenario.old.setup) }
     requires here { counts.old.recall.step ≡ step }
     ensures same { scenario.new ≡ scenario.old }
     ensures met { OnOk result (CountsMore counts.old counts.new with_output scenario.old changes.now out.old.items out.new.items) }
 {
     for change in changes {
-        meet_change(
+        try_change(
             alloc,
             scenario,
             counts,
-            spot,
+            site,
             step,
             touched,
             *change,
@@ -261,31 +261,31 @@ pub(crate) fn meet_changes(
 }
 
 /// Does the same after what is recalled has gone on to the step.
-pub(crate) fn meet_step(
+pub(crate) fn try_step(
     alloc: Global,
     scenario: &mut Scenario,
     counts: &mut Counts,
-    spot: &Spot,
+    site: &Site,
     step: u32,
     changes: &[Change],
     with_output: bool,
     out: &mut Vec<u8>,
 ) -> Result<(), AllocError>
-    requires before { IsBefore scenario.old step spot.now }
-    requires at { All (IsAt scenario.old spot.now.standing) changes.now }
+    requires before { IsBefore scenario.old step site.now }
+    requires at { All (IsAt scenario.old site.now.standing) changes.now }
     requires runs { is_running (state_before scenario.old step).core.status ≡ true }
     ensures same { scenario.new ≡ scenario.old }
     ensures met { OnOk result (CountsMore counts.old counts.new with_output scenario.old changes.now out.old.items out.new.items) }
 {
     counts
         .recall
-        .hold_ends(alloc, scenario, &spot.fork, changes.len(), with_output)?;
+        .hold_ends(alloc, scenario, &site.fork, changes.len(), with_output)?;
     counts.recall.arrive(step);
-    meet_changes(
+    try_changes(
         alloc,
         scenario,
         counts,
-        spot,
+        site,
         step,
         None,
         changes,

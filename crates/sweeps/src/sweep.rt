@@ -6,13 +6,13 @@ ghost use Rattle.checkpoints.specs.Trails.{LoadsAs};
 ghost use Rattle.guest_machine.specs.Shows.{Shows};
 ghost use Rattle.scenario.specs.Limits.{most_steps};
 ghost use Rattle.scenario.specs.Scenario.{first_state, run_of};
-ghost use Rattle.sweeps.specs.Scouts.{scout-prop};
-ghost use Rattle.sweeps.specs.Spots.{IsScout};
+ghost use Rattle.sweeps.specs.LastForks.{last-fork-prop};
+ghost use Rattle.sweeps.specs.Sites.{IsLastFork};
 
 use crate::beginning::{scenario_at, unedited_run};
 use crate::counting::Counts;
-use crate::entering::{meet_spot, unedited_table};
-use crate::spots::{Origin, find, keep_scout};
+use crate::entering::{try_spot, unedited_table};
+use crate::sites::{Origin, find, keep_last_fork};
 use checkpoints::{Fork, Sides, Trail};
 use guest_elf::Image;
 use guest_machine::{Machine, Span};
@@ -32,8 +32,8 @@ pub struct Sweep<'a> {
     ghost right: { IsRightForRun trail (run_of scenario) } by { right-prop trail (run_of scenario) },
     ghost near: { scenario.step ≤ most_steps },
     ghost unmarked: { scenario.marks ≡ [] },
-    scout: Option<Fork>,
-    ghost scouted: { IsScout scenario scout } by { scout-prop scenario scout },
+    last_fork: Option<Fork>,
+    ghost continued: { IsLastFork scenario last_fork } by { last-fork-prop scenario last_fork },
     start: Machine,
     ghost starts: { Shows start (first_state scenario) } by { shows-prop start (first_state scenario) },
     input: Vec<u8>,
@@ -107,7 +107,7 @@ impl<'a> Sweep<'a> {
             alloc,
             scenario,
             trail,
-            scout: None,
+            last_fork: None,
             start,
             input,
             with_output,
@@ -136,26 +136,26 @@ impl<'a> Sweep<'a> {
         let found = find(
             &mut self.trail,
             &self.scenario,
-            &mut self.scout,
+            &mut self.last_fork,
             &origin,
             plan,
             place,
         )?;
-        let Some(spot) = found else {
+        let Some(site) = found else {
             return Ok(());
         };
-        meet_spot(
+        try_spot(
             self.alloc,
             &mut self.scenario,
             &mut self.counts,
             plan,
-            &spot,
+            &site,
             self.range.start,
             &mut self.table,
             self.with_output,
             out,
         )?;
-        keep_scout(&self.scenario, &mut self.scout, spot);
+        keep_last_fork(&self.scenario, &mut self.last_fork, site);
         Ok(())
     }
 

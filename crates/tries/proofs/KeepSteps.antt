@@ -8,7 +8,7 @@ use Rattle.commands.specs.declared.fault.Fault.TheVariants.{Memory}
 use Rattle.looks.specs.Views.{Leaves}
 use Rattle.checkpoints.specs.declared.trail.Trail.{Trail}
 use Rattle.replay_session.specs.Stages.{Stage}
-use Rattle.replay_session.specs.Trying.{IsSeed}
+use Rattle.replay_session.specs.Trying.{IsForkPoint}
 use Rattle.replay_session.specs.Work.{work_on}
 use Rattle.run_values.specs.declared.span.Span.{Span}
 use Rattle.scenario.specs.Scenario.{Scenario}
@@ -23,16 +23,17 @@ pub rested : (n : ℕ) (old : Work) (mid new : Trail) → ForkMoves n old (work_
 rested n old mid new moves same =
     subst (λ t. ForkMoves n (work_on t) (work_on t)) (sym same) (rests n old (work_on mid) moves)
 
--- a seed of a scenario's run is held for the same scenario
+-- a fork point of a scenario's run is held for the same scenario
 pub held-is : (now sc : Scenario) (range at : Span) (effect : Effect) (held : Held) (work : Work) → now ≡ sc
     → at ≡ range
-    → held.effect ≡ effect → IsOfSetup effect → IsSeed sc effect range held.seed → ForkMoves sc.step work work
+    → held.effect ≡ effect → IsOfSetup effect → IsForkPoint sc effect range held.fork_point
+    → ForkMoves sc.step work work
     → IsHeld now at work (Some held)
-held-is now sc range at effect held work same there is of seed rests = (
+held-is now sc range at effect held work same there is of fork_point rests = (
   subst IsOfSetup (sym is) of,
-  subst (λ s. IsSeed s held.effect at held.seed) (sym same)
-      (subst (λ r. IsSeed sc held.effect r held.seed) (sym there)
-      (subst (λ e. IsSeed sc e range held.seed) (sym is) seed)),
+  subst (λ s. IsForkPoint s held.effect at held.fork_point) (sym same)
+      (subst (λ r. IsForkPoint sc held.effect r held.fork_point) (sym there)
+      (subst (λ e. IsForkPoint sc e range held.fork_point) (sym is) fork_point)),
   subst (λ (s : Scenario). ForkMoves s.step work work) (sym same) rests,
 )
 

@@ -17,7 +17,7 @@ use Rattle.sweep_plans.proofs.ListSteps.{byte-more, map-more, plus-one}
 use Rattle.sweep_plans.specs.Laws.{numbers_from}
 use Rattle.sweep_plans.specs.Plans.{byte_values, is_wanted}
 use Rattle.sweep_plans.specs.declared.plan.ByteValues.{ByteValues}
-use Rattle.tallies.specs.Tallied.{is_met, number_of, with_text}
+use Rattle.texts.specs.Tallied.{is_met, number_of, with_text}
 use Rattle.tries.specs.Merging.{IsMerged, agains_of, news_of}
 use Rattle.tries.specs.Plans.{attempt_at, attempts_at, attempts_below, edit_of}
 use Rattle.tries.specs.Tries.{AreFirstOf, Gathered, Keeps, LeavesBase, TriedAll, TriedAs, TriedUpTo, TriesStage}

@@ -1,9 +1,9 @@
 -- From what is served of a session of tries to what is served of its stage.
 use Rattle.std.proofs.Common.{◌≡◌, ℕ, List, Option, refl, subst}
-use Rattle.line_server.specs.Answers.{Answers, Relation}
-use Rattle.line_server.specs.Served.{ServedAll, ServedRead, StoppedBy}
-use Rattle.line_server.specs.declared.fault.ServeFault.{ServeFault}
-use Rattle.line_server.proofs.Carried.{stand-for, all-to, read-to, stopped-to}
+use Rattle.line_protocol.specs.Answers.{Answers, Relation}
+use Rattle.line_protocol.specs.Served.{ServedAll, ServedRead, StoppedBy}
+use Rattle.line_protocol.specs.declared.fault.ServeFault.{ServeFault}
+use Rattle.line_protocol.proofs.Carried.{stand-for, all-to, read-to, stopped-to}
 use Rattle.replay_session.specs.Replies.{is_over}
 use Rattle.replay_session.specs.Session.{turn_of}
 use Rattle.tries.specs.Stages.{reply_of_tries, stage_of_tries}

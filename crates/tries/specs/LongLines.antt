@@ -4,7 +4,7 @@ use Rattle.std.proofs.lemmas.Bool.{lt-leb, true≢false}
 use Rattle.std.proofs.lemmas.Slice.Eq.{bytes_eq-Decides}
 use Rattle.std.specs.Prelude.{None, codes, not}
 use Rattle.std.specs.Bool.{MatchBool}
-use Rattle.line_server.specs.Lines.{longest_line}
+use Rattle.line_protocol.specs.Lines.{longest_line}
 use Rattle.look_lines.specs.Inputs.{begins_with}
 use Rattle.looks.specs.LongLines.{last-fails, long_alike as views_alike, too-long as never-looks}
 use Rattle.looks.specs.Views.{Views, giving, looks}

@@ -15,7 +15,7 @@ use Rattle.sweep_plans.specs.Plans.{byte_values, count}
 use Rattle.sweep_plans.specs.declared.plan.ByteValues.{ByteValues}
 use Rattle.sweep_plans.specs.declared.plan.ByteValues.TheVariants.{All, Flips, Edges}
 use Rattle.sweep_plans.specs.declared.plan.Places.{Places}
-use Rattle.text_parts.specs.Parts.{parts}
+use Rattle.texts.specs.Parts.{parts}
 use Rattle.tries.specs.declared.plans.Attempt.{Attempt}
 use Rattle.tries.specs.declared.plans.BytePlan.{BytePlan}
 

@@ -2,7 +2,7 @@
 use Rattle.std.specs.Prelude.{List, ℕ, if◌then◌else◌}
 use Rattle.looks.specs.Views.{reply_of}
 use Rattle.replay_session.specs.Stages.{stage_of}
-use Rattle.tallies.specs.Tallied.{entries_of}
+use Rattle.texts.specs.Tallied.{entries_of}
 use Rattle.tries.specs.Tries.{TriesStage}
 use Rattle.tries.specs.declared.trying.Tries.{Tries}
 

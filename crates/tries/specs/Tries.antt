@@ -11,8 +11,8 @@ use Rattle.checkpoints.specs.declared.sides.Sides.{Sides}
 use Rattle.commands.specs.declared.edit.Edit.{Edit}
 use Rattle.commands.specs.declared.fault.Fault.{Fault}
 use Rattle.commands.specs.declared.fault.Fault.TheVariants.{BadCommand, Memory}
-use Rattle.line_server.specs.Answers.{AnswersBy}
-use Rattle.line_server.specs.Lines.{longest_line}
+use Rattle.line_protocol.specs.Answers.{AnswersBy}
+use Rattle.line_protocol.specs.Lines.{longest_line}
 use Rattle.look_lines.specs.Inputs.{ReadsFor, begins_with, edit_tried}
 use Rattle.looks.specs.Views.{Leaves, Views, giving, looks}
 use Rattle.replay_session.specs.Replies.{RepliesAs, is_over, refused_line}
@@ -23,7 +23,7 @@ use Rattle.report_lines.specs.Text.{address_text, newline}
 use Rattle.run_values.specs.declared.span.Span.{Span}
 use Rattle.scenario.specs.Edits.{row}
 use Rattle.scenario.specs.Scenario.{Scenario, IsOutlineOf, first_state, run_of}
-use Rattle.tallies.specs.Tallied.{is_met, number_of, with_text}
+use Rattle.texts.specs.Tallied.{is_met, number_of, with_text}
 use Rattle.tries.specs.Merging.{IsMerged, agains_of, news_of}
 use Rattle.look_lines.specs.Ranges.{range_of}
 use Rattle.tries.specs.Plans.{attempts_of, edit_of, plan_asked, try_line}

@@ -70,9 +70,9 @@
 mod merging;
 mod plan_text;
 mod plans;
+mod replies;
 mod serving;
 mod taking;
-mod texts;
 mod trying;
 
 pub use serving::serve;

@@ -5,7 +5,7 @@ ghost use Rattle.tries.specs.Plans.{edit_of, places_in, plan_asked, plan_in, val
 use commands::{Bytes, Edit, Fault, number};
 use std::alloc::{AllocError, Global};
 use sweep_plans::{ByteValues, Places};
-use text_parts::Parts;
+use texts::Parts;
 
 const ALL: &[u8] = b"all";
 

@@ -2,7 +2,7 @@
 ghost use Rattle.std.specs.Prelude.{◌≡◌, ◌++◌, [], IsTrue, OnErr, OnOk};
 ghost use Rattle.replay_session.specs.Session.{scenario_of, trail_of, turn_of};
 ghost use Rattle.replay_session.specs.Work.{work_on};
-ghost use Rattle.tallies.specs.Tallied.{entries_of, is_met, number_of, with_text};
+ghost use Rattle.texts.specs.Tallied.{entries_of, is_met, number_of, with_text};
 ghost use Rattle.tries.specs.Holding.{IsHeld, held-prop};
 ghost use Rattle.tries.specs.Merging.{IsMerged, agains_of, news_of};
 ghost use Rattle.tries.specs.Tries.{asks, planned_text, tried_text};
@@ -10,19 +10,19 @@ ghost use Rattle.tries.specs.Tries.{asks, planned_text, tried_text};
 use crate::merging::merge;
 use crate::plan_text::{END, PlanText};
 use crate::plans::{Attempt, BytePlan, plan_asked};
+use crate::replies::{push_differs, push_planned, push_reply};
 use crate::taking::{copy_of, keep_if, take_last, takes};
-use crate::texts::{push_differs, push_planned, push_reply};
 use checkpoints::{Effect, Sides};
 use commands::{Edit, Fault};
 use guest_machine::Span;
-use line_server::{LONGEST_LINE, Listener};
+use line_protocol::{LONGEST_LINE, Listener};
 use look_lines::{begins_with, edit_tried, range_of};
 use looks::Viewer;
-use replay_session::{Seed, Session, Tried};
+use replay_session::{ForkPoint, Session, Tried};
 use report_lines::push_text;
 use std::alloc::AllocError;
 use sweep_plans::ByteValues;
-use tallies::Tallies;
+use texts::Tallies;
 
 /// How many compares of a run are looked at.
 const MOST_COMPARES: usize = 65_536;
@@ -67,7 +67,7 @@ fn tell(
     let mut run = tried.sides;
     let news = merge(seen, &mut run);
     push_reply(text, told.find(&tried.outcome), &tried.outcome, news)?;
-    let _found = told.meet(&tried.outcome)?;
+    let _found = told.record(&tried.outcome)?;
     *seen = run;
     Ok(())
 }
@@ -94,17 +94,17 @@ fn tell_planned(
     let found = told.find(&tried.outcome);
     push_planned(piece, attempt, found, &tried.outcome, news)?;
     text.make_room(piece.len())?;
-    let _met = told.meet(&tried.outcome)?;
+    let _met = told.record(&tried.outcome)?;
     text.push(piece);
     *seen = sides;
     Ok(())
 }
 
-/// A seed, and the effect of the edits that it is for.
+/// A fork point, and the effect of the edits that it is for.
 #[derive(Drop)]
 struct Held {
     effect: Effect,
-    seed: Seed,
+    fork_point: ForkPoint,
 }
 
 /// A session that can be looked at, what tries have told of it, and the text of the last reply.
@@ -117,7 +117,7 @@ pub struct Tries<'a> {
     /// The edit of the last try, if the lines after it only try, ask for compares or look.
     last: Option<Edit>,
     held: Option<Held>,
-    ghost seeded: { IsHeld (scenario_of viewer.session) range (work_on (trail_of viewer.session)) held } by { held-prop (scenario_of viewer.session) range (work_on (trail_of viewer.session)) held },
+    ghost is_held: { IsHeld (scenario_of viewer.session) range (work_on (trail_of viewer.session)) held } by { held-prop (scenario_of viewer.session) range (work_on (trail_of viewer.session)) held },
     shown: Vec<u8>,
     /// Whether the last reply is that to a try.
     is_shown: bool,
@@ -128,7 +128,7 @@ impl<'a> Tries<'a> {
     ghost use Rattle.checkpoints.specs.Effects.{IsOfSetup};
     ghost use Rattle.replay_session.specs.Session.{scenario_of, turn_of};
     ghost use Rattle.replay_session.specs.Stages.{stage_of};
-    ghost use Rattle.replay_session.specs.Trying.{GivesInput, IsSeed, IsTried};
+    ghost use Rattle.replay_session.specs.Trying.{GivesInput, IsForkPoint, IsTried};
     ghost use Rattle.scenario.specs.Edits.{row, IsTaken};
     ghost use Rattle.tries.specs.Stages.{reply_of_tries, stage_of_tries};
     ghost use Rattle.tries.specs.Plans.{attempts_at, attempts_of, edit_of};
@@ -164,22 +164,22 @@ impl<'a> Tries<'a> {
         self.is_shown = false;
     }
 
-    /// Takes the seed for an edit that changes only the setup: the one that is held, if it is that, or a new one.
+    /// Takes the fork point for an edit that changes only the setup: the one that is held, if it is that, or a new one.
     #[tactic(auto, unfolding(crate::specs::Stages::stage_of_tries))]
-    fn take_seed(&mut self, effect: Effect) -> Result<Held, AllocError>
+    fn take_fork_point(&mut self, effect: Effect) -> Result<Held, AllocError>
         requires { IsOfSetup effect }
         ensures base { LeavesBase (stage_of_tries self.old) (stage_of_tries self.new) }
         ensures kept { Keeps (stage_of_tries self.old) (stage_of_tries self.new) }
         ensures work { OnOk result (TryMoves (stage_of self.old.viewer.session) (stage_of self.new.viewer.session)) }
-        ensures seed { IfOk result (λ held. (held.effect ≡ effect) × IsSeed (scenario_of self.old.viewer.session) effect self.old.range held.seed) }
+        ensures fork_point { IfOk result (λ held. (held.effect ≡ effect) × IsForkPoint (scenario_of self.old.viewer.session) effect self.old.range held.fork_point) }
     {
         if let Some(held) = self.held.take()
             && are_same(held.effect, effect)
         {
             return Ok(held);
         }
-        let seed = self.viewer.session.seed(effect, self.range)?;
-        Ok(Held { effect, seed })
+        let fork_point = self.viewer.session.fork_point(effect, self.range)?;
+        Ok(Held { effect, fork_point })
     }
 
     /// Tells in which compares the run differs with an edit that gives the input bytes, and writes the reply.
@@ -192,11 +192,11 @@ impl<'a> Tries<'a> {
         ensures kept { OnErr result (Keeps (stage_of_tries self.old) (stage_of_tries self.new)) }
     {
         let effect = self.viewer.session.effect(&edit);
-        let held = self.take_seed(effect)?;
+        let held = self.take_fork_point(effect)?;
         let compared = self
             .viewer
             .session
-            .compare_edit(edit, &held.seed, MOST_COMPARES)?;
+            .compare_edit(edit, &held.fork_point, MOST_COMPARES)?;
         self.held = Some(held);
         self.shown.clear();
         push_differs(&mut self.shown, &compared.own, &compared.other)?;
@@ -214,8 +214,11 @@ impl<'a> Tries<'a> {
         ensures tried { IfOk result (IsTried (row (scenario_of self.old.viewer.session) edit).after self.old.range) }
     {
         let effect = self.viewer.session.effect(&edit);
-        let held = self.take_seed(effect)?;
-        let tried = self.viewer.session.try_edit(edit, &held.seed, self.range)?;
+        let held = self.take_fork_point(effect)?;
+        let tried = self
+            .viewer
+            .session
+            .try_edit(edit, &held.fork_point, self.range)?;
         self.held = Some(held);
         Ok(tried)
     }

@@ -3,7 +3,7 @@
 //! | Item | What it is |
 //! |---|---|
 //! | [`UnknownCall`] | a number and how often it was called |
-//! | [`meet`] | counts a call, if there is one |
+//! | [`count_unknown`] | counts a call, if there is one |
 //!
 //! The definitions are in `specs/UnknownCalls`: `after_call`, a list of calls after one more, and `Within`, that no count exceeds a number.
 #![tactic(auto)]
@@ -55,7 +55,7 @@ fn count(calls: &mut Vec<UnknownCall>, number: u32) -> Result<(), AllocError>
 }
 
 /// Counts a call, if there is one, unless its number is a new one and ten numbers are kept. If memory runs out, the list stays as it was.
-pub fn meet(calls: &mut Vec<UnknownCall>, number: Option<u32>) -> Result<(), AllocError>
+pub fn count_unknown(calls: &mut Vec<UnknownCall>, number: Option<u32>) -> Result<(), AllocError>
     requires { Within (2 ^ 32 - 2) calls.old.items }
     ensures ok { OnOk result (calls.new.items ≡ after_maybe calls.old.items number) }
     ensures err { OnErr result (calls.new.items ≡ calls.old.items) }

@@ -6,7 +6,7 @@ ghost use Rattle.guest_heap.specs.Entries.{block_of};
 use crate::entry::Entry;
 use crate::heap::Heap;
 use crate::region::{SLOTS, end_of};
-use heap_blocks::{Block, Near, Place};
+use call_stacks::{Block, Near, Place};
 
 fn near_of(entry: &Entry, address: u32) -> Near
     requires { high_end (block_of entry.now) < 4294967296 }

@@ -11,8 +11,7 @@ use crate::region::{SLOTS, aligned, slot_of};
 use crate::released::Released;
 use crate::table::Table;
 use crate::traces::SharedTrace;
-use call_stacks::Trace;
-use heap_blocks::Block;
+use call_stacks::{Block, Trace};
 use std::alloc::{AllocError, Global};
 use std::rc::Rc;
 

@@ -10,7 +10,7 @@ use crate::region::{end_of, slot_of};
 impl Heap {
     ghost use Rattle.std.specs.Prelude.{IfSome, IfNone};
     ghost use Rattle.std.specs.Option.{option_copied, option_map};
-    ghost use Rattle.heap_blocks.specs.declared.block.Block.{Block};
+    ghost use Rattle.call_stacks.specs.declared.block.Block.{Block};
     ghost use Rattle.guest_heap.specs.Entries.{block_of, IsNext, IsLast};
     ghost use Rattle.guest_heap.specs.States.{kept_at, either, IsNextKept, IsLastKept, MeetsBelow, MeetsFrom, EndsBelow, BeginsAbove};
     ghost use Rattle.guest_heap.specs.Heaps.{blocks_of, live_in, freed_in, first_in};

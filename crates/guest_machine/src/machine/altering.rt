@@ -27,7 +27,7 @@ impl Guest {
                 value,
                 undef,
             } => {
-                self.give(register, Bits { value, undef });
+                self.assign(register, Bits { value, undef });
                 Ok(())
             }
             Act::Flip { register, mask } => {
@@ -43,7 +43,7 @@ impl Guest {
                 Ok(())
             }
             Act::Write { addr, width, value } => self.write_at(addr, width, value),
-            Act::Turn { addr, mask } => self.turn(addr, mask),
+            Act::Turn { addr, mask } => self.flip_word(addr, mask),
             Act::Skip => {
                 self.skip();
                 Ok(())
@@ -62,7 +62,7 @@ impl Guest {
 
     /// Gives a register a number, some of whose bits may be undefined.
     #[tactic(auto, unfolding(crate::specs::Alterations::altered_core, crate::specs::Alterations::altered_bytes))]
-    fn give(&mut self, register: Register, bits: Bits)
+    fn assign(&mut self, register: Register, bits: Bits)
         ensures { IsDone (Set register bits.value bits.undef) self.old self.new }
     {
         if self.runs() {
@@ -118,7 +118,7 @@ impl Guest {
 
     /// Turns bits of four bytes.
     #[tactic(auto, unfolding(crate::specs::Alterations::altered_core, crate::specs::Alterations::altered_bytes, definedness::specs::Operations::xor_of))]
-    fn turn(&mut self, addr: u32, mask: u32) -> Result<(), AllocError>
+    fn flip_word(&mut self, addr: u32, mask: u32) -> Result<(), AllocError>
         ensures { OnOk result (IsDone (Turn addr mask) self.old self.new) }
     {
         if self.runs() {

@@ -128,7 +128,7 @@ impl Guest {
     {
         let start = self.target(rs1, 0);
         self.test_value(rs1)?;
-        let held = self.take(start, Width::Word)?;
+        let held = self.load_checked(start, Width::Word)?;
         let stored = updated(update, held, self.read_register(rs2));
         let fault = put(&mut self.memory, start, Width::Word, stored)?;
         self.test_store(4, fault)?;

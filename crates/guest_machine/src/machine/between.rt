@@ -82,35 +82,35 @@ impl Guest {
     }
 
     /// See [`Guest::share`]. The copy has decoded the same.
-    fn share_ready(&self) -> Result<Guest, AllocError>
+    fn share_warm(&self) -> Result<Guest, AllocError>
         ensures { IfOk result (λ copy. (s : State) → Holds self.now s → Holds copy s) }
     {
-        let memory = self.memory.share_ready(self.alloc)?;
+        let memory = self.memory.share_warm(self.alloc)?;
         self.share_over(memory)
     }
 
     /// Copies what another guest has decoded, for the codes that are the same in both memories.
-    fn learn(&mut self, other: &Guest)
+    fn copy_decoded(&mut self, other: &Guest)
         ensures { self.new ≡ self.old }
     {
-        self.memory.learn(self.alloc, &other.memory);
+        self.memory.copy_decoded(self.alloc, &other.memory);
     }
 
     /// Takes over what another guest has decoded, for the codes that are the same in both memories, unless this one has decoded something
     /// itself.
-    fn take_over(&mut self, other: &mut Guest)
+    fn move_decoded(&mut self, other: &mut Guest)
         ensures same { self.new ≡ self.old }
         ensures other { other.new ≡ other.old }
     {
-        self.memory.take_over(self.alloc, &mut other.memory);
+        self.memory.move_decoded(self.alloc, &mut other.memory);
     }
 
     /// See [`Guest::share`]. What was decoded moves to the copy.
-    fn hand_on(&mut self) -> Result<Guest, AllocError>
+    fn share_moving(&mut self) -> Result<Guest, AllocError>
         ensures same { self.new ≡ self.old }
         ensures copy { IfOk result (λ copy. (s : State) → Holds self.old s → Holds copy s) }
     {
-        let memory = self.memory.hand_on(self.alloc)?;
+        let memory = self.memory.share_moving(self.alloc)?;
         self.share_over(memory)
     }
 
@@ -202,38 +202,38 @@ impl Machine {
 
     /// Returns a copy as [`Machine::share`] does, for several copies that each continue the run: they have decoded what this machine has,
     /// so that their first steps cost no more than later ones. If memory runs out only for that, a copy has decoded nothing.
-    pub fn share_ready(&self) -> Result<Machine, AllocError>
+    pub fn share_warm(&self) -> Result<Machine, AllocError>
         ensures { IfOk result (λ copy. (s : State) → Shows self.now s → Shows copy s) }
     {
-        let guest = self.guest.share_ready()?;
+        let guest = self.guest.share_warm()?;
         Ok(Machine {
             guest: Box::new(self.guest.alloc, guest)?,
         })
     }
 
     /// Copies the instructions that another machine has decoded, for the codes that are the same in both. What this machine shows stays.
-    pub fn learn(&mut self, other: &Machine)
+    pub fn copy_decoded(&mut self, other: &Machine)
         ensures { self.new ≡ self.old }
     {
-        self.guest.learn(&other.guest);
+        self.guest.copy_decoded(&other.guest);
     }
 
     /// Takes over the instructions that another machine has decoded, for the codes that are the same in both, unless this one has decoded
     /// some itself. The other one's next steps cost more then. What the two show stays.
-    pub fn take_over(&mut self, other: &mut Machine)
+    pub fn move_decoded(&mut self, other: &mut Machine)
         ensures same { self.new ≡ self.old }
         ensures other { other.new ≡ other.old }
     {
-        self.guest.take_over(&mut other.guest);
+        self.guest.move_decoded(&mut other.guest);
     }
 
     /// Returns a copy as [`Machine::share`] does, for the copy that continues the run: instructions that were decoded move to it. What this
     /// machine shows stays, and its next steps cost more.
-    pub fn hand_on(&mut self) -> Result<Machine, AllocError>
+    pub fn share_moving(&mut self) -> Result<Machine, AllocError>
         ensures same { self.new ≡ self.old }
         ensures copy { IfOk result (λ copy. (s : State) → Shows self.old s → Shows copy s) }
     {
-        let guest = self.guest.hand_on()?;
+        let guest = self.guest.share_moving()?;
         Ok(Machine {
             guest: Box::new(self.guest.alloc, guest)?,
         })

@@ -15,7 +15,7 @@ impl Guest {
     /// The step, if it executes an instruction of four bytes that was decoded recently. Returns whether it does.
     #[inline(always)]
     #[tactic(auto, unfolding(instructions::specs::Codes::code_of, crate::specs::Exec::uses_at, crate::specs::Exec::intake_at, crate::specs::Exec::outcome_at, crate::specs::Exec::effect_at, crate::specs::Exec::touched_at))]
-    fn perform_decoded(&mut self, setup: &Setup) -> Result<bool, AllocError>
+    fn step_once_decoded(&mut self, setup: &Setup) -> Result<bool, AllocError>
         ensures does { IfOk result (λ made. IsTrue made → DoesStep self.old self.new setup.now) }
         ensures fetched { IfOk result (λ made. IsTrue made → (touched_by self.old setup.now).fetch ≡ Some (span_at (core_of self.old).pc 4)) }
         ensures left { IfOk result (λ made. made ≡ false → self.new ≡ self.old) }
@@ -26,14 +26,14 @@ impl Guest {
         match self.decoded_here() {
             None => Ok(false),
             Some(instruction) => {
-                let _used = self.round(setup, 0, 4, instruction)?;
+                let _used = self.execute_decoded(setup, 0, 4, instruction)?;
                 self.count_step();
                 Ok(true)
             }
         }
     }
 
-    /// What [`Guest::perform_decoded`] does, for each state that is held.
+    /// What [`Guest::step_once_decoded`] does, for each state that is held.
     #[inline(always)]
     fn step_decoded(&mut self, setup: &Setup) -> Result<bool, AllocError>
         ensures holds { IfOk result (λ made. (s : State) → Holds self.old s → IsTrue made → Holds self.new (exec s setup.now)) }
@@ -42,7 +42,7 @@ impl Guest {
             → (touched_of s setup.now).fetch ≡ Some (span_at s.core.pc 4)) }
     {
         groups_grow();
-        let made = self.perform_decoded(setup)?;
+        let made = self.step_once_decoded(setup)?;
         Ok(made)
     }
 }

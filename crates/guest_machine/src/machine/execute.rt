@@ -71,7 +71,7 @@ impl Guest {
 
     /// The low bytes at an address and their undefined bits; the first inaccessible one is noted.
     #[inline(always)]
-    pub(super) fn take(&mut self, start: u32, width: Width) -> Result<Bits, AllocError>
+    pub(super) fn load_checked(&mut self, start: u32, width: Width) -> Result<Bits, AllocError>
         ensures notes { OnOk result (Notes self.old self.new (core_of self.old) (access_errors (core_of self.old) (ReadError (width_len width)) start (width_len width))) }
         ensures value { IfOk result (λ bits. bits.value ≡ little_word (window (bytes_of self.old) start (width_len width))) }
         ensures undef { IfOk result (λ bits. bits.undef ≡ taken_undef (core_of self.old) start (width_len width)) }
@@ -103,7 +103,7 @@ impl Guest {
     {
         let start = self.target(rs1, imm);
         self.test_value(rs1)?;
-        let loaded = self.take(start, width)?;
+        let loaded = self.load_checked(start, width)?;
         let value = extended(width, signed, loaded.value);
         let undef = extended(width, signed, loaded.undef);
         self.set_register(rd, Bits { value, undef });

@@ -9,7 +9,7 @@ ghost use Rattle.guest_machine.specs.Exec.{atomic_uses, no_intake, nothing, read
 ghost use Rattle.guest_machine.specs.Run.{pre};
 ghost use Rattle.guest_machine.specs.Shows.{core_of, bytes_of, Holds, Shows, has_raised};
 ghost use Rattle.guest_machine.specs.Spans.{span_at, IsCodeSpan};
-ghost use Rattle.guest_machine.specs.Doing.{touched_in, used_of, uses_by, touched_by, Does, DoesDeed, DoesRow, DoesRound, DoesStep, IsFetch, Sets};
+ghost use Rattle.guest_machine.specs.Doing.{touched_in, used_of, uses_by, touched_by, Does, DoesAction, DoesRow, DoesDecoded, DoesStep, IsFetch, Sets};
 
 use crate::hooks::Hooks;
 use crate::machine::fetching::Fetch;
@@ -272,7 +272,7 @@ impl Guest {
     /// Executes an instruction of this length, between the test of its code's undefined bits and the stack pointer rule.
     #[inline(always)]
     #[tactic(auto, using(crate::proofs::Showing::note_events_append))]
-    pub(super) fn round(
+    pub(super) fn execute_decoded(
         &mut self,
         setup: &Setup,
         undef: u32,
@@ -280,7 +280,7 @@ impl Guest {
         instruction: Instruction,
     ) -> Result<Used, AllocError>
         requires { undef ≡ fetch_undef (core_of self.old) len }
-        ensures does { OnOk result (DoesRound self.old self.new len (Some instruction) setup.now) }
+        ensures does { OnOk result (DoesDecoded self.old self.new len (Some instruction) setup.now) }
         ensures uses { IfOk result (λ used. used ≡ used_of (uses_by self.old (Some instruction) setup.now)) }
     {
         let stack_pointer = self.read_register(Register::new(2));
@@ -299,11 +299,11 @@ impl Guest {
         self.stop(Stop::Illegal);
     }
 
-    /// The same as [`Guest::round`] at a code that is no instruction.
+    /// The same as [`Guest::execute_decoded`] at a code that is no instruction.
     #[tactic(auto, using(crate::proofs::Showing::note_events_append))]
-    fn round_illegal(&mut self, setup: &Setup, undef: u32, len: u32) -> Result<(), AllocError>
+    fn execute_illegal(&mut self, setup: &Setup, undef: u32, len: u32) -> Result<(), AllocError>
         requires { undef ≡ fetch_undef (core_of self.old) len }
-        ensures does { OnOk result (DoesRound self.old self.new len None setup.now) }
+        ensures does { OnOk result (DoesDecoded self.old self.new len None setup.now) }
         ensures uses { OnOk result (uses_by self.old None setup.now ≡ nothing) }
     {
         let stack_pointer = self.read_register(Register::new(2));
@@ -313,15 +313,20 @@ impl Guest {
     }
 
     /// Decodes a code that may be fetched, and executes it.
-    fn round_anew(&mut self, setup: &Setup, code: Code, undef: u32) -> Result<Used, AllocError>
+    fn decode_and_execute(
+        &mut self,
+        setup: &Setup,
+        code: Code,
+        undef: u32,
+    ) -> Result<Used, AllocError>
         requires { IsFetch (core_of self.old) (bytes_of self.old) (Fetch.Whole code undef) }
-        ensures does { OnOk result (DoesRound self.old self.new (len_of code) (row_of_code code) setup.now) }
+        ensures does { OnOk result (DoesDecoded self.old self.new (len_of code) (row_of_code code) setup.now) }
         ensures uses { IfOk result (λ used. used ≡ used_of (uses_by self.old (row_of_code code) setup.now)) }
     {
         match self.decode(code, undef) {
-            Some(instruction) => self.round(setup, undef, code.len(), instruction),
+            Some(instruction) => self.execute_decoded(setup, undef, code.len(), instruction),
             None => {
-                self.round_illegal(setup, undef, code.len())?;
+                self.execute_illegal(setup, undef, code.len())?;
                 Ok(NOTHING)
             }
         }
@@ -330,9 +335,9 @@ impl Guest {
     /// The step if no function of the heap begins at pc, and the code there is still to be decoded, or can't be fetched.
     #[inline(never)]
     #[tactic(auto, unfolding(instructions::specs::Codes::code_of, crate::specs::Exec::uses_at, crate::specs::Exec::intake_at, crate::specs::Exec::outcome_at, crate::specs::Exec::touched_at))]
-    fn perform_fetched(&mut self, setup: &Setup) -> Result<Touched, AllocError>
+    fn fetch_and_execute(&mut self, setup: &Setup) -> Result<Touched, AllocError>
         requires { called_here (core_of self.old) setup.now.hooks ≡ None }
-        ensures does { OnOk result (DoesDeed self.old self.new setup.now) }
+        ensures does { OnOk result (DoesAction self.old self.new setup.now) }
         ensures touched { IfOk result (λ touched. touched ≡ touched_by self.old setup.now) }
         ensures code { IfOk result (λ touched. IfSome touched.fetch IsCodeSpan) }
     {
@@ -347,7 +352,7 @@ impl Guest {
                 Ok(NOTHING.touched_at(pc, 2))
             }
             Fetch::Whole(code, undef) => {
-                let used = self.round_anew(setup, code, undef)?;
+                let used = self.decode_and_execute(setup, code, undef)?;
                 Ok(used.touched_at(pc, code.len()))
             }
         }
@@ -356,40 +361,40 @@ impl Guest {
     /// The step if no function of the heap begins at pc, and no word there was decoded recently.
     #[inline(never)]
     #[tactic(auto, unfolding(instructions::specs::Codes::code_of, crate::specs::Exec::uses_at, crate::specs::Exec::intake_at, crate::specs::Exec::outcome_at, crate::specs::Exec::touched_at))]
-    fn perform_anew(&mut self, setup: &Setup) -> Result<Touched, AllocError>
+    fn step_on_miss(&mut self, setup: &Setup) -> Result<Touched, AllocError>
         requires { called_here (core_of self.old) setup.now.hooks ≡ None }
-        ensures does { OnOk result (DoesDeed self.old self.new setup.now) }
+        ensures does { OnOk result (DoesAction self.old self.new setup.now) }
         ensures touched { IfOk result (λ touched. touched ≡ touched_by self.old setup.now) }
         ensures code { IfOk result (λ touched. IfSome touched.fetch IsCodeSpan) }
     {
         let pc = self.pc;
         match self.decoded_half() {
-            None => self.perform_fetched(setup),
+            None => self.fetch_and_execute(setup),
             Some(instruction) => {
-                let used = self.round(setup, 0, 2, instruction)?;
+                let used = self.execute_decoded(setup, 0, 2, instruction)?;
                 Ok(used.touched_at(pc, 2))
             }
         }
     }
 
-    /// The same.
+    /// Calls [`Guest::step_on_miss`], which is out of line, and passes on what it returns.
     #[inline(always)]
-    fn begin_anew(&mut self, setup: &Setup) -> Result<Touched, AllocError>
+    fn missed(&mut self, setup: &Setup) -> Result<Touched, AllocError>
         requires { called_here (core_of self.old) setup.now.hooks ≡ None }
-        ensures does { OnOk result (DoesDeed self.old self.new setup.now) }
+        ensures does { OnOk result (DoesAction self.old self.new setup.now) }
         ensures touched { IfOk result (λ touched. touched ≡ touched_by self.old setup.now) }
         ensures code { IfOk result (λ touched. IfSome touched.fetch IsCodeSpan) }
     {
-        let touched = self.perform_anew(setup)?;
+        let touched = self.step_on_miss(setup)?;
         Ok(touched)
     }
 
     /// Calls the function of the heap that begins at pc.
     #[inline(always)]
     #[tactic(auto, unfolding(instructions::specs::Codes::code_of, crate::specs::Exec::uses_at, crate::specs::Exec::intake_at, crate::specs::Exec::outcome_at, crate::specs::Exec::touched_at))]
-    fn perform_by_name(&mut self, function: Hook, setup: &Setup) -> Result<Touched, AllocError>
+    fn step_by_name(&mut self, function: Hook, setup: &Setup) -> Result<Touched, AllocError>
         requires { called_here (core_of self.old) setup.now.hooks ≡ Some function }
-        ensures does { OnOk result (DoesDeed self.old self.new setup.now) }
+        ensures does { OnOk result (DoesAction self.old self.new setup.now) }
         ensures touched { IfOk result (λ touched. touched ≡ touched_by self.old setup.now) }
         ensures code { IfOk result (λ touched. IfSome touched.fetch IsCodeSpan) }
     {
@@ -400,13 +405,13 @@ impl Guest {
     /// The step if no instruction may begin at pc, or the machine doesn't run: none that counts.
     #[inline(always)]
     #[tactic(auto, unfolding(crate::specs::Exec::called_here, crate::specs::Exec::effect_at))]
-    fn perform_unready(&mut self, setup: &Setup) -> Result<Touched, AllocError>
+    fn step_unready(&mut self, setup: &Setup) -> Result<Touched, AllocError>
         requires { is_ready (core_of self.old) ≡ false }
         ensures does { OnOk result (DoesStep self.old self.new setup.now) }
         ensures touched { IfOk result (λ touched. touched ≡ touched_by self.old setup.now) }
         ensures code { IfOk result (λ touched. IfSome touched.fetch IsCodeSpan) }
     {
-        self.begin_anew(setup)
+        self.missed(setup)
     }
 
     /// Counts a step.
@@ -421,26 +426,26 @@ impl Guest {
     /// of the three ways counts the step itself, so that what they return isn't taken apart for it.
     #[inline(always)]
     #[tactic(auto, unfolding(instructions::specs::Codes::code_of, crate::specs::Exec::uses_at, crate::specs::Exec::intake_at, crate::specs::Exec::outcome_at, crate::specs::Exec::effect_at, crate::specs::Exec::touched_at))]
-    fn perform_ready(&mut self, setup: &Setup) -> Result<Touched, AllocError>
+    fn step_ready(&mut self, setup: &Setup) -> Result<Touched, AllocError>
         requires { is_ready (core_of self.old) ≡ true }
         ensures does { OnOk result (DoesStep self.old self.new setup.now) }
         ensures touched { IfOk result (λ touched. touched ≡ touched_by self.old setup.now) }
         ensures code { IfOk result (λ touched. IfSome touched.fetch IsCodeSpan) }
     {
         if let Some(function) = self.named_here(&setup.hooks) {
-            let touched = self.perform_by_name(function, setup)?;
+            let touched = self.step_by_name(function, setup)?;
             self.count_step();
             return Ok(touched);
         }
         let pc = self.pc;
         match self.decoded_here() {
             None => {
-                let touched = self.begin_anew(setup)?;
+                let touched = self.missed(setup)?;
                 self.count_step();
                 Ok(touched)
             }
             Some(instruction) => {
-                let used = self.round(setup, 0, 4, instruction)?;
+                let used = self.execute_decoded(setup, 0, 4, instruction)?;
                 self.count_step();
                 Ok(used.touched_at(pc, 4))
             }
@@ -449,15 +454,15 @@ impl Guest {
 
     /// Makes a step, or halts. Returns which bytes that read or wrote. Asks only once whether an instruction may begin at pc.
     #[inline(always)]
-    fn perform(&mut self, setup: &Setup) -> Result<Touched, AllocError>
+    fn step_once(&mut self, setup: &Setup) -> Result<Touched, AllocError>
         ensures does { OnOk result (DoesStep self.old self.new setup.now) }
         ensures touched { IfOk result (λ touched. touched ≡ touched_by self.old setup.now) }
         ensures code { IfOk result (λ touched. IfSome touched.fetch IsCodeSpan) }
     {
         if !self.is_ready() {
-            return self.perform_unready(setup);
+            return self.step_unready(setup);
         }
-        self.perform_ready(setup)
+        self.step_ready(setup)
     }
 
     /// Forgets that the step before raised an error.
@@ -469,7 +474,7 @@ impl Guest {
         self.noted.raised = false;
     }
 
-    /// What [`Guest::perform`] does, for each state that is held.
+    /// What [`Guest::step_once`] does, for each state that is held.
     #[inline(always)]
     pub(super) fn step_on(&mut self, setup: &Setup) -> Result<Touched, AllocError>
         ensures holds { OnOk result ((s : State) → Holds self.old s → Holds self.new (exec s setup.now)) }
@@ -477,11 +482,11 @@ impl Guest {
         ensures code { IfOk result (λ t. IfSome t.fetch IsCodeSpan) }
     {
         groups_grow();
-        let touched = self.perform(setup)?;
+        let touched = self.step_once(setup)?;
         Ok(touched)
     }
 
-    /// The same, and whether an error was raised.
+    /// What [`Guest::step_once`] does, for each state that is held. Notes whether an error was raised.
     #[inline(always)]
     fn step(&mut self, setup: &Setup) -> Result<Touched, AllocError>
         ensures holds { OnOk result ((s : State) → Holds self.old s → Holds self.new (exec s setup.now)) }
@@ -491,7 +496,7 @@ impl Guest {
     {
         groups_grow();
         self.begin_step();
-        let touched = self.perform(setup)?;
+        let touched = self.step_once(setup)?;
         Ok(touched)
     }
 

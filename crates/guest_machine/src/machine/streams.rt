@@ -3,7 +3,7 @@ ghost use Rattle.std.specs.Prelude.{◌≡◌, ◌≤◌, ℕ, List, [], false, 
 ghost use Rattle.guest_elf.specs.declared.hook.Hook.{Hook as HookOf};
 ghost use Rattle.guest_machine.specs.State.{State};
 ghost use Rattle.guest_machine.specs.Calls.{call_at};
-ghost use Rattle.guest_machine.specs.Exec.{call_asks, deed_at, intake_at, row_asks};
+ghost use Rattle.guest_machine.specs.Exec.{call_asks, action_at, intake_at, row_asks};
 ghost use Rattle.guest_machine.specs.Run.{pre};
 ghost use Rattle.guest_machine.specs.Shows.{core_of, bytes_of, Holds, Shows};
 ghost use Rattle.guest_machine.specs.Streams.{are_unlike, calls_out, idles_in, is_idle, is_refused, is_self_jump, needs_limits, needs_limits_in, needs_limits_row, refuses_row, refuses_write, IsQuietFor, Rests, rested, rested_core, row_in, sees_end, unknown_call, unknown_row};
@@ -53,7 +53,7 @@ impl Guest {
     /// The instruction that the next step carries out, if it carries one out.
     #[tactic(auto, unfolding(crate::specs::Streams::row_in))]
     fn row_here(&self, hooks: &Hooks) -> Option<Instruction>
-        ensures { result ≡ row_in (deed_at (core_of self.now) (bytes_of self.now) hooks.now) }
+        ensures { result ≡ row_in (action_at (core_of self.now) (bytes_of self.now) hooks.now) }
     {
         if self.called_here(hooks).is_some() {
             return None;
@@ -67,7 +67,7 @@ impl Guest {
     /// Whether the next step may be an ECALL. It isn't if the instruction at pc was decoded lately and is another one.
     #[inline(always)]
     fn may_call(&self) -> bool
-        ensures { result ≡ false → (hooks : List (ℕ × HookOf)) → calls_out (row_in (deed_at (core_of self.now) (bytes_of self.now) hooks)) ≡ false }
+        ensures { result ≡ false → (hooks : List (ℕ × HookOf)) → calls_out (row_in (action_at (core_of self.now) (bytes_of self.now) hooks)) ≡ false }
     {
         match self.decoded() {
             Some(instruction) => is_call(instruction),
@@ -78,7 +78,7 @@ impl Guest {
     /// The same if no word at pc was decoded lately.
     #[inline(never)]
     fn may_call_short(&self) -> bool
-        ensures { result ≡ false → (hooks : List (ℕ × HookOf)) → calls_out (row_in (deed_at (core_of self.now) (bytes_of self.now) hooks)) ≡ false }
+        ensures { result ≡ false → (hooks : List (ℕ × HookOf)) → calls_out (row_in (action_at (core_of self.now) (bytes_of self.now) hooks)) ≡ false }
     {
         match self.decoded_half() {
             Some(instruction) => is_call(instruction),
@@ -106,7 +106,7 @@ impl Guest {
     /// The number of bytes of the input that the next step asks for, if it asks for some.
     #[tactic(auto, unfolding(crate::specs::Exec::row_asks))]
     fn asks(&self, hooks: &Hooks) -> Option<u32>
-        ensures { result ≡ row_asks (core_of self.now) (row_in (deed_at (core_of self.now) (bytes_of self.now) hooks.now)) }
+        ensures { result ≡ row_asks (core_of self.now) (row_in (action_at (core_of self.now) (bytes_of self.now) hooks.now)) }
     {
         match self.row_here(hooks) {
             Some(Instruction::CallEnvironment) => self.call_asks(),
@@ -144,7 +144,7 @@ impl Guest {
     /// Whether the next step is a `write` that finds no room.
     #[tactic(auto, unfolding(crate::specs::Streams::refuses_row))]
     fn refuses_write(&self, hooks: &Hooks) -> bool
-        ensures { result ≡ refuses_row (core_of self.now) (row_in (deed_at (core_of self.now) (bytes_of self.now) hooks.now)) self.now.progress.output_len }
+        ensures { result ≡ refuses_row (core_of self.now) (row_in (action_at (core_of self.now) (bytes_of self.now) hooks.now)) self.now.progress.output_len }
     {
         match self.row_here(hooks) {
             Some(Instruction::CallEnvironment) => self.is_refused(),
@@ -155,7 +155,7 @@ impl Guest {
     /// The number of the call that the next step makes, if it isn't known.
     #[tactic(auto, unfolding(crate::specs::Calls::call_at, crate::specs::Streams::unknown_in, crate::specs::Streams::unknown_row))]
     fn unknown_call(&self, hooks: &Hooks) -> Option<u32>
-        ensures { result ≡ unknown_row (core_of self.now) (row_in (deed_at (core_of self.now) (bytes_of self.now) hooks.now)) }
+        ensures { result ≡ unknown_row (core_of self.now) (row_in (action_at (core_of self.now) (bytes_of self.now) hooks.now)) }
     {
         match self.row_here(hooks) {
             Some(Instruction::CallEnvironment) => {
@@ -191,7 +191,7 @@ impl Guest {
     /// Whether the next step does something else where nothing is said of how many bytes calls move.
     #[tactic(auto, unfolding(crate::specs::Streams::needs_limits_row))]
     fn needs_limits(&self, hooks: &Hooks) -> bool
-        ensures { result ≡ needs_limits_row (core_of self.now) (row_in (deed_at (core_of self.now) (bytes_of self.now) hooks.now)) self.now.progress.output_len }
+        ensures { result ≡ needs_limits_row (core_of self.now) (row_in (action_at (core_of self.now) (bytes_of self.now) hooks.now)) self.now.progress.output_len }
     {
         match self.row_here(hooks) {
             Some(Instruction::CallEnvironment) => self.call_needs_limits(),
@@ -202,7 +202,7 @@ impl Guest {
     /// Whether the next step is a jump to itself, whose code is defined.
     #[tactic(auto, unfolding(crate::specs::Streams::jumps_to_itself))]
     fn is_idle(&self, hooks: &Hooks) -> bool
-        ensures { result ≡ idles_in (core_of self.now) (deed_at (core_of self.now) (bytes_of self.now) hooks.now) }
+        ensures { result ≡ idles_in (core_of self.now) (action_at (core_of self.now) (bytes_of self.now) hooks.now) }
     {
         if self.called_here(hooks).is_some() {
             return false;

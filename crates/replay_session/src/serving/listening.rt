@@ -1,7 +1,7 @@
 //! A session that gets one line after another.
-use crate::serving::texts::Texts;
+use crate::serving::reply_texts::Texts;
 use crate::session::Session;
-use line_server::Listener;
+use line_protocol::Listener;
 use std::alloc::AllocError;
 
 /// A session, and the texts of its replies.

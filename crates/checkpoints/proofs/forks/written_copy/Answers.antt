@@ -7,5 +7,5 @@ use Rattle.checkpoints.proofs.forks.written_copy.Goals as goal
 
 pub returns-in_default : goal.returns-in_default
 returns-in_default c =
-    IfOk-weaker c.share_ready.result _ _ (λ copy shows s h. subst (λ (t : State). Shows copy t)
-    (sym (unwritten c.args.effect (c.in_default.not-Patch, c.in_default.not-Anew) s)) (shows s h)) c.share_ready.ensures
+    IfOk-weaker c.share_warm.result _ _ (λ copy shows s h. subst (λ (t : State). Shows copy t)
+    (sym (unwritten c.args.effect (c.in_default.not-Patch, c.in_default.not-Anew) s)) (shows s h)) c.share_warm.ensures

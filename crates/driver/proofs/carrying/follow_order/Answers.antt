@@ -1,9 +1,9 @@
 use Rattle.std.proofs.Common.{inl, inr, List, subst}
-use Rattle.ends.proofs.EndSteps.{passed-on}
+use Rattle.exit_status.proofs.EndSteps.{passed-on}
 use Rattle.driver.proofs.Stages.{does-certify, does-report, does-same, no-file, no-image, untouched, with-all}
 use Rattle.driver.proofs.Stages.{with-image}
 use Rattle.driver.specs.Carried.{Reports}
-use Rattle.ends.specs.Ends.{end_of}
+use Rattle.exit_status.specs.Ends.{end_of}
 use Rattle.driver.specs.Once.{IsReportOnce}
 use Rattle.driver.specs.declared.carrying.Action.TheVariants.{Session, Look, Tries}
 use Rattle.suppressions.specs.Rules.{Rule}

@@ -1,6 +1,6 @@
 use Rattle.std.proofs.Common.{◌≤◌, inl, inr, rules}
 use Rattle.std.proofs.KnownBytes.{Appends-nil}
-use Rattle.ends.proofs.EndSteps.{passed-on}
+use Rattle.exit_status.proofs.EndSteps.{passed-on}
 use Rattle.scenario.specs.Limits.{most_steps}
 use Rattle.driver.proofs.Stages.{no-file, no-image, with-program}
 use Rattle.driver.proofs.carrying.follow_sweep.Goals as goal

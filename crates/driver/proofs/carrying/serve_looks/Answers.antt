@@ -1,4 +1,4 @@
-use Rattle.ends.proofs.EndSteps.{passed-on}
+use Rattle.exit_status.proofs.EndSteps.{passed-on}
 use Rattle.driver.proofs.Stages.{viewed-fault}
 use Rattle.driver.proofs.carrying.serve_looks.Goals as goal
 

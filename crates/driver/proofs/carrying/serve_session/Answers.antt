@@ -1,4 +1,4 @@
-use Rattle.ends.proofs.EndSteps.{passed-on}
+use Rattle.exit_status.proofs.EndSteps.{passed-on}
 use Rattle.driver.proofs.Stages.{serves-fault}
 use Rattle.replay_session.specs.Replies.{Answers}
 use Rattle.replay_session.specs.Stages.{fresh}

@@ -1,4 +1,4 @@
-use Rattle.ends.proofs.EndSteps.{passed-on}
+use Rattle.exit_status.proofs.EndSteps.{passed-on}
 use Rattle.replay_session.specs.Turns.{opening}
 use Rattle.driver.proofs.Stages.{tried-done, tried-fault}
 use Rattle.driver.proofs.carrying.serve_tries.Goals as goal

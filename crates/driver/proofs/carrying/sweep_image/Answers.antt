@@ -4,9 +4,9 @@ use Rattle.std.proofs.Math.Path.{transport}
 use Rattle.command_line.specs.Orders.{rules_path}
 use Rattle.suppressions.specs.Texts.{faults, rules, IsLeast}
 use Rattle.program_files.specs.Files.{longest_text}
-use Rattle.ends.specs.Ends.{end_of}
+use Rattle.exit_status.specs.Ends.{end_of}
 use Rattle.sweep_tables.specs.Swept.{Sweeps}
-use Rattle.ends.proofs.EndSteps.{passed-on}
+use Rattle.exit_status.proofs.EndSteps.{passed-on}
 use Rattle.program_files.proofs.StreamSteps.{refused-rules, short-text}
 use Rattle.driver.proofs.carrying.sweep_image.Goals as goal
 

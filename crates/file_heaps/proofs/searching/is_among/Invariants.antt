@@ -1,7 +1,7 @@
 use Rattle.std.proofs.Common.{◌≡◌, length}
 use Rattle.std.specs.List.{list_any}
 use Rattle.std.specs.Str.{bytes_eq}
-use Rattle.text_parts.specs.Parts.{parts}
+use Rattle.texts.specs.Parts.{parts}
 use Rattle.file_heaps.proofs.searching.is_among.Given as goal
 
 abbrev pub invariant-loop-part : goal.invariant-loop-part

@@ -1,5 +1,5 @@
 use Rattle.std.proofs.Common.{◌≡◌, ◌⊎◌, IfOk, IfErr, Some, refl, subst}
-use Rattle.memory_map.specs.Regions.{is_heap_begin, is_stack_region, meet}
+use Rattle.memory_map.specs.Regions.{is_heap_begin, is_stack_region, overlap}
 use Rattle.memory_map.specs.declared.regions.Regions.{Regions}
 use Rattle.guest_elf.specs.File.{IsImageFor, refusal}
 use Rattle.guest_elf.specs.Profiles.{usual_limits}
@@ -10,7 +10,7 @@ use Rattle.guest_elf.proofs.Splitting.{usual_by}
 use Rattle.guest_elf.proofs.reading.read.Goals as goal
 
 pub invariant_of-read_for : goal.invariant_of-read_for
-unfolding is_heap_begin is_stack_region meet
+unfolding is_heap_begin is_stack_region overlap
 invariant_of-read_for c = record { sound = refl }
 
 pub returns-clause-image : goal.returns-clause-image

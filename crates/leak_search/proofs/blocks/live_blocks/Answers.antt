@@ -1,5 +1,5 @@
 use Rattle.std.proofs.Common.{ℕ, Option, Some, None, List, subst, sym, ◌∙◌}
-use Rattle.heap_blocks.specs.declared.block.Block.{Block}
+use Rattle.call_stacks.specs.declared.block.Block.{Block}
 use Rattle.guest_heap.specs.Heaps.{blocks_of}
 use Rattle.leak_search.specs.Gathering.{AreOrdered, GoesOn}
 use Rattle.leak_search.proofs.LiveSteps.{found_start, found_next, found_end, found_ordered}

@@ -1,6 +1,6 @@
 use Rattle.std.proofs.Common.{get_or, ap, sym, ◌∙◌, arith}
 use Rattle.std.proofs.lemmas.Option.{same_Some, slice_get-get_or}
-use Rattle.heap_blocks.specs.declared.block.Block.{Block}
+use Rattle.call_stacks.specs.declared.block.Block.{Block}
 use Rattle.leak_search.proofs.FindSteps.{points_below, points_past, finds_start, finds_inside}
 use Rattle.leak_search.proofs.finding.pointer_to.Goals as goal
 

@@ -1,6 +1,6 @@
 use Rattle.std.proofs.Common.{◌≡◌, List, length, ap, sym, ◌∙◌, subst}
 use Rattle.std.proofs.lemmas.Result.{IfOk-weaker}
-use Rattle.heap_blocks.specs.declared.block.Block.{Block}
+use Rattle.call_stacks.specs.declared.block.Block.{Block}
 use Rattle.leak_search.specs.Gathering.{scene_by}
 use Rattle.leak_search.specs.Search.{AreRecordsIn}
 use Rattle.leak_search.proofs.Joining.{roots_within, edges_within, all_records}

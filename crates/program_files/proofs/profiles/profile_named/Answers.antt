@@ -2,23 +2,23 @@ use Rattle.std.proofs.Common.{◌≡◌, ◌∙◌, ◌&&◌, not, if◌then◌e
 use Rattle.std.proofs.Common.{Option, Some}
 use Rattle.std.proofs.Common.{ap₂, refl, subst, sym, ℕ}
 use Rattle.std.proofs.lemmas.Bool.{true≢false}
-use Rattle.memory_map.specs.Regions.{are_regions, first_fault, is_heap_begin, is_stack_region, meet}
+use Rattle.memory_map.specs.Regions.{are_regions, first_fault, is_heap_begin, is_stack_region, overlap}
 use Rattle.memory_map.specs.declared.regions.Regions.{Regions}
 use Rattle.memory_map.specs.declared.regions.RegionsFault.TheVariants.{Heap, Stack, Meet}
 use Rattle.memory_map.specs.declared.regions.StackRegion.{StackRegion}
 use denote.Ref.{Bor}
 use Rattle.command_line.specs.Isas.{isa_named}
-use Rattle.command_line.specs.declared.order.ProfileWords.{ProfileWords}
-use Rattle.ends.proofs.EndSteps.{same-error}
-use Rattle.ends.specs.declared.ends.End.{End}
-use Rattle.ends.specs.declared.ends.End.TheVariants.{BadMostMoved, BadMostOutput}
+use Rattle.command_line.specs.declared.order.ProfileArgs.{ProfileArgs}
+use Rattle.exit_status.proofs.EndSteps.{same-error}
+use Rattle.exit_status.specs.declared.ends.End.{End}
+use Rattle.exit_status.specs.declared.ends.End.TheVariants.{BadMostMoved, BadMostOutput}
 use Rattle.program_files.specs.Profiles.{NoProfile, fault_in, heap_in, moved_in, output_in, stack_in}
 use Rattle.program_files.proofs.profiles.profile_named.Goals as goal
 
 -- regions that are sound have no fault
 sound-regions : (heap begin end : ℕ) → are_regions heap begin end ≡ true → first_fault heap begin end ≡ None
 unfolding first_fault
-sound-regions heap begin end sound = go (is_heap_begin heap) (is_stack_region begin end) (meet heap begin end) sound
+sound-regions heap begin end sound = go (is_heap_begin heap) (is_stack_region begin end) (overlap heap begin end) sound
   where
     go : (h s m : Bool) → h && (s && not m) ≡ true
         → (if not h then Some Heap else if not s then Some Stack else if m then Some Meet else None) ≡ None
@@ -27,20 +27,20 @@ sound-regions heap begin end sound = go (is_heap_begin heap) (is_stack_region be
     go true false m is = absurd (true≢false (sym is))
     go false s m is = absurd (true≢false (sym is))
 
-no-fault : (words : ProfileWords) (regions : Regions) (heap : ℕ) (stack : StackRegion) → regions.heap ≡ heap
+no-fault : (words : ProfileArgs) (regions : Regions) (heap : ℕ) (stack : StackRegion) → regions.heap ≡ heap
     → regions.stack ≡ stack → heap ≡ heap_in words.heap.now → stack ≡ stack_in words.stack.now
     → fault_in words ≡ None
 no-fault words regions heap stack at bounds is are =
     ap₂ (λ h (s : StackRegion). first_fault h s.begin s.end) (sym is ∙ sym at) (sym are ∙ sym bounds)
     ∙ sound-regions regions.heap regions.stack.begin regions.stack.end regions.sound
 
-bad-moved : (words : ProfileWords) (end : End)
+bad-moved : (words : ProfileArgs) (end : End)
     → (text : Bor (List ℕ)) × (words.most_moved ≡ Some text) × (moved_in words.most_moved ≡ None)
     × (end ≡ BadMostMoved text)
     → IsSome (isa_named words.isa.now) → fault_in words ≡ None → NoProfile words end
 bad-moved words end (text, given, none, is) isa fine = subst (NoProfile words) (sym is) (given, isa, fine, none)
 
-bad-output : (words : ProfileWords) (end : End)
+bad-output : (words : ProfileArgs) (end : End)
     → (text : Bor (List ℕ)) × (words.most_output ≡ Some text) × (output_in words.most_output ≡ None)
     × (end ≡ BadMostOutput text)
     → IsSome (isa_named words.isa.now) → fault_in words ≡ None → IsSome (moved_in words.most_moved)

@@ -1,8 +1,8 @@
 use Rattle.std.proofs.Common.{◌≡◌, ◌≤◌, ◌∙◌, length, sym, List, [], ℕ, Err, ap, option_map, subst}
 use Rattle.program_files.proofs.Fronts.{bad-text, has-rules}
-use Rattle.ends.proofs.EndSteps.{same-error}
+use Rattle.exit_status.proofs.EndSteps.{same-error}
 use Rattle.program_files.proofs.StreamSteps.{no-text}
-use Rattle.ends.specs.declared.ends.End.TheVariants.{Suppressions}
+use Rattle.exit_status.specs.declared.ends.End.TheVariants.{Suppressions}
 use Rattle.program_files.specs.Files.{longest_text}
 use Rattle.suppressions.specs.Texts.{faults, rules as rules_of, IsLeast}
 use Rattle.program_files.proofs.reading.read_suppressions.Goals as goal

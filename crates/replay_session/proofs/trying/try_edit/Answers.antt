@@ -11,8 +11,8 @@ use Rattle.replay_session.specs.Trying.{IsTried}
 use Rattle.replay_session.proofs.TrySteps.{of-setup}
 use Rattle.replay_session.proofs.trying.try_edit.Goals as goal
 
-pub follow-tried-requires-clause-of : goal.follow-tried-requires-clause-of
-follow-tried-requires-clause-of c =
+pub run_from_fork-tried-requires-clause-of : goal.run_from_fork-tried-requires-clause-of
+run_from_fork-tried-requires-clause-of c =
     subst IsOfSetup (sym c.effect-effect.ensures.effect) (of-setup c.args.scenario.now c.args.edit c.requires.input)
 
 pub give-requires : goal.give-requires
@@ -24,21 +24,22 @@ pub returns-clause-tried : goal.returns-clause-tried
 returns-clause-tried c =
     let sc = c.args.scenario.now in
     let edit = c.args.edit in
-    let seed = c.requires.seed in
+    let fork_point = c.requires.fork_point in
     let after : c.edit-2.new.self ≡ (row sc edit).after = c.in_ok-edit.ensures.ok in
     let effect : c.effect-effect.result ≡ (row sc edit).effect = c.effect-effect.ensures.effect in
     let leads : LeadsTo (row sc edit).effect (run_of sc) (run_of (row sc edit).after) =
     c.edits_follow.ensures sc edit c.requires.taken in
-    let known : IsSides (first_state sc) sc.setup sc.marks c.args.seed.now.fork.step c.args.range
-    c.args.seed.now.sides.items =
-    of-known (first_state sc) sc.setup sc.marks c.args.seed.now.fork.step c.args.range c.args.seed.now.sides.items
-    seed.sides in
-    let copied : c.in_ok-sides.sides.items ≡ c.args.seed.now.sides.items = search rules in
-    IfOk-weaker c.follow-tried.result _ _
+    let known : IsSides (first_state sc) sc.setup sc.marks c.args.fork_point.now.fork.step c.args.range
+    c.args.fork_point.now.sides.items =
+    of-known (first_state sc) sc.setup sc.marks c.args.fork_point.now.fork.step c.args.range
+    c.args.fork_point.now.sides.items fork_point.sides in
+    let copied : c.in_ok-sides.sides.items ≡ c.args.fork_point.now.sides.items = search rules in
+    IfOk-weaker c.run_from_fork-tried.result _ _
     (λ tried told. subst (λ s. IsTried s c.args.range tried) after
     (told (run_of sc) sc.step
     (subst (λ s. LeadsTo c.effect-effect.result (run_of sc) (run_of s)) (sym after)
     (subst (λ e. LeadsTo e (run_of sc) (run_of (row sc edit).after)) (sym effect) leads))
-    (subst (λ e. IsForkFor e (run_of sc) sc.step c.args.seed.now.fork) (sym effect) seed.fork)
-    (subst (IsSides (first_state sc) sc.setup sc.marks c.args.seed.now.fork.step c.args.range) (sym copied) known)))
-    c.follow-tried.ensures
+    (subst (λ e. IsForkFor e (run_of sc) sc.step c.args.fork_point.now.fork) (sym effect) fork_point.fork)
+    (subst (IsSides (first_state sc) sc.setup sc.marks c.args.fork_point.now.fork.step c.args.range) (sym copied)
+    known)))
+    c.run_from_fork-tried.ensures

@@ -1,5 +1,5 @@
 use Rattle.std.proofs.Common.{ap, inr, sym, ◌∙◌}
-use Rattle.ends.proofs.EndSteps.{same-error}
+use Rattle.exit_status.proofs.EndSteps.{same-error}
 use Rattle.sweep_plans.specs.Planned.{bytes_by, bytes_meant}
 use Rattle.sweep_plans.proofs.planning.plan_of.Goals as goal
 

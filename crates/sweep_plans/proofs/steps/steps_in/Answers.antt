@@ -1,5 +1,5 @@
 use Rattle.std.proofs.Common.{inl, inr}
-use Rattle.ends.proofs.EndSteps.{same-error}
+use Rattle.exit_status.proofs.EndSteps.{same-error}
 use Rattle.sweep_plans.proofs.steps.steps_in.Goals as goal
 
 pub returns-in_err-at-clause-err : goal.returns-in_err-at-clause-err

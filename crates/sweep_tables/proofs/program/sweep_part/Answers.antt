@@ -1,6 +1,6 @@
 use Rattle.std.proofs.Common.{◌≡◌, ◌-◌, inl, ap, ap₂, refl, sym, ◌∙◌, subst}
 use Rattle.std.proofs.KnownBytes.{Appends-nil}
-use Rattle.ends.specs.Ends.{end_of}
+use Rattle.exit_status.specs.Ends.{end_of}
 use Rattle.sweep_plans.specs.Planned.{first_place, part_from, part_to}
 use Rattle.sweep_tables.specs.Swept.{case_with}
 use Rattle.sweep_tables.specs.Swept.{Writes}

@@ -1,7 +1,7 @@
 use Rattle.std.proofs.Common.{◌≡◌, rules, inl, inr, ◌∙◌, subst, length}
 use Rattle.std.proofs.KnownBytes.{Appends-nil}
 use Rattle.std.specs.Prelude.{vec_len}
-use Rattle.ends.proofs.EndSteps.{passed-on}
+use Rattle.exit_status.proofs.EndSteps.{passed-on}
 use Rattle.sweep_plans.specs.Planned.{HasNoPlan, IsPlanOf}
 use Rattle.sweep_tables.proofs.program.sweep_program.Goals as goal
 

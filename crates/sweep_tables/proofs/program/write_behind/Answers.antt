@@ -1,6 +1,6 @@
 use Rattle.std.proofs.Common.{◌-◌, subst, sym}
 use Rattle.sweep_tables.specs.Swept.{Writes}
-use Rattle.ends.proofs.EndSteps.{passed-on}
+use Rattle.exit_status.proofs.EndSteps.{passed-on}
 use Rattle.sweep_tables.proofs.TableSteps.{reached-first, stops-beginning}
 use Rattle.sweep_tables.proofs.program.write_behind.Goals as goal
 

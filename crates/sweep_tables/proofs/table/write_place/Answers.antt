@@ -1,7 +1,7 @@
 use Rattle.std.proofs.Common.{sym, subst, arith}
 use Rattle.std.proofs.lemmas.Result.{IfErr-weaker, on_ok_weaker}
 use Rattle.std.specs.Io.KnownBytes.{Appends}
-use Rattle.ends.specs.Ends.{AppendsFront}
+use Rattle.exit_status.specs.Ends.{AppendsFront}
 use Rattle.sweep_tables.specs.Swept.{Writes}
 use Rattle.sweep_tables.proofs.TableSteps.{reached-more, stops-short, stops-writing}
 use Rattle.sweep_tables.proofs.table.write_place.Goals as goal

@@ -1,6 +1,6 @@
 use Rattle.std.proofs.Common.{◌≡◌, ◌+◌, ◌-◌, subst, arith}
 use Rattle.sweep_tables.specs.Swept.{Reached}
-use Rattle.ends.proofs.EndSteps.{same-error}
+use Rattle.exit_status.proofs.EndSteps.{same-error}
 use Rattle.sweep_tables.proofs.table.write_places.Goals as goal
 
 pub returns-in_err-write_place-clause-err : goal.returns-in_err-write_place-clause-err

@@ -1,9 +1,9 @@
 use Rattle.std.proofs.Common.{◌-◌, sym, subst, arith}
 use Rattle.std.proofs.lemmas.Result.{IfErr-weaker, on_ok_weaker}
 use Rattle.std.specs.Io.KnownBytes.{Appends}
-use Rattle.ends.specs.Ends.{AppendsFront}
+use Rattle.exit_status.specs.Ends.{AppendsFront}
 use Rattle.sweep_tables.specs.Swept.{Writes}
-use Rattle.ends.proofs.EndSteps.{passed-on}
+use Rattle.exit_status.proofs.EndSteps.{passed-on}
 use Rattle.sweep_tables.proofs.TableSteps.{end-by, stops-ending, stops-short, writes-all}
 use Rattle.sweep_tables.proofs.table.write_table.Goals as goal
 

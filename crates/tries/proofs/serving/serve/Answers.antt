@@ -18,4 +18,4 @@ returns-clause-fault g c =
     (g.W.Write.contents c.args.writer.now) _ (g.R.Read.remaining c.args.reader.now) _) c.serve.ensures.fault
 
 pub invariant_of-tries : goal.invariant_of-tries
-invariant_of-tries g c = record { seeded = c.serve.new.listener.seeded }
+invariant_of-tries g c = record { is_held = c.serve.new.listener.is_held }

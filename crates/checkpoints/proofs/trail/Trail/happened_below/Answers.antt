@@ -9,9 +9,9 @@ use Rattle.checkpoints.proofs.trail.Trail.happened_below.Goals as goal
 place-held : (from before n : ℕ) → from < before → 0 < n → 1024 * (before / 1024) ≤ 1024 * (n - 1) → from / 1024 < n
 place-held from before n less some h = omega arith
 
-pub copy_of-requires : goal.copy_of-requires
+pub warm_copy-requires : goal.warm_copy-requires
 unfolding machines_of last_held
-copy_of-requires c =
+warm_copy-requires c =
     place-held c.args.from c.args.before _ (omega arith) (omega arith) (omega (arith, c.requires))
 
 pub returns-then-from-before : goal.returns-then-from-before

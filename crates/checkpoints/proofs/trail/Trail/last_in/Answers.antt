@@ -20,9 +20,9 @@ price : (old now new from end first : ℕ) → from < end → first ≡ max from
     → new ≤ now + (end - first) → new ≤ old + (end - floor (end - 1))
 price old now new from end first some e f g = omega arith
 
-pub copy_of-requires : goal.copy_of-requires
+pub warm_copy-requires : goal.warm_copy-requires
 unfolding machines_of last_held
-copy_of-requires c =
+warm_copy-requires c =
     place-held (c.args.end - 1) _ (omega arith) (omega (arith, c.requires.held))
 
 pub run_on-requires-clause-forward : goal.run_on-requires-clause-forward

@@ -8,7 +8,7 @@ pub returns : goal.returns
 returns c = record {
   next = λ start h. c.in_ok-found.ensures.next start
       (subst (λ (m : Machine). Shows m (pre start c.args.setup.now c.args.marks.now c.args.from))
-      (sym c.make_ready.ensures) (c.in_ok-machine.ensures.shows start h));
+      (sym c.copy_decoded_to.ensures) (c.in_ok-machine.ensures.shows start h));
   price = c.in_ok-found.ensures.price;
   right = c.in_ok-machine.ensures.right;
   held = c.in_ok-machine.ensures.held;

@@ -15,13 +15,13 @@ along new old start setup marks same right = subst (λ (t : Trail). IsRightFor t
 
 pub returns-clause-right : goal.returns-clause-right
 returns-clause-right c start right =
-    along _ _ start _ _ c.take_back.ensures.same
+    along _ _ start _ _ c.move_decoded_from.ensures.same
     (c.in_ok-machine.ensures.right start (along _ _ start _ _ c.copy_before.ensures.same right))
 
 pub returns-clause-shows : goal.returns-clause-shows
 returns-clause-shows c start right =
     subst (λ (m : Machine). Shows m (pre start c.args.setup.now c.args.marks.now c.args.step))
-    (sym c.take_back.ensures.other)
+    (sym c.move_decoded_from.ensures.other)
     (c.in_ok-machine.ensures.shows start (along _ _ start _ _ c.copy_before.ensures.same right))
 
 pub returns-in_err-machine-clause-right : goal.returns-in_err-machine-clause-right

@@ -1,5 +1,5 @@
 use Rattle.std.proofs.Common.{inl, inr, ap, sym, subst, ◌∙◌, arith}
-use Rattle.heap_blocks.specs.declared.block.Block.{Block}
+use Rattle.call_stacks.specs.declared.block.Block.{Block}
 use Rattle.guest_heap.specs.Heaps.{blocks_of}
 use Rattle.guest_heap.specs.Blocks.{IsKept, Holds, near_of}
 use Rattle.guest_heap.specs.Tables.{entries_of}

@@ -1,5 +1,5 @@
 use Rattle.std.proofs.Common.{sym, subst, arith, ◌<◌}
-use Rattle.heap_blocks.specs.declared.block.Block.{Block}
+use Rattle.call_stacks.specs.declared.block.Block.{Block}
 use Rattle.guest_heap.specs.Blocks.{IsFirstKept}
 use Rattle.guest_heap.specs.Heaps.{blocks_of, live_in, freed_in, first_in}
 use Rattle.guest_heap.specs.Tables.{entries_of}

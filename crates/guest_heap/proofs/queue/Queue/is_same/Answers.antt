@@ -1,7 +1,7 @@
 use Rattle.std.proofs.Common.{◌≡◌, ◌∙◌, List, drop, map, ap, sym, arith, length, ap₂}
 use Rattle.std.specs.declared.alloc.Global.{Global}
 use Rattle.std.specs.declared.rc.Rc.{Rc}
-use Rattle.heap_blocks.specs.declared.block.Block.{Block}
+use Rattle.call_stacks.specs.declared.block.Block.{Block}
 use Rattle.guest_heap.specs.declared.entry.Entry.{Entry}
 use Rattle.guest_heap.specs.Entries.{block_of}
 use Rattle.guest_heap.specs.Runs.{values}

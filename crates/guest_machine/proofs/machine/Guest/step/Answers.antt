@@ -3,7 +3,7 @@ use Rattle.guest_machine.proofs.machine.Guest.step.Goals as goal
 
 pub returns-clause-holds : goal.returns-clause-holds
 returns-clause-holds c s h =
-    holds_exec c.groups_grow.ensures.several c.begin_step.new.self c.perform.new.self c.args.setup.now
+    holds_exec c.groups_grow.ensures.several c.begin_step.new.self c.step_once.new.self c.args.setup.now
     c.in_ok-touched.ensures.does s (c.begin_step.ensures.holds s h)
 
 pub returns-clause-touched : goal.returns-clause-touched
@@ -13,5 +13,5 @@ returns-clause-touched c s h =
 
 pub returns-clause-raised : goal.returns-clause-raised
 returns-clause-raised c s h =
-    raised_exec c.begin_step.new.self c.perform.new.self c.args.setup.now c.in_ok-touched.ensures.does
+    raised_exec c.begin_step.new.self c.step_once.new.self c.args.setup.now c.in_ok-touched.ensures.does
     c.begin_step.ensures.none s (c.begin_step.ensures.holds s h)

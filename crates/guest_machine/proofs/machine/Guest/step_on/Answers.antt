@@ -3,7 +3,7 @@ use Rattle.guest_machine.proofs.machine.Guest.step_on.Goals as goal
 
 pub returns-clause-holds : goal.returns-clause-holds
 returns-clause-holds c s h =
-    holds_exec c.groups_grow.ensures.several c.args.self.now c.perform.new.self c.args.setup.now
+    holds_exec c.groups_grow.ensures.several c.args.self.now c.step_once.new.self c.args.setup.now
     c.in_ok-touched.ensures.does s h
 
 pub returns-clause-touched : goal.returns-clause-touched

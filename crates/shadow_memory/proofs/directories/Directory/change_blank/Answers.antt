@@ -12,7 +12,7 @@ returns-clause-ok c =
     let low : first ≤ c.args.number = room.0 in
     let change : ℕ → Cell → Cell = λ i cell. each_of c.args.each cell in
     let here : 4096 * (first + (c.args.number - first)) ≡ 4096 * c.args.number = omega arith in
-    c.sweep.ensures.swept ∙ ap (λ at. changed_from (cells_under c.reach-2.new.self) at (4096 * c.sweep.result) change)
-    here
-    ∙ ap (λ (f : ℕ → Cell). changed_from f (4096 * c.args.number) (4096 * c.sweep.result) change)
+    c.change_blank_pages.ensures.swept
+    ∙ ap (λ at. changed_from (cells_under c.reach-2.new.self) at (4096 * c.change_blank_pages.result) change) here
+    ∙ ap (λ (f : ℕ → Cell). changed_from f (4096 * c.args.number) (4096 * c.change_blank_pages.result) change)
     (c.reach-2.ensures.same ∙ c.reach.ensures.same)

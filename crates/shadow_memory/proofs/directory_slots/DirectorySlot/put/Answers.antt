@@ -1,6 +1,6 @@
 use Rattle.std.proofs.Common.{◌∙◌, ap, sym}
 use Rattle.shadow_memory.specs.Directories.{cells_under}
-use Rattle.shadow_memory.specs.Shelves.{cells_below}
+use Rattle.shadow_memory.specs.TopDirectories.{cells_below}
 use Rattle.shadow_memory.proofs.directory_slots.DirectorySlot.put.Goals as goal
 
 pub returns-clause-whole : goal.returns-clause-whole

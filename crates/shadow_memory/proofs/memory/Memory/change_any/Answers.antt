@@ -12,11 +12,11 @@ unfolding cells_of
 returns-clause-ok c =
     let n = count_of c.args.edit.now in
     let change = change_of c.args.edit.now in
-    let long : vec_len c.grow.new.self.shelves ≡ length c.grow.new.self.shelves.items = search rules in
-    let full : c.args.addr / 134217728 < vec_len c.grow.new.self.shelves = c.in_ok-grow.ensures.room in
-    let within : c.args.addr / 134217728 < length c.grow.new.self.shelves.items = omega arith in
+    let long : vec_len c.grow.new.self.tops ≡ length c.grow.new.self.tops.items = search rules in
+    let full : c.args.addr / 134217728 < vec_len c.grow.new.self.tops = c.in_ok-grow.ensures.room in
+    let within : c.args.addr / 134217728 < length c.grow.new.self.tops.items = omega arith in
     let fits : c.args.addr % 134217728 + n ≤ 134217728 = omega arith in
-    on_ok_weaker c.change.result (λ h. shelf-changed c.grow.new.self.shelves.items
+    on_ok_weaker c.change.result (λ h. shelf-changed c.grow.new.self.tops.items
     c.index_mut.result.now c.change.new.self
     c.args.addr n change within fits c.index_mut.ensures.value h
     ∙ ap (λ (f : ℕ → Cell). changed_from f c.args.addr n change) c.grow.ensures.same) c.change.ensures.ok
@@ -24,10 +24,10 @@ returns-clause-ok c =
 pub returns-clause-err : goal.returns-clause-err
 unfolding cells_of
 returns-clause-err c =
-    let long : vec_len c.grow.new.self.shelves ≡ length c.grow.new.self.shelves.items = search rules in
-    let full : c.args.addr / 134217728 < vec_len c.grow.new.self.shelves = c.in_ok-grow.ensures.room in
-    let within : c.args.addr / 134217728 < length c.grow.new.self.shelves.items = omega arith in
-    on_err_weaker c.change.result (λ h. shelf-kept c.grow.new.self.shelves.items
+    let long : vec_len c.grow.new.self.tops ≡ length c.grow.new.self.tops.items = search rules in
+    let full : c.args.addr / 134217728 < vec_len c.grow.new.self.tops = c.in_ok-grow.ensures.room in
+    let within : c.args.addr / 134217728 < length c.grow.new.self.tops.items = omega arith in
+    on_err_weaker c.change.result (λ h. shelf-kept c.grow.new.self.tops.items
     c.index_mut.result.now c.change.new.self c.args.addr within c.index_mut.ensures.value h
     ∙ c.grow.ensures.same)
     c.change.ensures.err

@@ -8,20 +8,20 @@ pub returns-then-number-len-clause-done : goal.returns-then-number-len-clause-do
 unfolding cells_of
 returns-then-number-len-clause-done c done =
     let n = count_of c.args.edit.now in
-    let long : vec_len c.args.self.now.shelves ≡ length c.args.self.now.shelves.items = search rules in
-    let within : c.args.addr / 134217728 < length c.args.self.now.shelves.items = omega
+    let long : vec_len c.args.self.now.tops ≡ length c.args.self.now.tops.items = search rules in
+    let within : c.args.addr / 134217728 < length c.args.self.now.tops.items = omega
     (arith, c.if-number-len.true, c.len.ensures, long) in
     let fits : c.args.addr % 134217728 + n ≤ 134217728 = omega arith in
-    shelf-changed c.args.self.now.shelves.items c.index_mut.result.now c.change_own.new.self
+    shelf-changed c.args.self.now.tops.items c.index_mut.result.now c.change_own.new.self
     c.args.addr n (change_of c.args.edit.now)
     within fits c.index_mut.ensures.value (c.change_own.ensures.done done)
 
 pub returns-then-number-len-clause-kept : goal.returns-then-number-len-clause-kept
 unfolding cells_of
 returns-then-number-len-clause-kept c same =
-    let shelves = c.args.self.now.shelves in
-    let long : vec_len shelves ≡ length shelves.items = search rules in
-    let within : c.args.addr / 134217728 < length shelves.items = omega
+    let tops = c.args.self.now.tops in
+    let long : vec_len tops ≡ length tops.items = search rules in
+    let within : c.args.addr / 134217728 < length tops.items = omega
     (arith, c.if-number-len.true, c.len.ensures, long) in
-    shelf-kept shelves.items c.index_mut.result.now c.change_own.new.self c.args.addr within c.index_mut.ensures.value
+    shelf-kept tops.items c.index_mut.result.now c.change_own.new.self c.args.addr within c.index_mut.ensures.value
     (c.change_own.ensures.kept same)

@@ -9,11 +9,11 @@ pub returns-then-number-len-clause-done : goal.returns-then-number-len-clause-do
 unfolding cells_of
 returns-then-number-len-clause-done c done =
     let n = length c.args.bytes.now in
-    let long : vec_len c.args.self.now.shelves ≡ length c.args.self.now.shelves.items = search rules in
-    let within : c.args.addr / 134217728 < length c.args.self.now.shelves.items = omega
+    let long : vec_len c.args.self.now.tops ≡ length c.args.self.now.tops.items = search rules in
+    let within : c.args.addr / 134217728 < length c.args.self.now.tops.items = omega
     (arith, c.if-number-len.true, c.len.ensures, long) in
     let fits : c.args.addr % 134217728 + n ≤ 134217728 = omega arith in
-    shelf-changed c.args.self.now.shelves.items c.index_mut.result.now c.put.new.self
+    shelf-changed c.args.self.now.tops.items c.index_mut.result.now c.put.new.self
     c.args.addr n (received (slice_index c.args.bytes.now))
     within fits c.index_mut.ensures.value (c.put.ensures.done done)
 
@@ -22,24 +22,24 @@ unfolding cells_of
 returns-then-number-len-clause-whole c done k low high =
     let n = length c.args.bytes.now in
     let addr = c.args.addr in
-    let shelves = c.args.self.now.shelves in
-    let long : vec_len shelves ≡ length shelves.items = search rules in
-    let within : addr / 134217728 < length shelves.items = omega
+    let tops = c.args.self.now.tops in
+    let long : vec_len tops ≡ length tops.items = search rules in
+    let within : addr / 134217728 < length tops.items = omega
     (arith, c.if-number-len.true, c.len.ensures, long) in
     let fits : addr % 4096 + n ≤ 4096 = c.requires in
     let here : k / 134217728 ≡ addr / 134217728 = omega (arith, low, high, fits) in
     let from : addr % 134217728 ≤ k % 134217728 = omega (arith, low, here) in
     let to : k % 134217728 < addr % 134217728 + n = omega (arith, high, here) in
     ap (λ (cell : Cell). cell.accessible)
-    (seen-there shelves.items c.index_mut.result.now addr k within c.index_mut.ensures.value here)
+    (seen-there tops.items c.index_mut.result.now addr k within c.index_mut.ensures.value here)
     ∙ c.put.ensures.whole done (k % 134217728) from to
 
 pub returns-then-number-len-clause-kept : goal.returns-then-number-len-clause-kept
 unfolding cells_of
 returns-then-number-len-clause-kept c same =
-    let shelves = c.args.self.now.shelves in
-    let long : vec_len shelves ≡ length shelves.items = search rules in
-    let within : c.args.addr / 134217728 < length shelves.items = omega
+    let tops = c.args.self.now.tops in
+    let long : vec_len tops ≡ length tops.items = search rules in
+    let within : c.args.addr / 134217728 < length tops.items = omega
     (arith, c.if-number-len.true, c.len.ensures, long) in
-    shelf-kept shelves.items c.index_mut.result.now c.put.new.self c.args.addr within c.index_mut.ensures.value
+    shelf-kept tops.items c.index_mut.result.now c.put.new.self c.args.addr within c.index_mut.ensures.value
     (c.put.ensures.kept same)

@@ -4,8 +4,8 @@ use Rattle.shadow_memory.proofs.memory.Memory.share.Goals as goal
 
 pub returns-clause-bytes : goal.returns-clause-bytes
 returns-clause-bytes c =
-    unchanged-bytes _ _ (same_of _ _ (same_shelves _ _ c.in_ok-shelves.ensures.cases.0))
+    unchanged-bytes _ _ (same_of _ _ (same_shelves _ _ c.in_ok-tops.ensures.cases.0))
 
 pub returns-clause-shadows : goal.returns-clause-shadows
 returns-clause-shadows c =
-    unchanged-shadows _ _ (same_of _ _ (same_shelves _ _ c.in_ok-shelves.ensures.cases.0))
+    unchanged-shadows _ _ (same_of _ _ (same_shelves _ _ c.in_ok-tops.ensures.cases.0))

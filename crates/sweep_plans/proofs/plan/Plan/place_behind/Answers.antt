@@ -1,6 +1,6 @@
 use Rattle.std.proofs.Common.{◌≡◌, ◌-◌, ◌*◌, None, ap, ap₂, sym, ◌∙◌}
 use Rattle.sweep_plans.specs.Plans.{count, nth, place_behind, place_behind_words, place_by}
-use Rattle.sweep_plans.specs.declared.plan.Place.TheVariants.{Word as WordAt}
+use Rattle.sweep_plans.specs.declared.plan.SweepPlace.TheVariants.{Word as WordAt}
 use Rattle.sweep_plans.proofs.PlaceSteps.{none-found}
 use Rattle.sweep_plans.proofs.plan.Plan.place_behind.Goals as goal
 

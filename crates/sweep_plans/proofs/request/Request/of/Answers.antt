@@ -1,5 +1,5 @@
 use Rattle.std.proofs.Common.{inl, inr, refl}
-use Rattle.ends.proofs.EndSteps.{same-error}
+use Rattle.exit_status.proofs.EndSteps.{same-error}
 use Rattle.sweep_plans.proofs.request.Request.of.Goals as goal
 
 pub returns-in_err-request-clause-err : goal.returns-in_err-request-clause-err

@@ -11,7 +11,7 @@ pub returns : goal.returns
 returns c =
     let old = c.args.self.now in
     let new : Landmarks = record old { machines = c.push.new.self } in
-    let machine = c.hand_on.new.self in
+    let machine = c.share_moving.new.self in
     let held : c.len.result ≡ length old.machines.items = search rules in
     let long : old.steps ≡ 16 * length old.machines.items = omega (arith, held) in
     let items = c.in_ok-push.ensures.items in

@@ -7,7 +7,7 @@ invariant_of-result c = record {
   right = c.in_ok-start.ensures.right;
   near = c.requires.near;
   unmarked = c.requires.unmarked;
-  scouted = tt;
+  continued = tt;
   starts = c.in_ok-start.ensures.starts;
   copied = c.requires.copied;
 }

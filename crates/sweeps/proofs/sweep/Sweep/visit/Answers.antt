@@ -6,7 +6,7 @@ use Rattle.scenario.specs.Limits.{most_steps}
 use Rattle.scenario.specs.Scenario.{Scenario, first_state, run_of}
 use Rattle.sweep_plans.specs.declared.change.Change.{Change}
 use Rattle.sweeps.specs.Covered.{AreCovered, range_of, table_of}
-use Rattle.sweeps.specs.Spots.{IsScout}
+use Rattle.sweeps.specs.Sites.{IsLastFork}
 use Rattle.sweeps.specs.Standing.{all_changes, changes_at, standing_in}
 use Rattle.sweeps.specs.Sweeps.{CountsMore, HasMet, scenario_of, tells_output}
 use Rattle.sweeps.proofs.ChangeSteps.{found-none, found-some, stands-there}
@@ -14,26 +14,26 @@ use Rattle.sweeps.proofs.CoverSteps.{covers-none, may-cover}
 use Rattle.sweeps.proofs.Steps.{counts-none, meets-from}
 use Rattle.sweeps.proofs.sweep.Sweep.visit.Goals as goal
 
-pub meet_spot-requires-clause-stands : goal.meet_spot-requires-clause-stands
-meet_spot-requires-clause-stands c =
+pub try_spot-requires-clause-stands : goal.try_spot-requires-clause-stands
+try_spot-requires-clause-stands c =
     let self = c.args.self.now in
-    let there = found-some self.scenario _ c.in_ok-found.found c.in-Some.spot c.in-Some.is c.in_ok-found.ensures.found
+    let there = found-some self.scenario _ c.in_ok-found.found c.in-Some.site c.in-Some.is c.in_ok-found.ensures.found
     in
-    (stands-there self.scenario c.args.plan.now self.near self.unmarked c.place-place.result c.in-Some.spot.standing
+    (stands-there self.scenario c.args.plan.now self.near self.unmarked c.place-place.result c.in-Some.site.standing
     there.0).0
 
-pub meet_spot-requires-clause-below : goal.meet_spot-requires-clause-below
-meet_spot-requires-clause-below c =
+pub try_spot-requires-clause-below : goal.try_spot-requires-clause-below
+try_spot-requires-clause-below c =
     let self = c.args.self.now in
-    let there = found-some self.scenario _ c.in_ok-found.found c.in-Some.spot c.in-Some.is c.in_ok-found.ensures.found
+    let there = found-some self.scenario _ c.in_ok-found.found c.in-Some.site c.in-Some.is c.in_ok-found.ensures.found
     in
-    (stands-there self.scenario c.args.plan.now self.near self.unmarked c.place-place.result c.in-Some.spot.standing
+    (stands-there self.scenario c.args.plan.now self.near self.unmarked c.place-place.result c.in-Some.site.standing
     there.0).1
 
-pub meet_spot-requires-clause-fork : goal.meet_spot-requires-clause-fork
-meet_spot-requires-clause-fork c =
+pub try_spot-requires-clause-fork : goal.try_spot-requires-clause-fork
+try_spot-requires-clause-fork c =
     let self = c.args.self.now in
-    (found-some self.scenario _ c.in_ok-found.found c.in-Some.spot c.in-Some.is c.in_ok-found.ensures.found).1
+    (found-some self.scenario _ c.in_ok-found.found c.in-Some.site c.in-Some.is c.in_ok-found.ensures.found).1
 
 pub returns-in_default-clause-met : goal.returns-in_default-clause-met
 unfolding HasMet scenario_of tells_output
@@ -54,14 +54,14 @@ unfolding HasMet scenario_of tells_output
 returns-clause-met c =
     let self = c.args.self.now in
     let plan = c.args.plan.now in
-    let there = found-some self.scenario _ c.in_ok-found.found c.in-Some.spot c.in-Some.is c.in_ok-found.ensures.found
+    let there = found-some self.scenario _ c.in_ok-found.found c.in-Some.site c.in-Some.is c.in_ok-found.ensures.found
     in
     let all = ap (all_changes self.scenario plan) (ap (standing_in self.scenario plan) (sym c.place-place.ensures)
     ∙ there.0) in
-    meets-from self.with_output self.scenario c.meet_spot.new.scenario self.counts c.meet_spot.new.counts _
-    c.args.out.now.items c.meet_spot.new.out.items c.meet_spot.ensures.same
-    (subst (λ (xs : List Change). CountsMore self.counts c.meet_spot.new.counts self.with_output self.scenario xs
-    c.args.out.now.items c.meet_spot.new.out.items) (sym all) c.in_ok-meet_spot.ensures.met)
+    meets-from self.with_output self.scenario c.try_spot.new.scenario self.counts c.try_spot.new.counts _
+    c.args.out.now.items c.try_spot.new.out.items c.try_spot.ensures.same
+    (subst (λ (xs : List Change). CountsMore self.counts c.try_spot.new.counts self.with_output self.scenario xs
+    c.args.out.now.items c.try_spot.new.out.items) (sym all) c.in_ok-try_spot.ensures.met)
 
 pub returns-in_default-clause-covered : goal.returns-in_default-clause-covered
 unfolding scenario_of range_of table_of
@@ -79,28 +79,28 @@ unfolding scenario_of range_of table_of
 returns-clause-covered c done fits are =
     let self = c.args.self.now in
     let plan = c.args.plan.now in
-    let new = c.meet_spot.new.table.items in
-    let there = found-some self.scenario _ c.in_ok-found.found c.in-Some.spot c.in-Some.is c.in_ok-found.ensures.found
+    let new = c.try_spot.new.table.items in
+    let there = found-some self.scenario _ c.in_ok-found.found c.in-Some.site c.in-Some.is c.in_ok-found.ensures.found
     in
     let is = ap (standing_in self.scenario plan) (sym c.place-place.ensures) ∙ there.0 in
-    let may = may-cover self.scenario plan c.args.place self.range done self.table.items c.in-Some.spot.standing fits
+    let may = may-cover self.scenario plan c.args.place self.range done self.table.items c.in-Some.site.standing fits
     are is in
     let more = done ++ changes_at self.scenario plan c.args.place in
-    subst (λ (s : Scenario). AreCovered s more self.range new) (sym c.meet_spot.ensures.same)
+    subst (λ (s : Scenario). AreCovered s more self.range new) (sym c.try_spot.ensures.same)
     (subst (λ (xs : List Change). AreCovered self.scenario (done ++ xs) self.range new)
     (sym (ap (all_changes self.scenario plan) is))
-    (c.in_ok-meet_spot.ensures.covers may done self.range.len are))
+    (c.in_ok-try_spot.ensures.covers may done self.range.len are))
 
 pub invariant_of-self-in-Break-branch-2 : goal.invariant_of-self-in-Break-branch-2
 invariant_of-self-in-Break-branch-2 c =
     let self = c.args.self.now in
-    let same = sym c.meet_spot.ensures.same in
+    let same = sym c.try_spot.ensures.same in
     record {
       loads = subst (λ (s : Scenario). LoadsAs c.find.new.trail s.image) same c.find.ensures.loads;
       right = subst (λ (s : Scenario). IsRightForRun c.find.new.trail (run_of s)) same c.find.ensures.right;
       near = subst (λ (s : Scenario). s.step ≤ most_steps) same self.near;
       unmarked = subst (λ (s : Scenario). s.marks ≡ []) same self.unmarked;
-      scouted = subst (λ (s : Scenario). IsScout s c.find.new.scout) same c.find.ensures.scout;
+      continued = subst (λ (s : Scenario). IsLastFork s c.find.new.last_fork) same c.find.ensures.last_fork;
       starts = subst (λ (s : Scenario). Shows self.start (first_state s)) same self.starts;
       copied = subst (λ (s : Scenario). self.input.items ≡ s.setup.input) same self.copied;
     }
@@ -108,13 +108,13 @@ invariant_of-self-in-Break-branch-2 c =
 pub invariant_of-self-2 : goal.invariant_of-self-2
 invariant_of-self-2 c =
     let self = c.args.self.now in
-    let same = sym c.meet_spot.ensures.same in
+    let same = sym c.try_spot.ensures.same in
     record {
       loads = subst (λ (s : Scenario). LoadsAs c.find.new.trail s.image) same c.find.ensures.loads;
       right = subst (λ (s : Scenario). IsRightForRun c.find.new.trail (run_of s)) same c.find.ensures.right;
       near = subst (λ (s : Scenario). s.step ≤ most_steps) same self.near;
       unmarked = subst (λ (s : Scenario). s.marks ≡ []) same self.unmarked;
-      scouted = c.keep_scout.ensures;
+      continued = c.keep_last_fork.ensures;
       starts = subst (λ (s : Scenario). Shows self.start (first_state s)) same self.starts;
       copied = subst (λ (s : Scenario). self.input.items ≡ s.setup.input) same self.copied;
     }

@@ -8,23 +8,23 @@ use Rattle.tries.specs.Stages.{stage_of_tries}
 use Rattle.tries.proofs.KeepSteps.{held-is, rested}
 use Rattle.tries.proofs.trying.Tries.run.Goals as goal
 
-pub take_seed-requires : goal.take_seed-requires
-take_seed-requires c =
+pub take_fork_point-requires : goal.take_fork_point-requires
+take_fork_point-requires c =
     subst IsOfSetup (sym c.effect-effect.ensures)
     (of-setup (scenario_of c.args.self.now.viewer.session) c.args.edit c.requires.input)
 
 pub invariant_of-self-2 : goal.invariant_of-self-2
 unfolding stage_of_tries
 invariant_of-self-2 c =
-    let seed = c.in_ok-held.ensures.seed in
+    let fork_point = c.in_ok-held.ensures.fork_point in
     record {
-      seeded = held-is _ _ c.args.self.now.range _ c.effect-effect.result c.in_ok-held.held
+      is_held = held-is _ _ c.args.self.now.range _ c.effect-effect.result c.in_ok-held.held
           (work_on (trail_of c.try_edit.new.self))
-          (ap (λ (turn : Turn). turn.scenario) (c.try_edit.ensures.turn ∙ c.take_seed.ensures.base.session.turn))
-          c.take_seed.ensures.base.range seed.0
+          (ap (λ (turn : Turn). turn.scenario) (c.try_edit.ensures.turn ∙ c.take_fork_point.ensures.base.session.turn))
+          c.take_fork_point.ensures.base.range fork_point.0
           (subst IsOfSetup (sym c.effect-effect.ensures)
-          (of-setup (scenario_of c.args.self.now.viewer.session) c.args.edit c.requires.input)) seed.1
+          (of-setup (scenario_of c.args.self.now.viewer.session) c.args.edit c.requires.input)) fork_point.1
           (rested (scenario_of c.args.self.now.viewer.session).step
-          (work_on (trail_of c.args.self.now.viewer.session)) (trail_of c.take_seed.new.self.viewer.session)
+          (work_on (trail_of c.args.self.now.viewer.session)) (trail_of c.take_fork_point.new.self.viewer.session)
           (trail_of c.try_edit.new.self) c.in_ok-held.ensures.work c.try_edit.ensures.trail);
     }

@@ -3,7 +3,7 @@ use Rattle.commands.specs.declared.edit.Edit.{Edit}
 use Rattle.replay_session.specs.Session.{scenario_of}
 use Rattle.replay_session.specs.Trying.{GivesInput}
 use Rattle.scenario.specs.Edits.{IsTaken}
-use Rattle.tallies.specs.Tallied.{entries_of}
+use Rattle.texts.specs.Tallied.{entries_of}
 use Rattle.tries.specs.Stages.{stage_of_tries}
 use Rattle.tries.specs.Tries.{gathered}
 use Rattle.tries.proofs.PlanSteps.{is-taken, kept-at-failure, kept-gathered, kept-so-far, told-so-far}

@@ -1,3 +1,0 @@
-pub mod Prepared
-pub mod Executed
-pub mod Overflows

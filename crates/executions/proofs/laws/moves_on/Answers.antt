@@ -1,5 +1,0 @@
-use Rattle.executions.proofs.Steps.{moves-on}
-use Rattle.executions.proofs.laws.moves_on.Goals as goal
-
-pub returns : goal.returns
-returns c = moves-on c.keeps_front.ensures c.end_stays.ensures

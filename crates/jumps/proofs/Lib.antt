@@ -1,4 +1,0 @@
-pub mod TouchSteps
-pub mod CourseSteps
-pub mod ApartSteps
-pub mod BackSteps

@@ -1,3 +1,0 @@
-pub mod Touches
-pub mod Courses
-pub mod OneProof

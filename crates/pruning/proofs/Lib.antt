@@ -1,0 +1,9 @@
+pub mod TouchSteps
+pub mod CourseSteps
+pub mod ApartSteps
+pub mod BackSteps
+pub mod Replaced
+pub mod RowSteps
+pub mod StepLaw
+pub mod RunLaw
+pub mod WordLaw

@@ -1,9 +1,0 @@
-use Rattle.std.proofs.Common.{◌≡◌, vec_len}
-use Rattle.shadow_memory.specs.Shelves.{cells_on}
-use Rattle.shadow_memory.proofs.shelves.Shelf.grow.Given as goal
-
-abbrev pub invariant-loop-i : goal.invariant-loop-i
-invariant-loop-i l = record {
-  same : cells_on l.self ≡ cells_on l.initial.self;
-  grown : vec_len l.self.directories ≡ l._i;
-}

@@ -1,0 +1,10 @@
+use Rattle.std.proofs.Common.{◌≡◌, take}
+use Rattle.sweeps.specs.Sweeps.{CountsMore}
+use Rattle.sweeps.proofs.meeting.try_each.Given as goal
+
+abbrev pub invariant-loop-change : goal.invariant-loop-change
+invariant-loop-change l = record {
+  same : l.scenario ≡ l.initial.scenario;
+  met : CountsMore l.initial.counts l.counts l.with_output l.initial.scenario (take l.change-index l.changes)
+      l.initial.out.items l.out.items;
+}

@@ -1,5 +1,0 @@
-use Rattle.tallies.proofs.CountSteps.{counts-texts, numbers-texts}
-use Rattle.tallies.proofs.laws.texts_are_counted.Goals as goal
-
-pub returns : goal.returns
-returns c = record { counts = counts-texts; numbers = numbers-texts }

@@ -1,0 +1,4 @@
+pub mod Executions
+pub mod Prepared
+pub mod Executed
+pub mod Overflows

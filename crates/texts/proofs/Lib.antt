@@ -1,0 +1,4 @@
+pub mod PartSteps
+pub mod Steps
+pub mod Grouping
+pub mod CountSteps

@@ -1,0 +1,4 @@
+pub mod Parts
+pub mod Tallied
+pub mod Distinct
+pub mod Laws
