@@ -9,6 +9,7 @@ import bisect
 import functools
 import itertools
 import os
+import re
 from typing import Iterator, List, Optional, Tuple
 
 from replaycheck.adopting.elf import Elf, beginning, tables
@@ -19,6 +20,7 @@ COMPRESSED, ZLIB, COMPRESSED_HEADER = 0x800, 1, 12  # the flag of a section, how
 LONG_OFFSETS = 0xFFFFFFFF  # the length of a unit that has another one of 8 bytes after it
 # The opcodes of a line program, those that begin with 0, and the bytes of these: one gives a sequence its address.
 COPY, ADVANCE_PC, ADVANCE_LINE, SET_FILE, SET_COLUMN, NEGATE_STATEMENT, CONST_ADD_PC, FIXED_ADVANCE_PC = 1, 2, 3, 4, 5, 6, 8, 9
+PROLOGUE_END = 10
 END_SEQUENCE, SET_ADDRESS = 1, 2
 BEGINNING, ENDING = bytes([0, 5, SET_ADDRESS]), bytes([0, 1, END_SEQUENCE])
 LONGEST_NUMBER = 10  # bytes of a number that has seven bits a byte
@@ -28,7 +30,7 @@ PATH, FOLDER = 1, 2  # what a column of a table of files has
 TEXT, LINE_TEXT, ANY_TEXT, NUMBER, BLOCK, SIZES = 0x08, 0x1F, 0x0E, 0x0F, 0x09, {0x0B: 1, 0x05: 2, 0x06: 4, 0x07: 8, 0x1E: 16}
 # What no compiler writes more of, so that a damaged file costs no more: units, files of one, bytes of a text, and rows of a sequence.
 MOST_UNITS, MOST_FILES, LONGEST_TEXT, MOST_ROWS = 1 << 16, 1 << 16, 1 << 12, 1 << 22
-AT_ONCE = 1 << 20  # bytes of a program that are executed before its rows are counted
+AT_ONCE = 1 << 12  # bytes of a program that are executed before its rows are counted
 NEAR = 16  # bytes from the end of a sequence to the opcode that gives the next one its address
 
 
@@ -198,6 +200,16 @@ class Unit:
         return zero if zero != first else None
 
 
+@functools.lru_cache(maxsize=None)
+def usual_rows(first):
+    """The rows as compilers write them, by the first opcode that is a row of its own: each has the byte after SET_FILE, that after
+    ADVANCE_LINE, the two after FIXED_ADVANCE_PC, and its opcode if that isn't COPY. What is no such row comes last, with all after it."""
+    small = rb"[\x00-\x7f]"
+    return re.compile(rb"(?s)(?:%c(%b))?(?:%c%b)?%c?%b?(?:%c(%b))?(?:%b(..))?(?:%c|([%b-\xff]))|(.+)" % (
+        SET_FILE, small, SET_COLUMN, small, NEGATE_STATEMENT, re.escape(bytes([PROLOGUE_END])), ADVANCE_LINE, small,
+        re.escape(bytes([FIXED_ADVANCE_PC])), COPY, re.escape(bytes([first]))))
+
+
 class Sequence:
     """Rows in the order of their addresses, read as far as they are asked for: `lines` has of each the number of the file, or None where no
     row so far names one, and the line. `at` is where the program goes on, or None at its end, and `address` how far it has come."""
@@ -211,7 +223,7 @@ class Sequence:
         """The row of an address, if the sequence has it and is as the standard has it."""
         try:
             while self.at is not None and self.address <= address:
-                self.read(address)
+                self.read()
         except (Malformed, IndexError):
             self.at, self.address, self.starts = None, 0, []
         if not self.starts or not self.starts[0] <= address < self.address:
@@ -219,41 +231,36 @@ class Sequence:
         file, line = self.lines[bisect.bisect_right(self.starts, address) - 1]
         return Row(self.unit.path(FIRST_FILE), line, self.unit.including) if file is None else Row(self.unit.path(file), line)
 
-    def read(self, until):
-        """Executes some of the program: until it has passed an address, or has executed an opcode that isn't among the usual ones."""
-        data, first, base, around, least = self.unit.data, self.unit.first, self.unit.base, self.unit.range, self.unit.least
-        at, address, line, file, starts, lines = self.at, self.address, self.line, self.file, self.starts, self.lines
-        stop, last = at + AT_ONCE, lines[-1][1] if lines and lines[-1][0] == file else None
-        while is_usual := address <= until and at < stop:
-            opcode = data[at]
-            at += 1
-            if opcode == SET_COLUMN and data[at] < 128:
-                at += 1
-            elif opcode == FIXED_ADVANCE_PC:
-                address += data[at] | data[at + 1] << 8
-                at += 2
-            elif opcode == ADVANCE_LINE and data[at] < 128:
-                line += data[at] if data[at] < 64 else data[at] - 128
-                at += 1
-            elif opcode == COPY or opcode >= first:
-                if opcode != COPY:
-                    address += (opcode - first) // around * least
-                    line += base + (opcode - first) % around
-                if line != last:
-                    last = line
-                    starts.append(address)
-                    lines.append((file, line))
-            elif opcode != NEGATE_STATEMENT:
-                at -= 1
-                break
-        self.at, self.address, self.line = at, address, line
-        if is_usual:
-            self.execute(Reader(data, at))
+    def read(self):
+        """Executes some of the program: the usual rows that come next, and then an opcode that isn't of one."""
+        base, around, least, first = self.unit.base, self.unit.range, self.unit.least, self.unit.first
+        address, line, file, starts, lines = self.address, self.line, self.file, self.starts, self.lines
+        found = usual_rows(first).findall(self.unit.data, self.at, self.at + AT_ONCE)
+        rest = found.pop()[-1] if found and found[-1][-1] else b""
+        last = lines[-1][1] if lines and lines[-1][0] == file else None
+        for other, advance, further, special, _ in found:
+            if other:
+                file, last = other[0], None
+            if advance:
+                line += advance[0] if advance[0] < 64 else advance[0] - 128
+            if further:
+                address += further[0] | further[1] << 8
+            if special:
+                address += (special[0] - first) // around * least
+                line += base + (special[0] - first) % around
+            if line != last:
+                last = line
+                starts.append(address)
+                lines.append((file, line))
+        self.at = min(self.at + AT_ONCE, len(self.unit.data)) - len(rest)
+        self.address, self.line, self.file = address, line, file
+        if rest or not found:
+            self.execute(Reader(self.unit.data, self.at))
         if len(starts) > MOST_ROWS or starts and self.address < starts[-1]:
             raise Malformed
 
     def execute(self, reader):
-        """Executes one opcode."""
+        """Executes one opcode, which isn't a row of its own."""
         opcode = reader.fixed(1)
         if opcode == ADVANCE_LINE:
             self.line += reader.signed()
@@ -263,6 +270,8 @@ class Sequence:
             self.file = reader.number()
         elif opcode == CONST_ADD_PC:
             self.address += (255 - self.unit.first) // self.unit.range * self.unit.least
+        elif opcode == FIXED_ADVANCE_PC:
+            self.address += reader.fixed(2)
         elif opcode:
             for _ in range(self.unit.operands[opcode]):
                 reader.number()
