@@ -47,7 +47,7 @@ fn enter_range(table: &mut Memory, range: Span, how: u8) -> Result<(), AllocErro
     Ok(())
 }
 
-/// Does the same if there is a range.
+/// Enters an access to each byte of a range, if there is one.
 fn enter(table: &mut Memory, range: Option<Span>, how: u8) -> Result<(), AllocError>
     requires shown { ShowsEntered table.old }
     ensures entered { OnOk result (AreEntered how range table.old table.new) }

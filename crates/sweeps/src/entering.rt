@@ -138,7 +138,8 @@ fn try_entering(
     Ok(())
 }
 
-/// Does the same for each of some changes.
+/// Applies each of some changes of a byte at a site, one at a time, counts the outcomes, appends the rows, and enters in a table what the runs
+/// execute. Afterwards the scenario is as it was.
 fn try_each_entering(
     scenario: &mut Scenario,
     counts: &mut Counts,
@@ -172,7 +173,8 @@ fn try_each_entering(
     Ok(())
 }
 
-/// Does the same for each change of a plan there.
+/// Applies each change of a plan to the byte at a site, one at a time, and enters in a table what the runs execute. Afterwards the scenario is
+/// as it was.
 fn try_byte(
     alloc: Global,
     scenario: &mut Scenario,
@@ -206,8 +208,9 @@ fn try_byte(
     )
 }
 
-/// Applies each change of a plan at a site, one at a time. If a table has rows and a byte is there, what the runs execute is entered in it.
-pub(crate) fn try_spot(
+/// Applies each change of a plan at a site, one at a time, counts the outcomes and appends the rows. If a table has rows and a byte is there,
+/// what the runs execute is entered in it. Afterwards the scenario is as it was.
+pub(crate) fn try_site(
     alloc: Global,
     scenario: &mut Scenario,
     counts: &mut Counts,

@@ -51,7 +51,8 @@ pub(crate) fn try_change_at(
     Ok(())
 }
 
-/// Does the same for each of some changes.
+/// Applies each of some changes at a site, one at a time, by a run, counts the outcomes, and appends the rows. Afterwards the scenario is as it
+/// was.
 pub(crate) fn try_each(
     scenario: &mut Scenario,
     counts: &mut Counts,
@@ -72,7 +73,8 @@ pub(crate) fn try_each(
     Ok(())
 }
 
-/// Does the same at the place of a site; at a step, outcomes that are recalled come without a run.
+/// Applies each of some changes at a site, one at a time, counts the outcomes, and appends the rows. At a step, outcomes that are recalled come
+/// without a run. Afterwards the scenario is as it was.
 fn try_there(
     alloc: Global,
     scenario: &mut Scenario,
@@ -107,7 +109,7 @@ fn try_there(
     try_each(scenario, counts, site, changes, with_output, out)
 }
 
-/// Does the same for each change of a plan there.
+/// Applies each change of a plan at a site, one at a time, counts the outcomes, and appends the rows. Afterwards the scenario is as it was.
 fn try_all(
     alloc: Global,
     scenario: &mut Scenario,
@@ -130,7 +132,8 @@ fn try_all(
     try_there(alloc, scenario, counts, site, &changes, with_output, out)
 }
 
-/// Does the same, and then for the bytes that the run reads later, and for the pairs there.
+/// Applies each change of a plan at a site, one at a time, then those of bytes that the run reads later, and of pairs of faults of which the
+/// first strikes there. Counts the outcomes, and appends the rows. Afterwards the scenario is as it was.
 pub(crate) fn try_place(
     alloc: Global,
     scenario: &mut Scenario,

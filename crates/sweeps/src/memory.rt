@@ -90,7 +90,7 @@ fn try_byte(
     try_turned(scenario, counts, site, turning, &changes, out)
 }
 
-/// Does the same for the four bytes of a word.
+/// Turns each bit of the four bytes of a word, one at a time, of those that the run reads later.
 fn try_word(
     scenario: &mut Scenario,
     counts: &mut Counts,
@@ -112,7 +112,7 @@ fn try_word(
     Ok(())
 }
 
-/// Does the same for all bytes, in ascending order of their addresses.
+/// Turns each bit of all bytes that the run reads later, one at a time, in ascending order of their addresses.
 fn try_bytes(
     scenario: &mut Scenario,
     counts: &mut Counts,

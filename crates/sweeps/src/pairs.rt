@@ -88,7 +88,7 @@ fn try_pair(
     count_pair(counts, first, later, &outcome, out)
 }
 
-/// Does the same if a fault may strike the later step. Returns the fork before it, given one before the step before it.
+/// Tries the pair with a later step if a fault may strike that. Returns the fork before it, given one before the step before it.
 fn try_later(
     scenario: &mut Scenario,
     counts: &mut Counts,
@@ -114,7 +114,8 @@ fn try_later(
     Ok(fork)
 }
 
-/// Does the same by the table of skips, without a run, if that has the outcome of the skip of the step after the later one.
+/// Counts the outcome of the pair with a later step, and appends its row, without a run, if the table of skips has the outcome of the skip of
+/// the step after it.
 fn try_foreseen(
     scenario: &Scenario,
     counts: &mut Counts,
@@ -142,7 +143,7 @@ fn try_foreseen(
     }
 }
 
-/// Does the same for each step from one on up to another.
+/// Counts the outcomes of the pairs with the steps from one on up to another that the table of skips has, and appends their rows.
 fn try_rest(
     scenario: &Scenario,
     counts: &mut Counts,
@@ -170,7 +171,7 @@ fn try_rest(
     Ok(())
 }
 
-/// Does the same for each later step below another.
+/// Tries the pair with each later step below another.
 fn try_until(
     scenario: &mut Scenario,
     counts: &mut Counts,

@@ -192,7 +192,8 @@ fn try_glitch(
     keep(&mut counts.recall, glitch, passing, outcome)
 }
 
-/// Does the same for a change at a site just before a step.
+/// Applies a change at a site just before a step, and no other edit, counts the outcome, and appends its row. Afterwards the scenario is as it
+/// was.
 fn try_change(
     alloc: Global,
     scenario: &mut Scenario,
@@ -225,7 +226,8 @@ fn try_change(
     }
 }
 
-/// Does the same for each of some changes just before a step.
+/// Applies each of some changes just before a step, one at a time, counts the outcomes, and appends the rows. Afterwards the scenario is as it
+/// was.
 pub(crate) fn try_changes(
     alloc: Global,
     scenario: &mut Scenario,
@@ -260,7 +262,8 @@ pub(crate) fn try_changes(
     Ok(())
 }
 
-/// Does the same after what is recalled has gone on to the step.
+/// Has what is recalled go on to a step; then applies each of some changes just before it, one at a time, counts the outcomes, and appends the
+/// rows. Afterwards the scenario is as it was.
 pub(crate) fn try_step(
     alloc: Global,
     scenario: &mut Scenario,

@@ -11,7 +11,7 @@ ghost use Rattle.sweeps.specs.Sites.{IsLastFork};
 
 use crate::beginning::{scenario_at, unedited_run};
 use crate::counting::Counts;
-use crate::entering::{try_spot, unedited_table};
+use crate::entering::{try_site, unedited_table};
 use crate::sites::{Origin, find, keep_last_fork};
 use checkpoints::{Fork, Sides, Trail};
 use guest_elf::Image;
@@ -144,7 +144,7 @@ impl<'a> Sweep<'a> {
         let Some(site) = found else {
             return Ok(());
         };
-        try_spot(
+        try_site(
             self.alloc,
             &mut self.scenario,
             &mut self.counts,

@@ -14,24 +14,24 @@ use Rattle.sweeps.proofs.CoverSteps.{covers-none, may-cover}
 use Rattle.sweeps.proofs.Steps.{counts-none, meets-from}
 use Rattle.sweeps.proofs.sweep.Sweep.visit.Goals as goal
 
-pub try_spot-requires-clause-stands : goal.try_spot-requires-clause-stands
-try_spot-requires-clause-stands c =
+pub try_site-requires-clause-stands : goal.try_site-requires-clause-stands
+try_site-requires-clause-stands c =
     let self = c.args.self.now in
     let there = found-some self.scenario _ c.in_ok-found.found c.in-Some.site c.in-Some.is c.in_ok-found.ensures.found
     in
     (stands-there self.scenario c.args.plan.now self.near self.unmarked c.place-place.result c.in-Some.site.standing
     there.0).0
 
-pub try_spot-requires-clause-below : goal.try_spot-requires-clause-below
-try_spot-requires-clause-below c =
+pub try_site-requires-clause-below : goal.try_site-requires-clause-below
+try_site-requires-clause-below c =
     let self = c.args.self.now in
     let there = found-some self.scenario _ c.in_ok-found.found c.in-Some.site c.in-Some.is c.in_ok-found.ensures.found
     in
     (stands-there self.scenario c.args.plan.now self.near self.unmarked c.place-place.result c.in-Some.site.standing
     there.0).1
 
-pub try_spot-requires-clause-fork : goal.try_spot-requires-clause-fork
-try_spot-requires-clause-fork c =
+pub try_site-requires-clause-fork : goal.try_site-requires-clause-fork
+try_site-requires-clause-fork c =
     let self = c.args.self.now in
     (found-some self.scenario _ c.in_ok-found.found c.in-Some.site c.in-Some.is c.in_ok-found.ensures.found).1
 
@@ -58,10 +58,10 @@ returns-clause-met c =
     in
     let all = ap (all_changes self.scenario plan) (ap (standing_in self.scenario plan) (sym c.place-place.ensures)
     ∙ there.0) in
-    meets-from self.with_output self.scenario c.try_spot.new.scenario self.counts c.try_spot.new.counts _
-    c.args.out.now.items c.try_spot.new.out.items c.try_spot.ensures.same
-    (subst (λ (xs : List Change). CountsMore self.counts c.try_spot.new.counts self.with_output self.scenario xs
-    c.args.out.now.items c.try_spot.new.out.items) (sym all) c.in_ok-try_spot.ensures.met)
+    meets-from self.with_output self.scenario c.try_site.new.scenario self.counts c.try_site.new.counts _
+    c.args.out.now.items c.try_site.new.out.items c.try_site.ensures.same
+    (subst (λ (xs : List Change). CountsMore self.counts c.try_site.new.counts self.with_output self.scenario xs
+    c.args.out.now.items c.try_site.new.out.items) (sym all) c.in_ok-try_site.ensures.met)
 
 pub returns-in_default-clause-covered : goal.returns-in_default-clause-covered
 unfolding scenario_of range_of table_of
@@ -79,22 +79,22 @@ unfolding scenario_of range_of table_of
 returns-clause-covered c done fits are =
     let self = c.args.self.now in
     let plan = c.args.plan.now in
-    let new = c.try_spot.new.table.items in
+    let new = c.try_site.new.table.items in
     let there = found-some self.scenario _ c.in_ok-found.found c.in-Some.site c.in-Some.is c.in_ok-found.ensures.found
     in
     let is = ap (standing_in self.scenario plan) (sym c.place-place.ensures) ∙ there.0 in
     let may = may-cover self.scenario plan c.args.place self.range done self.table.items c.in-Some.site.standing fits
     are is in
     let more = done ++ changes_at self.scenario plan c.args.place in
-    subst (λ (s : Scenario). AreCovered s more self.range new) (sym c.try_spot.ensures.same)
+    subst (λ (s : Scenario). AreCovered s more self.range new) (sym c.try_site.ensures.same)
     (subst (λ (xs : List Change). AreCovered self.scenario (done ++ xs) self.range new)
     (sym (ap (all_changes self.scenario plan) is))
-    (c.in_ok-try_spot.ensures.covers may done self.range.len are))
+    (c.in_ok-try_site.ensures.covers may done self.range.len are))
 
 pub invariant_of-self-in-Break-branch-2 : goal.invariant_of-self-in-Break-branch-2
 invariant_of-self-in-Break-branch-2 c =
     let self = c.args.self.now in
-    let same = sym c.try_spot.ensures.same in
+    let same = sym c.try_site.ensures.same in
     record {
       loads = subst (λ (s : Scenario). LoadsAs c.find.new.trail s.image) same c.find.ensures.loads;
       right = subst (λ (s : Scenario). IsRightForRun c.find.new.trail (run_of s)) same c.find.ensures.right;
@@ -108,7 +108,7 @@ invariant_of-self-in-Break-branch-2 c =
 pub invariant_of-self-2 : goal.invariant_of-self-2
 invariant_of-self-2 c =
     let self = c.args.self.now in
-    let same = sym c.try_spot.ensures.same in
+    let same = sym c.try_site.ensures.same in
     record {
       loads = subst (λ (s : Scenario). LoadsAs c.find.new.trail s.image) same c.find.ensures.loads;
       right = subst (λ (s : Scenario). IsRightForRun c.find.new.trail (run_of s)) same c.find.ensures.right;

@@ -4,7 +4,7 @@ use Rattle.std.proofs.lemmas.Result.{on_ok_weaker}
 use Rattle.sweeps.specs.Covered.{IsByte}
 use Rattle.sweeps.specs.Standing.{all_changes}
 use Rattle.sweeps.proofs.CoverSteps.{covers-empty, no-length, not-byte}
-use Rattle.sweeps.proofs.entering.try_spot.Goals as goal
+use Rattle.sweeps.proofs.entering.try_site.Goals as goal
 
 pub returns-then-is_empty-clause-covers : goal.returns-then-is_empty-clause-covers
 returns-then-is_empty-clause-covers c =
