@@ -14,8 +14,9 @@ use Rattle.command_line.specs.declared.order.Order.{Order}
 use Rattle.command_line.specs.declared.order.ProfileArgs.{ProfileArgs}
 use Rattle.command_line.specs.declared.order.SweepArgs.{SweepArgs}
 use Rattle.command_line.specs.declared.order.Task.{Task}
-use Rattle.command_line.specs.declared.order.Task.TheVariants.{Report, Session, Look, Tries, Sweep, Certify}
-use Rattle.command_line.specs.declared.order.Task.TheVariants.{Exec}
+use Rattle.command_line.specs.declared.order.Task.TheVariants.{Do, Sweep, Exec}
+use Rattle.command_line.specs.declared.order.Action.{Action}
+use Rattle.command_line.specs.declared.order.Action.TheVariants.{Report, Session, Look, Tries, Certify}
 use Rattle.command_line.specs.declared.order.ExecArgs.{ExecArgs}
 
 -- the greatest step of a report (this project's limit)
@@ -258,19 +259,23 @@ pub record IsExecOf (rows : List Row) (asked : ExecArgs) : Type 0 where
   pub memory_limit : IsNumberOf (codes "memory-limit") rows asked.memory_limit
   pub end_line : IsFlagOf (codes "end-line") rows asked.end_line
 
--- the command of a name, of what was found for its arguments
-abbrev pub IsTaskOf : Text → List Row → Task → Type 0
-IsTaskOf name rows (Report n) = (bytes_eq name (codes "run") ≡ true) × IsStepOf rows n
-IsTaskOf name rows (Sweep words) = (bytes_eq name (codes "sweep") ≡ true) × IsSweepOf rows words
-IsTaskOf name rows (Certify asked) =
+-- the action of a name, of what was found for its arguments
+abbrev pub IsActionOf : Text → List Row → Action → Type 0
+IsActionOf name rows (Report n) = (bytes_eq name (codes "run") ≡ true) × IsStepOf rows n
+IsActionOf name rows (Certify asked) =
     (bytes_eq name (codes "certify") ≡ true) × IsNumberIn (codes "step") rows asked
-IsTaskOf name rows Look = bytes_eq name (codes "look") ≡ true
-IsTaskOf name rows Tries = bytes_eq name (codes "tries") ≡ true
-IsTaskOf name rows (Exec asked) = (bytes_eq name (codes "exec") ≡ true) × IsExecOf rows asked
-IsTaskOf name rows Session =
+IsActionOf name rows Look = bytes_eq name (codes "look") ≡ true
+IsActionOf name rows Tries = bytes_eq name (codes "tries") ≡ true
+IsActionOf name rows Session =
     (bytes_eq name (codes "run") ≡ false) × (bytes_eq name (codes "sweep") ≡ false)
     × (bytes_eq name (codes "look") ≡ false) × (bytes_eq name (codes "tries") ≡ false)
     × (bytes_eq name (codes "certify") ≡ false) × (bytes_eq name (codes "exec") ≡ false)
+
+-- the command of a name, of what was found for its arguments
+abbrev pub IsTaskOf : Text → List Row → Task → Type 0
+IsTaskOf name rows (Do action) = IsActionOf name rows action
+IsTaskOf name rows (Sweep words) = (bytes_eq name (codes "sweep") ≡ true) × IsSweepOf rows words
+IsTaskOf name rows (Exec asked) = (bytes_eq name (codes "exec") ≡ true) × IsExecOf rows asked
 
 -- what a file is read for, of what was found
 pub record IsProfileOf (rows : List Row) (asked : ProfileArgs) : Type 0 where

@@ -9,7 +9,7 @@ use crate::help::{
     ABOUT, AFTER_CERTIFY, AFTER_LOOK, AFTER_RUN, AFTER_SESSION, AFTER_SWEEP, AFTER_TRIES, CERTIFY,
     LOOK, RUN, SESSION, SWEEP, TRIES,
 };
-use crate::order::{Order, ProfileArgs, SweepArgs, Task};
+use crate::order::{Action, Order, ProfileArgs, SweepArgs, Task};
 use clap::error::ErrorKind;
 use clap::{Arg, ArgAction, ArgMatches, Command, Error, value_parser};
 use std::alloc::{AllocError, Global};
@@ -362,19 +362,19 @@ fn task_of<'a>(name: &str, chosen: &ArgMatches<'a>) -> Option<Task<'a>>
     ensures { IfSome result (IsTaskOf name.now (rows_of (found_of chosen.now))) }
 {
     if name == "run" {
-        Some(Task::Report(step_of(chosen)?))
+        Some(Task::Do(Action::Report(step_of(chosen)?)))
     } else if name == "sweep" {
         Some(Task::Sweep(sweep_of(chosen)?))
     } else if name == "look" {
-        Some(Task::Look)
+        Some(Task::Do(Action::Look))
     } else if name == "tries" {
-        Some(Task::Tries)
+        Some(Task::Do(Action::Tries))
     } else if name == "certify" {
-        Some(Task::Certify(number_in("step", chosen)?))
+        Some(Task::Do(Action::Certify(number_in("step", chosen)?)))
     } else if name == "exec" {
         Some(Task::Exec(exec_of(chosen)?))
     } else {
-        Some(Task::Session)
+        Some(Task::Do(Action::Session))
     }
 }
 

@@ -33,20 +33,27 @@ pub struct ProfileArgs<'a> {
 /// A command on a program.
 #[derive(Clone, Copy)]
 pub enum Task<'a> {
-    /// The report at a step.
-    Report(u32),
-    /// A session.
-    Session,
-    /// A session whose run can be looked at.
-    Look,
-    /// A session that can also be looked at, and in which inputs are tried.
-    Tries,
+    /// What is done with one run, or in a session with it.
+    Do(Action),
     /// Every edit, one at a time.
     Sweep(SweepArgs<'a>),
-    /// Whether the run is clean up to a step, or up to the greatest one if none was given.
-    Certify(Option<u32>),
     /// The run itself, with its output and its exit status.
     Exec(ExecArgs<'a>),
+}
+
+/// What is done with a program whose files were read.
+#[derive(Clone, Copy)]
+pub enum Action {
+    /// The report at a step is printed.
+    Report(u32),
+    /// A session is served.
+    Session,
+    /// A session is served whose run can be looked at.
+    Look,
+    /// A session is served that can also be looked at, and in which inputs are tried.
+    Tries,
+    /// The verdict up to a step is printed, or up to the greatest one if none was given: whether the run is clean.
+    Certify(Option<u32>),
 }
 
 /// The arguments that say which edits are tried, as they were given.

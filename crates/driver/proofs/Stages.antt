@@ -26,8 +26,8 @@ use Rattle.exit_status.specs.Ends.{end_of_serve}
 use Rattle.driver.specs.Certified.{Certifies}
 use Rattle.driver.specs.Once.{IsReportOnce}
 use Rattle.driver.specs.Sweeping.{SweepsImage, SweepsRequest}
-use Rattle.driver.specs.declared.carrying.Action.{Action}
-use Rattle.driver.specs.declared.carrying.Action.TheVariants.{Report, Certify}
+use Rattle.command_line.specs.declared.order.Action.{Action}
+use Rattle.command_line.specs.declared.order.Action.TheVariants.{Report, Certify}
 use Rattle.exit_status.specs.declared.ends.End.{End}
 use Rattle.exit_status.specs.declared.ends.End.TheVariants.{Done, Image}
 use Rattle.sweep_plans.specs.declared.request.Request.{Request}

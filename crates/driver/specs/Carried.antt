@@ -18,8 +18,8 @@ use Rattle.looks.specs.Views.{ViewsLines}
 use Rattle.tries.specs.Tries.{TriesLines, untried}
 use Rattle.driver.specs.Certified.{Certifies}
 use Rattle.driver.specs.Once.{IsReportOnce, WritesReport, StopsBy}
-use Rattle.driver.specs.declared.carrying.Action.{Action}
-use Rattle.driver.specs.declared.carrying.Action.TheVariants.{Report, Session, Look, Tries, Certify}
+use Rattle.command_line.specs.declared.order.Action.{Action}
+use Rattle.command_line.specs.declared.order.Action.TheVariants.{Report, Session, Look, Tries, Certify}
 use Rattle.exit_status.specs.declared.ends.End.{End}
 use Rattle.exit_status.specs.declared.ends.End.TheVariants.{Done, CannotRead, CannotReadInput, CannotWrite, Image}
 use Rattle.exit_status.specs.declared.ends.End.TheVariants.{Suppressions, SuppressionsTooLong, InputTooLarge, NoMemory}

@@ -8,14 +8,13 @@ use Rattle.command_line.specs.Orders.{input_path, rules_path}
 use Rattle.command_line.specs.declared.order.Order.{Order}
 use Rattle.command_line.specs.declared.order.SweepArgs.{SweepArgs}
 use Rattle.command_line.specs.declared.order.Task.{Task}
-use Rattle.command_line.specs.declared.order.Task.TheVariants.{Report, Session, Look, Tries, Sweep, Certify, Exec}
+use Rattle.command_line.specs.declared.order.Task.TheVariants.{Do, Sweep, Exec}
 use Rattle.guest_elf.specs.File.{IsImageFor}
 use Rattle.guest_elf.specs.declared.image.Image.{Image as ProgramImage}
 use Rattle.guest_elf.specs.declared.profile.Profile.{Profile}
 use Rattle.scenario.specs.Limits.{longest_input, most_steps}
 use Rattle.suppressions.specs.Texts.{faults, rules, IsLeast}
 use Rattle.suppressions.specs.declared.fault.SuppFault.TheVariants as Supp
-use Rattle.driver.specs.declared.carrying.Action.TheVariants as Action
 use Rattle.driver.specs.Carried.{Carried}
 use Rattle.program_files.specs.Files.{Giving, HasSweepInput, HasText, IsFront, NoImage, NoRulesIn, NoSweepInput, NoText}
 use Rattle.program_files.specs.Files.{Streams, Untouched, most_judged}
@@ -76,10 +75,6 @@ CarriedSweep gives order words old held end =
 
 -- an order was carried out; one for `exec` isn't one of these commands, and nothing is done
 abbrev pub CarriedOut : Giving → Order → Task → Streams → Streams → End → Type 0
-CarriedOut gives order (Report step) old new end = Carried gives order (Action.Report step) old new end
-CarriedOut gives order Session old new end = Carried gives order Action.Session old new end
-CarriedOut gives order Look old new end = Carried gives order Action.Look old new end
-CarriedOut gives order Tries old new end = Carried gives order Action.Tries old new end
+CarriedOut gives order (Do action) old new end = Carried gives order action old new end
 CarriedOut gives order (Sweep words) old new end = CarriedSweep gives order words old new.held end
-CarriedOut gives order (Certify asked) old new end = Carried gives order (Action.Certify asked) old new end
 CarriedOut gives order (Exec asked) old new end = (end ≡ Usage) × Untouched old new

@@ -15,7 +15,7 @@ ghost use Rattle.scenario.specs.Limits.{longest_input, most_steps};
 
 use crate::certifying::print_verdict;
 use crate::reporting::run_once;
-use command_line::{Order, SweepArgs, Task};
+use command_line::{Action, Order, SweepArgs, Task};
 use exit_status::End;
 use guest_elf::{Image, read_for};
 use program_files::{
@@ -93,21 +93,6 @@ fn serve_tries<'a, R: Read, W: Write>(
 {
     let session = Session::begin(alloc, image, input, suppressions)?;
     Ok(tries::serve(session, reader, writer)?)
-}
-
-/// What to do with a program whose files were read.
-#[derive(Clone, Copy)]
-pub(crate) enum Action {
-    /// The report of a step is printed.
-    Report(u32),
-    /// A session is served.
-    Session,
-    /// A session is served that can also be looked at.
-    Look,
-    /// A session is served that can also be looked at, and in which inputs can be tried.
-    Tries,
-    /// The verdict up to a step is printed, or up to the greatest one if none was asked for.
-    Certify(Option<u32>),
 }
 
 /// Carries out an order for the report or the verdict of a step, or for a session: the name of the instruction set is judged, then the
@@ -216,16 +201,8 @@ pub fn run_order<'a, F: Files, R: Read, W: Write>(
         (streams (R.remaining reader.old) (W.contents writer.old)) (streams (R.remaining reader.new) (W.contents writer.new)) result }
 {
     match order.task {
-        Task::Report(step) => {
-            ended(follow_order(alloc, order, Action::Report(step), files, reader, writer))
-        }
-        Task::Session => ended(follow_order(alloc, order, Action::Session, files, reader, writer)),
-        Task::Look => ended(follow_order(alloc, order, Action::Look, files, reader, writer)),
-        Task::Tries => ended(follow_order(alloc, order, Action::Tries, files, reader, writer)),
+        Task::Do(action) => ended(follow_order(alloc, order, action, files, reader, writer)),
         Task::Sweep(words) => ended(follow_sweep(alloc, order, &words, files, reader, writer)),
-        Task::Certify(asked) => {
-            ended(follow_order(alloc, order, Action::Certify(asked), files, reader, writer))
-        }
         Task::Exec(_) => End::Usage,
     }
 }

@@ -1,7 +1,7 @@
 //! How orders are carried out and what they write, over files, readers and writers that fail.
 use crate::shelf::Shelf;
-use crate::words::USUAL_PROFILE;
-use command_line::{Order, ProfileArgs, SweepArgs, Task};
+use crate::words::{Said, profile_of};
+use command_line::{Action, Order, SweepArgs, Task};
 use driver::{RunFault, run_once, run_order, tell};
 use guest_elf::{Image, read};
 use replay_session::LONGEST_INPUT;
@@ -139,7 +139,7 @@ type Case = (
 
 /// A command.
 enum Asked {
-    Task(Task<'static>),
+    Do(Action),
     /// A sweep over the input of the shelf: its bytes, words and part.
     Sweep(Option<&'static str>, Option<&'static str>, &'static str),
 }
@@ -147,7 +147,7 @@ enum Asked {
 /// An order's input and its command.
 fn task_of(asked: &Asked) -> (Option<&'static str>, Task<'static>) {
     match asked {
-        Asked::Task(task) => (None, *task),
+        Asked::Do(action) => (None, Task::Do(*action)),
         Asked::Sweep(bytes, words, part) => {
             let words = SweepArgs {
                 step: 3,
@@ -176,20 +176,15 @@ fn status_of(alloc: Global, order: &Order<'_>, shelf: &Shelf<'_>, writer: &mut R
     tell(&end, &mut line)
 }
 
-/// Whether an order on a program, read for a profile, ends in this way.
-fn is_carried_on(
-    alloc: Global,
-    program: &[u8],
-    profile: &ProfileArgs<'static>,
-    case: &Case,
-) -> bool {
+/// Whether an order on a program, of which this is said, ends in this way.
+fn is_carried_on(alloc: Global, program: &[u8], said: Said, case: &Case) -> bool {
     let (_, (file, has_rules, asked), rules, status, written) = case;
     let (input, task) = task_of(asked);
     let order = Order {
         file,
         input,
         suppressions: if *has_rules { Some("rules") } else { None },
-        profile: *profile,
+        profile: profile_of(said),
         task,
     };
     let mut writer = Room::new(alloc, 1 << 20);
@@ -198,75 +193,59 @@ fn is_carried_on(
 }
 
 /// Whether one on a new program does.
-fn is_carried(
-    alloc: Global,
-    profile: &ProfileArgs<'static>,
-    case: &Case,
-) -> Result<bool, AllocError> {
+fn is_carried(alloc: Global, said: Said, case: &Case) -> Result<bool, AllocError> {
     let file = program(alloc, &EXITS)?;
-    Ok(is_carried_on(alloc, &file, profile, case))
+    Ok(is_carried_on(alloc, &file, said, case))
 }
 
 /// Asserts that orders are carried out.
 fn assert_carried(rt: &impl Abort, alloc: Global, cases: &[Case]) {
     for case in cases {
         assert!(rt;
-            matches!(is_carried(alloc, &USUAL_PROFILE, case), Ok(true)),
+            matches!(is_carried(alloc, Said::Nothing, case), Ok(true)),
             "{}",
             case.0
         );
     }
 }
 
-/// What a file is read for, and an order for that.
-type Named = (ProfileArgs<'static>, Case);
+/// What is said of what a file is read for, and an order for that.
+type Named = (Said, Case);
 
 /// Orders for a profile. One that there isn't ends them before the file is read, and after the arguments of a sweep.
 const NAMED: [Named; 9] = [
     (
-        ProfileArgs {
-            heap: "805306368",
-            ..USUAL_PROFILE
-        },
+        Said::Heap("805306368"),
         (
             "a report with the heap elsewhere",
-            ("program", false, Asked::Task(Task::Report(3))),
+            ("program", false, Asked::Do(Action::Report(3))),
             b"",
             0,
             Written::Around(b"", b""),
         ),
     ),
     (
-        ProfileArgs {
-            heap: "0x48000000",
-            ..USUAL_PROFILE
-        },
+        Said::Heap("0x48000000"),
         (
             "no region of a heap",
-            ("program", false, Asked::Task(Task::Report(3))),
+            ("program", false, Asked::Do(Action::Report(3))),
             b"",
             2,
             Written::Nothing,
         ),
     ),
     (
-        ProfileArgs {
-            stack: "0x7f000000",
-            ..USUAL_PROFILE
-        },
+        Said::Stack("0x7f000000"),
         (
             "no region of a stack",
-            ("program", false, Asked::Task(Task::Session)),
+            ("program", false, Asked::Do(Action::Session)),
             b"",
             2,
             Written::Nothing,
         ),
     ),
     (
-        ProfileArgs {
-            heap: "0x70000000",
-            ..USUAL_PROFILE
-        },
+        Said::Heap("0x70000000"),
         (
             "regions that overlap",
             ("prog", false, Asked::Sweep(None, None, "1/1")),
@@ -276,49 +255,37 @@ const NAMED: [Named; 9] = [
         ),
     ),
     (
-        ProfileArgs {
-            isa: "rv32imc",
-            ..USUAL_PROFILE
-        },
+        Said::Isa("rv32imc"),
         (
             "a report for rv32imc",
-            ("program", false, Asked::Task(Task::Report(3))),
+            ("program", false, Asked::Do(Action::Report(3))),
             b"",
             0,
             Written::Around(b"", b""),
         ),
     ),
     (
-        ProfileArgs {
-            isa: "rv32imac",
-            ..USUAL_PROFILE
-        },
+        Said::Isa("rv32imac"),
         (
             "a report for rv32imac",
-            ("program", false, Asked::Task(Task::Report(3))),
+            ("program", false, Asked::Do(Action::Report(3))),
             b"",
             0,
             Written::Around(b"", b""),
         ),
     ),
     (
-        ProfileArgs {
-            isa: "rv32gc",
-            ..USUAL_PROFILE
-        },
+        Said::Isa("rv32gc"),
         (
             "a session for another set",
-            ("prog", false, Asked::Task(Task::Session)),
+            ("prog", false, Asked::Do(Action::Session)),
             b"",
             2,
             Written::Nothing,
         ),
     ),
     (
-        ProfileArgs {
-            isa: "RV32IM",
-            ..USUAL_PROFILE
-        },
+        Said::Isa("RV32IM"),
         (
             "a sweep for another set",
             ("prog", false, Asked::Sweep(None, None, "1/1")),
@@ -328,13 +295,10 @@ const NAMED: [Named; 9] = [
         ),
     ),
     (
-        ProfileArgs {
-            isa: "",
-            ..USUAL_PROFILE
-        },
+        Said::Isa(""),
         (
             "a verdict for none",
-            ("program", false, Asked::Task(Task::Certify(Some(3)))),
+            ("program", false, Asked::Do(Action::Certify(Some(3)))),
             b"",
             2,
             Written::Nothing,
@@ -346,7 +310,7 @@ const NAMED: [Named; 9] = [
 fn sets_are_judged(rt: HostRuntime) {
     for row in &NAMED {
         assert!(rt;
-            matches!(is_carried(rt.alloc(), &row.0, &row.1), Ok(true)),
+            matches!(is_carried(rt.alloc(), row.0, &row.1), Ok(true)),
             "{}",
             row.1.0
         );
@@ -361,56 +325,56 @@ const BAD_RULES: &[u8] = b"# an empty block\n{\n}\n";
 const ORDERS: [Case; 8] = [
     (
         "a report",
-        ("program", false, Asked::Task(Task::Report(3))),
+        ("program", false, Asked::Do(Action::Report(3))),
         b"",
         0,
         Written::Around(b"", b""),
     ),
     (
         "with suppressions",
-        ("program", true, Asked::Task(Task::Report(3))),
+        ("program", true, Asked::Do(Action::Report(3))),
         GOOD_RULES,
         0,
         Written::Around(b"", b""),
     ),
     (
         "a session",
-        ("program", false, Asked::Task(Task::Session)),
+        ("program", false, Asked::Do(Action::Session)),
         b"",
         0,
         Written::Around(b"ok\n", b"refused 2\n"),
     ),
     (
         "a session that looks",
-        ("program", false, Asked::Task(Task::Look)),
+        ("program", false, Asked::Do(Action::Look)),
         b"",
         0,
         Written::Around(b"ok\n", b"step 2\n"),
     ),
     (
         "a session that tries, which looks too",
-        ("program", false, Asked::Task(Task::Tries)),
+        ("program", false, Asked::Do(Action::Tries)),
         b"",
         0,
         Written::Around(b"ok\n", b"step 2\n"),
     ),
     (
         "a verdict",
-        ("program", false, Asked::Task(Task::Certify(Some(3)))),
+        ("program", false, Asked::Do(Action::Certify(Some(3)))),
         b"",
         0,
         Written::Line(b"clean to step 3: "),
     ),
     (
         "a verdict on a run that goes on after the step",
-        ("program", false, Asked::Task(Task::Certify(Some(2)))),
+        ("program", false, Asked::Do(Action::Certify(Some(2)))),
         b"",
         0,
         Written::Line(b"clean up to step 2: "),
     ),
     (
         "a verdict up to the greatest step",
-        ("program", false, Asked::Task(Task::Certify(None))),
+        ("program", false, Asked::Do(Action::Certify(None))),
         b"",
         0,
         Written::Line(b"clean to step 4194304: "),
@@ -426,21 +390,21 @@ fn orders_are_carried_out(rt: HostRuntime) {
 const NO_ORDERS: [Case; 3] = [
     (
         "no such program",
-        ("prog", true, Asked::Task(Task::Session)),
+        ("prog", true, Asked::Do(Action::Session)),
         BAD_RULES,
         1,
         Written::Nothing,
     ),
     (
         "no ELF file",
-        ("input", true, Asked::Task(Task::Look)),
+        ("input", true, Asked::Do(Action::Look)),
         BAD_RULES,
         3,
         Written::Nothing,
     ),
     (
         "bad suppressions",
-        ("program", true, Asked::Task(Task::Session)),
+        ("program", true, Asked::Do(Action::Session)),
         BAD_RULES,
         3,
         Written::Nothing,

@@ -1,7 +1,7 @@
 //! The orders of command lines.
-use crate::words::USUAL_PROFILE;
+use crate::words::{Said, profile_of};
 use clap::error::ErrorKind;
-use command_line::{Order, ProfileArgs, SweepArgs, Task, read_order};
+use command_line::{Action, Order, ProfileArgs, SweepArgs, Task, read_order};
 use std::alloc::{AllocError, Global};
 use std::process::Abort;
 
@@ -43,12 +43,12 @@ fn is_sweep(asked: &SweepArgs<'_>, want: &SweepArgs<'_>) -> bool {
 /// Whether two commands are.
 fn is_task(asked: &Task<'_>, want: &Task<'_>) -> bool {
     match (asked, want) {
-        (Task::Report(step), Task::Report(at)) => step == at,
-        (Task::Session, Task::Session) => true,
-        (Task::Look, Task::Look) => true,
-        (Task::Tries, Task::Tries) => true,
+        (Task::Do(Action::Report(step)), Task::Do(Action::Report(at))) => step == at,
+        (Task::Do(Action::Session), Task::Do(Action::Session)) => true,
+        (Task::Do(Action::Look), Task::Do(Action::Look)) => true,
+        (Task::Do(Action::Tries), Task::Do(Action::Tries)) => true,
         (Task::Sweep(asked), Task::Sweep(want)) => is_sweep(asked, want),
-        (Task::Certify(step), Task::Certify(at)) => step == at,
+        (Task::Do(Action::Certify(step)), Task::Do(Action::Certify(at))) => step == at,
         _ => false,
     }
 }
@@ -67,8 +67,27 @@ fn is_order(asked: &Order<'_>, want: &Order<'_>) -> bool {
         && is_task(&asked.task, &want.task)
 }
 
-/// A label, the arguments of a line, and its order.
-type Line = (&'static str, &'static [&'static str], Order<'static>);
+/// A label; the arguments of a line; and its order: its program, input and suppressions, what is said of what that is read for, and the
+/// command.
+type Line = (
+    &'static str,
+    &'static [&'static str],
+    (&'static str, Option<&'static str>, Option<&'static str>),
+    Said,
+    Task<'static>,
+);
+
+/// The order of a line.
+fn order_of(line: &Line) -> Order<'static> {
+    let (file, input, suppressions) = line.2;
+    Order {
+        file,
+        input,
+        suppressions,
+        profile: profile_of(line.3),
+        task: line.4,
+    }
+}
 
 /// Whether arguments give an order.
 fn give(alloc: Global, words: &[String], want: &Order<'_>) -> bool {
@@ -81,7 +100,7 @@ fn give(alloc: Global, words: &[String], want: &Order<'_>) -> bool {
 /// Whether a line does.
 fn gives(alloc: Global, line: &Line) -> Result<bool, AllocError> {
     let words = words_of(alloc, line.1)?;
-    Ok(give(alloc, &words, &line.2))
+    Ok(give(alloc, &words, &order_of(line)))
 }
 
 /// Asserts that lines give their orders.
@@ -95,57 +114,37 @@ const REPORTS: [Line; 5] = [
     (
         "the usual step",
         &["run", "program"],
-        Order {
-            file: "program",
-            input: None,
-            suppressions: None,
-            profile: USUAL_PROFILE,
-            task: Task::Report(1_048_576),
-        },
+        ("program", None, None),
+        Said::Nothing,
+        Task::Do(Action::Report(1_048_576)),
     ),
     (
         "the greatest step",
         &["run", "--step=4194304", "f"],
-        Order {
-            file: "f",
-            input: None,
-            suppressions: None,
-            profile: USUAL_PROFILE,
-            task: Task::Report(4_194_304),
-        },
+        ("f", None, None),
+        Said::Nothing,
+        Task::Do(Action::Report(4_194_304)),
     ),
     (
         "no minus",
         &["run", "f", "--step=-0"],
-        Order {
-            file: "f",
-            input: None,
-            suppressions: None,
-            profile: USUAL_PROFILE,
-            task: Task::Report(0),
-        },
+        ("f", None, None),
+        Said::Nothing,
+        Task::Do(Action::Report(0)),
     ),
     (
         "a verdict",
         &["certify", "f", "--input", "i", "--step", "7"],
-        Order {
-            file: "f",
-            input: Some("i"),
-            suppressions: None,
-            profile: USUAL_PROFILE,
-            task: Task::Certify(Some(7)),
-        },
+        ("f", Some("i"), None),
+        Said::Nothing,
+        Task::Do(Action::Certify(Some(7))),
     ),
     (
         "a verdict on no step that is given",
         &["certify", "f"],
-        Order {
-            file: "f",
-            input: None,
-            suppressions: None,
-            profile: USUAL_PROFILE,
-            task: Task::Certify(None),
-        },
+        ("f", None, None),
+        Said::Nothing,
+        Task::Do(Action::Certify(None)),
     ),
 ];
 
@@ -154,74 +153,48 @@ fn reports_are_ordered(rt: HostRuntime) {
     assert_given(&rt, rt.alloc(), &REPORTS);
 }
 
-const SESSIONS: [Line; 5] = [
+const SESSIONS: [Line; 6] = [
     (
-        "texts of regions, whatever they are",
-        &[
-            "session",
-            "f",
-            "--heap-region",
-            "here",
-            "--stack-region=there",
-        ],
-        Order {
-            file: "f",
-            input: None,
-            suppressions: None,
-            profile: ProfileArgs {
-                heap: "here",
-                stack: "there",
-                ..USUAL_PROFILE
-            },
-            task: Task::Session,
-        },
+        "a text for the heap's region, whatever it is",
+        &["session", "f", "--heap-region", "here"],
+        ("f", None, None),
+        Said::Heap("here"),
+        Task::Do(Action::Session),
+    ),
+    (
+        "a text for the stack's region, whatever it is",
+        &["session", "f", "--stack-region=there"],
+        ("f", None, None),
+        Said::Stack("there"),
+        Task::Do(Action::Session),
     ),
     (
         "a name of an instruction set, whatever it is",
         &["session", "f", "--isa", "rv32"],
-        Order {
-            file: "f",
-            input: None,
-            suppressions: None,
-            profile: ProfileArgs {
-                isa: "rv32",
-                ..USUAL_PROFILE
-            },
-            task: Task::Session,
-        },
+        ("f", None, None),
+        Said::Isa("rv32"),
+        Task::Do(Action::Session),
     ),
     (
         "a session with files",
         &["session", "f", "--supp", "s", "--input=i"],
-        Order {
-            file: "f",
-            input: Some("i"),
-            suppressions: Some("s"),
-            profile: USUAL_PROFILE,
-            task: Task::Session,
-        },
+        ("f", Some("i"), Some("s")),
+        Said::Nothing,
+        Task::Do(Action::Session),
     ),
     (
         "one that looks",
         &["look", "f", "--input", "i"],
-        Order {
-            file: "f",
-            input: Some("i"),
-            suppressions: None,
-            profile: USUAL_PROFILE,
-            task: Task::Look,
-        },
+        ("f", Some("i"), None),
+        Said::Nothing,
+        Task::Do(Action::Look),
     ),
     (
         "one that tries",
         &["tries", "f", "--input", "i", "--supp", "s"],
-        Order {
-            file: "f",
-            input: Some("i"),
-            suppressions: Some("s"),
-            profile: USUAL_PROFILE,
-            task: Task::Tries,
-        },
+        ("f", Some("i"), Some("s")),
+        Said::Nothing,
+        Task::Do(Action::Tries),
     ),
 ];
 
@@ -234,26 +207,22 @@ const SWEEPS: [Line; 3] = [
     (
         "a sweep of all bytes",
         &["sweep", "f"],
-        Order {
-            file: "f",
-            input: None,
-            suppressions: None,
-            profile: USUAL_PROFILE,
-            task: Task::Sweep(SweepArgs {
-                step: 1_048_576,
-                bytes: None,
-                byte_values: "all",
-                words: None,
-                word_values: "skip",
-                at: None,
-                faults: None,
-                code: None,
-                pairs: None,
-                part: "1/1",
-                with_output: false,
-                with_sides: false,
-            }),
-        },
+        ("f", None, None),
+        Said::Nothing,
+        Task::Sweep(SweepArgs {
+            step: 1_048_576,
+            bytes: None,
+            byte_values: "all",
+            words: None,
+            word_values: "skip",
+            at: None,
+            faults: None,
+            code: None,
+            pairs: None,
+            part: "1/1",
+            with_output: false,
+            with_sides: false,
+        }),
     ),
     (
         "a sweep of bytes and words",
@@ -268,26 +237,22 @@ const SWEEPS: [Line; 3] = [
             "--with-output",
             "--step=9",
         ],
-        Order {
-            file: "f",
-            input: None,
-            suppressions: None,
-            profile: USUAL_PROFILE,
-            task: Task::Sweep(SweepArgs {
-                step: 9,
-                bytes: Some("1..2"),
-                byte_values: "edges",
-                words: Some("0x4"),
-                word_values: "flips",
-                at: None,
-                faults: None,
-                code: None,
-                pairs: None,
-                part: "2/3",
-                with_output: true,
-                with_sides: false,
-            }),
-        },
+        ("f", None, None),
+        Said::Nothing,
+        Task::Sweep(SweepArgs {
+            step: 9,
+            bytes: Some("1..2"),
+            byte_values: "edges",
+            words: Some("0x4"),
+            word_values: "flips",
+            at: None,
+            faults: None,
+            code: None,
+            pairs: None,
+            part: "2/3",
+            with_output: true,
+            with_sides: false,
+        }),
     ),
     (
         "a sweep of steps",
@@ -299,26 +264,22 @@ const SWEEPS: [Line; 3] = [
             "--code-range=4..8",
             "--pairs=skip",
         ],
-        Order {
-            file: "f",
-            input: None,
-            suppressions: None,
-            profile: USUAL_PROFILE,
-            task: Task::Sweep(SweepArgs {
-                step: 1_048_576,
-                bytes: None,
-                byte_values: "all",
-                words: None,
-                word_values: "skip",
-                at: Some("3.."),
-                faults: Some("skip,pc"),
-                code: Some("4..8"),
-                pairs: Some("skip"),
-                part: "1/1",
-                with_output: false,
-                with_sides: false,
-            }),
-        },
+        ("f", None, None),
+        Said::Nothing,
+        Task::Sweep(SweepArgs {
+            step: 1_048_576,
+            bytes: None,
+            byte_values: "all",
+            words: None,
+            word_values: "skip",
+            at: Some("3.."),
+            faults: Some("skip,pc"),
+            code: Some("4..8"),
+            pairs: Some("skip"),
+            part: "1/1",
+            with_output: false,
+            with_sides: false,
+        }),
     ),
 ];
 

@@ -2,14 +2,38 @@
 
 use command_line::ProfileArgs;
 
-/// What a file is read for where nothing is said of it.
-pub(crate) const USUAL_PROFILE: ProfileArgs<'static> = ProfileArgs {
-    isa: "rv32im",
-    heap: "0x40000000",
-    stack: "0x7f000000..0x80000000",
-    most_moved: None,
-    most_output: None,
-};
+/// What is said of what a file is read for.
+#[derive(Clone, Copy)]
+pub(crate) enum Said {
+    /// Nothing.
+    Nothing,
+    /// The name of an instruction set.
+    Isa(&'static str),
+    /// Where the heap's region begins.
+    Heap(&'static str),
+    /// Where the stack's region begins and ends.
+    Stack(&'static str),
+}
+
+/// What a file is read for, by what is said of it.
+pub(crate) fn profile_of(said: Said) -> ProfileArgs<'static> {
+    ProfileArgs {
+        isa: match said {
+            Said::Isa(name) => name,
+            _ => "rv32im",
+        },
+        heap: match said {
+            Said::Heap(begin) => begin,
+            _ => "0x40000000",
+        },
+        stack: match said {
+            Said::Stack(range) => range,
+            _ => "0x7f000000..0x80000000",
+        },
+        most_moved: None,
+        most_output: None,
+    }
+}
 
 /// Writes `ok!` and a newline, and exits with status 7.
 pub(crate) const WRITES: [u32; 10] = [

@@ -5,7 +5,7 @@ use Rattle.driver.proofs.Stages.{with-image}
 use Rattle.driver.specs.Carried.{Reports}
 use Rattle.exit_status.specs.Ends.{end_of}
 use Rattle.driver.specs.Once.{IsReportOnce}
-use Rattle.driver.specs.declared.carrying.Action.TheVariants.{Session, Look, Tries}
+use Rattle.command_line.specs.declared.order.Action.TheVariants.{Session, Look, Tries}
 use Rattle.suppressions.specs.Rules.{Rule}
 use Rattle.driver.proofs.carrying.follow_order.Goals as goal
 
