@@ -6,7 +6,7 @@ import shutil
 import subprocess
 import struct
 
-from adopt_rows import AT, GCC, RAM, TOOLS, code, firmware, lacking, listed, status, unlisted
+from adopt_rows import AT, GCC, TOOLS, code, firmware, lacking, listed, status, unlisted
 from board_files import OBJECT, READ_RUN, board, function, segment, words
 from replaycheck.adopting.host_handler import code_of, text_of
 

@@ -10,7 +10,8 @@ from collections.abc import Callable
 from typing import Any
 
 import lanes
-from lanes import GATE, PROGRAM, TOP, GateCheck
+from lanes import GATE, TOP, GateCheck
+from replaycheck.packaging.source import PROGRAM
 from rows import SIGNALS, Rows
 
 LISTED = str(PROGRAM.relative_to(TOP))

@@ -17,7 +17,6 @@ from collections.abc import Iterator
 
 sys.path.insert(0, os.path.realpath(f"{__file__}/../../lib"))
 from replaycheck.guest_files import TOP  # noqa: E402
-from replaycheck.packaging.source import PROGRAM  # noqa: E402
 
 OUT = TOP / "out" / "lanes"
 COUNT = re.compile(r"(\d+) passed, (\d+) failed")

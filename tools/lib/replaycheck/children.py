@@ -1,4 +1,5 @@
 """Children with pipes, without the module subprocess, whose import takes longer than what most of them do."""
+import io
 import os
 
 from replaycheck.endings import Fault, children, signal, undisturbed
@@ -13,7 +14,9 @@ exec "$@" """
 class Child:
     """A process that `endings.end_children` can end. What it says on standard error goes to a file, so that it never waits for a reader."""
 
-    stdin = stdout = stderr = None
+    stdin: "io.BufferedWriter | None" = None
+    stdout: "io.BufferedReader | io.FileIO | None" = None
+    stderr: "io.BufferedReader | None" = None
     # Whether this process has killed it outright.
     is_killed = False
 

@@ -17,7 +17,8 @@ ROW = re.compile(r"\s*([0-9a-f]+):\t([^#]*)")
 def texts_at(file: str, addresses: Iterable[int]) -> Dict[int, str]:
     """The instructions at addresses, as far as a disassembler is there and the file has code at them."""
     program = os.environ.get("OBJDUMP") or next(filter(None, map(shutil.which, PROGRAMS)), None)
-    wanted, found = set(addresses), {}
+    wanted = set(addresses)
+    found: Dict[int, str] = {}
     for begin, last in spans(sorted(wanted)) if program else ():
         try:
             child = start([program, "-d", "--no-show-raw-insn", f"--start-address={begin}", f"--stop-address={last + 4}", file],

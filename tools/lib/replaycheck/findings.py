@@ -100,8 +100,10 @@ class Shown:
                  regions=USUAL_REGIONS):
         self.report, self.file, self.given, self.isa, self.regions = report, file, given, isa, regions
         self.leaks_that_count, self.heap, self.needs_heap = leaks_that_count, heap, needs_heap
-        self.made, self.places, self.names, self.verdict = {}, None, None, ""
-        self.status, self.error_exitcode = None, 0
+        self.made: dict[tuple[Address, str], list[Call]] = {}
+        self.places: Places | NoPlaces | None = None
+        self.names: Demangler | None = None
+        self.verdict, self.status, self.error_exitcode = "", None, 0
 
     def show(self, paths, is_demangled):
         """Finds the places of all addresses, and the names that all functions have in the source. Returns what can't be found, in lines: a

@@ -1,6 +1,6 @@
 """A run that is looked at: the step where it is, what holds there, and which other step does something."""
 from dataclasses import dataclass
-from typing import List
+from typing import List, Optional
 
 from replaycheck.options import LAST_STEP
 from replaycheck.programs import ISAS
@@ -62,7 +62,8 @@ class Run:
     """The lines of `replaycheck look` on a program, and the step that is looked at."""
 
     def __init__(self, file, given, supp, isa=ISAS[0], regions=USUAL_REGIONS):
-        self.files, self.isa, self.regions, self.edits, self.session = (file, given, supp), isa, regions, [], None
+        self.files, self.isa, self.regions, self.edits = (file, given, supp), isa, regions, []
+        self.session: Optional[Session] = None
         self.step = self.chosen = 0
         self.ready()
         self.forget()

@@ -17,7 +17,7 @@ class Regions(Record):
     all, with None for no limit."""
 
     heap: int
-    stack: tuple
+    stack: "tuple[int, int]"
     moved: int = USUAL_MOVED
     output: "int | None" = USUAL_OUTPUT
 

@@ -94,7 +94,7 @@ class Note(Record):
     side: str | None = None
     size: int | None = None
     block: str | None = None
-    trace: list[Frame] = ()
+    trace: list[Frame] | tuple[()] = ()
 
 
 class Error(Record):
@@ -189,8 +189,8 @@ def lines_of(report):
     for leak in report.leaks:
         yield f"leak {leak.size} bytes in {leak.blocks} blocks are {leak.kind}"
         yield from trace_lines(leak.trace)
-    for name in SUMS:
-        yield f"{name}: {report.sums[name].size} bytes in {report.sums[name].blocks} blocks"
+    for kind in SUMS:
+        yield f"{kind}: {report.sums[kind].size} bytes in {report.sums[kind].blocks} blocks"
     yield (f"ERROR SUMMARY: {report.happened} errors from {report.contexts} contexts "
            f"(suppressed: {report.suppressed} from {report.suppressed_contexts})")
 
@@ -276,11 +276,11 @@ def read_leaks(lines):
 
 def read_sums(lines):
     sums = {}
-    for name in SUMS:
-        found = lines.must(SUM, f"the sum `{name}: ..`")
-        if found[1] != name:
-            raise NoReport(f"no report: line {lines.number - 1} must be the sum `{name}: ..`, and is {found[0]!r}")
-        sums[name] = Sum(int(found[2]), int(found[3]))
+    for kind in SUMS:
+        found = lines.must(SUM, f"the sum `{kind}: ..`")
+        if found[1] != kind:
+            raise NoReport(f"no report: line {lines.number - 1} must be the sum `{kind}: ..`, and is {found[0]!r}")
+        sums[kind] = Sum(int(found[2]), int(found[3]))
     return sums
 
 

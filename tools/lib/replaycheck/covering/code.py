@@ -2,7 +2,7 @@
 from __future__ import annotations
 
 import bisect
-from typing import Iterator, List, Optional, Tuple
+from typing import Iterator, List, Optional
 
 from replaycheck.adopting.code import joined, without
 from replaycheck.adopting.elf import HAS_CODE, Elf, refusals

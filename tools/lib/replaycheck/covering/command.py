@@ -85,7 +85,7 @@ def main(page):
     sides, places, names = Sides(code.ranges, code.unit), Places(options.file, Paths(from_here=True)), Demangler()
     runs, failed = all_runs(options, sides)
     if runs:
-        covered = Covered(options.file, code, sides, places)
+        covered = Covered(options.file, code, sides.all(), places)
         choose(covered, options)
         put_out(FORMATS[options.format](covered, names, options.file, runs, options.step), options.output)
         if names.fault:

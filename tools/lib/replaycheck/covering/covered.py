@@ -12,7 +12,7 @@ from replaycheck.line_table import LineTable  # before a child runs: a signal wi
 from replaycheck.places import Place, Places
 
 from .code import Code, Instruction
-from .runs import WENT_ELSEWHERE, WENT_ON, Sides
+from .runs import WENT_ELSEWHERE, WENT_ON
 
 AT_ONCE = 1000  # instructions whose places are asked for together
 UNNAMED = "??"  # the function of an address that belongs to none
@@ -75,12 +75,15 @@ class SourceFile:
 
 
 class Covered:
-    """What runs have executed of a program, by source files. `placeless` says how many instructions have no source line."""
+    """What runs have executed of a program, by source files. `executed` has the addresses, each with what was done there. `placeless` says
+    how many instructions have no source line."""
 
-    def __init__(self, path, code: Code, sides: Sides, places: Places):
+    def __init__(self, path, code: Code, executed: Dict[int, int], places: Places):
         self.by_name: Dict[str, SourceFile] = {}
-        self.code, self.executed, self.paths = code, sides.all(), places.paths
-        self.outer, self.begins, self.unnamed = None, {it.value for it in code.elf.functions}, []
+        self.code, self.executed, self.paths = code, executed, places.paths
+        self.begins = {it.value for it in code.elf.functions}
+        self.outer: Optional[Tuple[str, str]] = None
+        self.unnamed: List[Tuple[int, Place]] = []
         self.table: LineTable = places.table
         self.blocks, self.placeless = blocks_of(code, self.executed), 0
         for some in in_parts(code.instructions(list(self.executed)), AT_ONCE):

@@ -26,8 +26,8 @@ def records(file: SourceFile) -> Iterator[str]:
     yield f"FNH:{sum(it.is_executed for _, it in functions)}"
     ways = [(line, block, way, "-" if not it.sides else str(int(is_taken)))
             for line, block, it in file.branches for way, (is_taken, _) in enumerate(it.ways)]
-    for line, block, way, taken in ways:
-        yield f"BRDA:{line},{block},{way},{taken}"
+    for number, block, way, taken in ways:
+        yield f"BRDA:{number},{block},{way},{taken}"
     yield f"BRF:{len(ways)}"
     yield f"BRH:{sum(it[3] == '1' for it in ways)}"
     for number, line in sorted(file.lines.items()):

@@ -31,7 +31,8 @@ def counts(file: SourceFile) -> List[Tuple[int, int]]:
 
 def spans(file: SourceFile) -> str:
     """The lines that were never executed, with those that follow each other as one: lines without code between them part none."""
-    found, before, is_open = [], None, False
+    found: List[List[int]] = []
+    is_open = False
     for number, line in sorted(file.lines.items()):
         if line.is_executed:
             is_open = False

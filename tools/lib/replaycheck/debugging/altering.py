@@ -50,7 +50,7 @@ class Alterer:
     def writes(self):
         """The alterations that stand and write memory: of each its step and the range of bytes. Bits are inverted in a word."""
         for line in self.standing()[0]:
-            word, step, place, *more = [*line.split(" "), ""]
+            word, step, place, *more = line.split(" ") + [""]
             if word == "write" or word == "flip" and place[0].isdigit():
                 yield number(step), (number(place), number(more[0]) if word == "write" else SIZES[0])
 

@@ -25,7 +25,8 @@ class Instructions:
         """Finds out which instruction is executed at each step of edits."""
         if self.request is None:
             return
-        steps, pairs = set(), {}
+        steps: Set[int] = set()
+        pairs: Dict[int, Set[int]] = {}
         for edit in edits:
             pair = PAIR.fullmatch(edit)
             steps.add(steps_in(edit)[0])
@@ -51,8 +52,8 @@ class Instructions:
         if before is not None:
             before.end()
         self.asked = 0
-        return Session(*(it.path or None for it in self.request.files), command="look", isa=self.request.isa,
-                       regions=self.request.regions)
+        program, given, supp = (it.path or None for it in self.request.files)
+        return Session(program, given, supp, command="look", isa=self.request.isa, regions=self.request.regions)
 
     def look(self, session: Session, skipped: Optional[int], steps: List[int]) -> None:
         """Looks at steps, by lines that go together into a pipe. Of a program that doesn't have skips nothing is learnt."""

@@ -120,6 +120,7 @@ class Looker:
 
     def replies(self) -> Iterator[Tuple[Sent, str, Optional[int], str]]:
         """Reads what has come: of each reply the line that it is to, and its edit and part."""
+        assert self.session is not None  # the pipe of one is registered, until it ends
         content = os.read(self.session.child.stdout.fileno(), 1 << 16)
         if not content:
             raise fault_of(self.waiting[0][0].edit if self.waiting else self.stands, self.session.ended())
@@ -176,8 +177,8 @@ class Executed:
         self.selector.close()
 
     def session(self) -> Session:
-        return Session(*(it.path or None for it in self.request.files), command="look", isa=self.request.isa,
-                       regions=self.request.regions)
+        program, given, supp = (it.path or None for it in self.request.files)
+        return Session(program, given, supp, command="look", isa=self.request.isa, regions=self.request.regions)
 
     def opened(self) -> Session:
         """A session at the step."""
@@ -192,7 +193,8 @@ class Executed:
 
     def lines_of_looks(self) -> List[Tuple[str, Optional[int]]]:
         """The lines that look at a run, each with the part that it is at, None where there isn't one."""
-        found, others = [], []
+        found: List[Tuple[str, Optional[int]]] = []
+        others: List[List[int]] = []
         for begin in sorted(self.sides.parts):
             length = self.sides.length(begin)
             if begin in self.reached:
@@ -280,10 +282,11 @@ class Executed:
             self.work()
         for at, digits in self.merged.sides.items() if self.merged else ():
             self.sides.add_line(at, digits.decode("ascii"))
-        self.progress.end()
+        if self.progress:
+            self.progress.end()
         for it in self.request.files:
             check_unchanged(it)
-        return Covered(self.path, self.code, self, self.places)
+        return Covered(self.path, self.code, self.all(), self.places)
 
 
 def told_range(program: bytes) -> Tuple[int, int]:
@@ -302,7 +305,7 @@ def check_lines(path, code: Code, places: Places):
     for it in code.instructions([]):
         if places.at(f"0x{it.address:08x}"):
             return
-    Covered(path, code, Sides(code.ranges, code.unit), places)
+    Covered(path, code, {}, places)
 
 
 def check_unchanged(given):

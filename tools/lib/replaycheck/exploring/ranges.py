@@ -27,10 +27,22 @@ class Places:
     `most` edits at most."""
 
     kind: str
-    size: int
-    start: int
-    stride: int
-    most: int
+
+    @property
+    def size(self) -> int:
+        raise NotImplementedError
+
+    @property
+    def start(self) -> int:
+        raise NotImplementedError
+
+    @property
+    def stride(self) -> int:
+        raise NotImplementedError
+
+    @property
+    def most(self) -> int:
+        raise NotImplementedError
 
     @property
     def count(self) -> int:
@@ -239,8 +251,6 @@ def length_of(value: Value) -> int:
 
 def values_for(values: Values, length: int, was: int) -> List[int]:
     """The values that an instruction of a length is given. A list is of words, and so of instructions of 32 bits."""
-    if values == "flips":
-        return [was ^ 1 << bit for bit in range(BITS * length)]
-    if values == "skip":
-        return [NO_OP[length]]
+    if isinstance(values, str):
+        return [was ^ 1 << bit for bit in range(BITS * length)] if values == "flips" else [NO_OP[length]]
     return [] if length == HALF else list(values)

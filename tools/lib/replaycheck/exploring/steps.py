@@ -153,9 +153,9 @@ def byte_edits(step: int, address: int) -> Iterator[str]:
 
 def bit_of(edit: str) -> Tuple[int, int]:
     """The address of the byte, and the number of the bit in it, of an edit of memory; of a mask of several bits the highest."""
-    found = BIT.fullmatch(edit)
-    place = max(int(found[2], 16).bit_length() - 1, 0)
-    return int(found[1], 16) + place // BYTE_BITS, place % BYTE_BITS
+    _, _, word, mask = edit.split(" ")
+    place = max(int(mask, 16).bit_length() - 1, 0)
+    return int(word, 16) + place // BYTE_BITS, place % BYTE_BITS
 
 
 def turned_bytes(step: int, edits: List[str]) -> Optional[List[int]]:

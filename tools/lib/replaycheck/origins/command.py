@@ -1,5 +1,5 @@
 """The command line of `replaycheck origin`, and its answer."""
-from replaycheck.endings import Fault, write
+from replaycheck.endings import write
 from replaycheck.options import LAST_STEP, USUAL_STEP, Reader, edit, number
 
 from .image import Image

@@ -1,7 +1,7 @@
 """The input of a run: a sequence of bytes, each change of which is an edit."""
 from __future__ import annotations
 
-from typing import TYPE_CHECKING, Iterable, Sequence, Union, overload
+from typing import TYPE_CHECKING, Iterable, Sequence, Union, cast, overload
 
 from replaycheck.scripting.errors import Usage
 
@@ -74,9 +74,13 @@ class Input(Sequence[int]):
         return last
 
 
-def bytes_of(value: Union[bytes, Iterable[int], int]) -> bytes:
-    """Returns values as bytes."""
+def bytes_of(value: object) -> bytes:
+    """Returns values as bytes.
+
+    # Errors
+
+    `Usage` for anything else."""
     try:
-        return bytes(iter(value))  # of a number bytes() would make that many zeros
+        return bytes(iter(cast(Iterable[int], value)))  # of a number bytes() would make that many zeros
     except (TypeError, ValueError) as fault:
         raise Usage(f"input: no byte: {value!r}: {fault}") from None

@@ -100,11 +100,11 @@ def patch_lines(at: int, had: Halves, wanted: Halves, unedited: Dict[int, int]) 
     """Yields the lines that make halves at a multiple of 4 those of another scenario. One that no patch has written there is as in the
     file. Where only one of the two was ever patched, that is a line for instructions of 16 bits."""
     first = (unedited[at] & LOW, unedited[at] >> BITS) if None in wanted else UNPATCHED
-    found = [old if half is None and was is not None else half for half, was, old in zip(wanted, had, first)]
-    if None not in found:
-        yield f"patch 0x{at:x} 0x{found[1] << BITS | found[0]:08x}"
+    low, high = (old if half is None and was is not None else half for half, was, old in zip(wanted, had, first))
+    if low is not None and high is not None:
+        yield f"patch 0x{at:x} 0x{high << BITS | low:08x}"
         return
-    yield from (f"patch16 0x{at + HALF * place:x} 0x{half:04x}" for place, half in enumerate(found) if half is not None)
+    yield from (f"patch16 0x{at + HALF * place:x} 0x{half:04x}" for place, half in enumerate((low, high)) if half is not None)
 
 
 def number(text: str) -> int:

@@ -29,13 +29,15 @@ class Talk(looking.Run):
         data = {what: read(what, source) for what, source in there.items()}
         self.names = {what: name_of(what, source) for what, source in there.items()}
         self.scenario, self.symbols = Scenario(data["input"]), Symbols(data["image"], self.names["image"])
-        self.shown, self.unedited = self.scenario, {}
+        self.shown = self.scenario
+        self.unedited: dict[int, int] = {}
         self.owner, self.is_sure, self.session, self.lines = os.getpid(), True, None, 0
         self.rooms: dict[str, Room] = {}
         try:
             for what in data:
                 self.rooms[what] = Room(what, data[what])
-            super().__init__(*(self.rooms[what].path if what in self.rooms else None for what in sources), isa, regions)
+            paths = {what: room.path for what, room in self.rooms.items()}
+            super().__init__(paths["image"], paths["input"], paths.get("suppressions"), isa, regions)
         except OSError as fault:
             self.close()
             raise self.told(fault) from None
@@ -51,18 +53,17 @@ class Talk(looking.Run):
 
     # ---- the session
 
-    def ready(self) -> None:
-        """Sees to it that there is a session of the scenario."""
+    def ready(self) -> Session:
+        """Returns the session of the scenario, another one where there is none."""
         if self.owner != os.getpid():
             raise errors.Usage("a Run belongs to the process that opened it")
         if not self.is_sure or self.lines >= looking.MOST_LINES:
             self.drop()
         if self.session is not None and self.shown is not self.scenario:
-            self.follow()
-        if self.session is None:
-            self.open()
+            self.follow(self.session)
+        return self.open() if self.session is None else self.session
 
-    def follow(self) -> None:
+    def follow(self, session: Session) -> None:
         """Leads the session to the scenario, or ends it."""
         lines = list(islice(self.shown.lines_to(self.scenario, self.unedited), MOST_FOLLOWED + 1))
         if not self.shown.leads_to(self.scenario) or len(lines) > MOST_FOLLOWED:
@@ -70,26 +71,28 @@ class Talk(looking.Run):
             return
         self.is_sure = False
         try:
-            self.session.accept_all(lines)
+            session.accept_all(lines)
         except Fault:
             self.drop()
             return
         self.lines += len(lines)
         self.shown, self.is_sure = self.scenario, True
 
-    def open(self) -> None:
+    def open(self) -> Session:
         self.rooms["input"].write(self.scenario.input)
         lines = [*Scenario(self.scenario.input).lines_to(self.scenario, self.unedited), f"goto {self.chosen}"]
         self.is_sure = False
         try:
             lent = [it.number for it in self.rooms.values()]
-            self.session = Session(*self.files, keeps_status=True, lends=lent, command="look", path=built_program(), isa=self.isa,
-                                   regions=self.regions)
-            self.session.accept_all(lines)
+            program, given, supp = self.files
+            session = self.session = Session(program, given, supp, keeps_status=True, lends=lent, command="look", path=built_program(),
+                                             isa=self.isa, regions=self.regions)
+            session.accept_all(lines)
         except (Fault, OSError) as fault:
             self.drop()
             raise self.told(fault) from None
         self.lines, self.shown, self.is_sure = len(lines), self.scenario, True
+        return session
 
     def told(self, fault: Fault | OSError) -> errors.Error:
         """Returns the exception of this package for a fault of the tools, or of the system as too many files are open."""
@@ -101,11 +104,11 @@ class Talk(looking.Run):
 
     def accepted(self, line: str, then: Callable[[], None] | None = None) -> list[str]:
         """Returns the reply to a line that must not be refused. `then` is what it does to this object."""
-        self.ready()
+        session = self.ready()
         self.lines += 1
         self.is_sure = False
         try:
-            rows = self.session.ask(line)
+            rows = session.ask(line)
         except Fault as fault:
             self.drop()
             raise self.told(fault) from None

@@ -76,7 +76,8 @@ class Search:
         given = [] if options.input else self.folder.seeds(options.max_len)
         self.seeds = given or seeds(options.input, options.max_len, say)
         self.seed = self.first_file()
-        self.step_note, self.of_seeds = "", []
+        self.step_note = ""
+        self.of_seeds: List[str] = []
         self.choose_step()
         self.tokens = tokens_in(options.tokens) if options.tokens is not None else []
         self.reached = Reached(options, self.code, self.folder.queue)
@@ -248,10 +249,10 @@ class Search:
     def end(self, lcov_file) -> int:
         """Prints what was found. Returns the status."""
         self.reached.look_at_all()
-        covered = Covered(self.options.file, self.code, self.reached.sides, self.places) if self.places else None
+        covered = Covered(self.options.file, self.code, self.reached.sides.all(), self.places) if self.places else None
         self.state.write(is_last=True)
         self.state.end()
-        if lcov_file:
+        if lcov_file and covered:
             lcov_file.write(lcov.text_of(covered).encode("utf-8", "surrogateescape"))
             lcov_file.end()
         if self.options.lcov != "-":

@@ -44,13 +44,14 @@ class Folder:
     def __init__(self, path: str):
         self.path = path.rstrip("/") or "/"
         names = ("", *map(str, range(2, MOST_SEARCHES)))
-        self.own, self.lock = next(filter(None, map(self.locked, names)), (None, None))
-        if self.own is None:
+        found = next(filter(None, map(self.locked, names)), None)
+        if found is None:
             raise Fault(f"{shown_name(path)}: {MOST_SEARCHES - 1} searches work in this folder")
+        self.own, self.lock = found
         for name in (QUEUE, FINDINGS):
             os.makedirs(os.path.join(self.own, name), exist_ok=True)
 
-    def locked(self, name: str):
+    def locked(self, name: str) -> Optional[Tuple[str, int]]:
         """A folder and its lock, if no other search has that."""
         folder = os.path.join(self.path, name) if name else self.path
         os.makedirs(folder, exist_ok=True)
@@ -100,8 +101,8 @@ class Folder:
         for name in sorted(os.listdir(os.path.join(self.own, FINDINGS))):
             found = FINDING.fullmatch(name)
             text = read(self.finding(name), 1 << 16) if found else None
-            content = read(self.finding(f"{found[1]}.input"), 1 << 20) if text else None
-            if content is not None:
+            content = read(self.finding(f"{found[1]}.input"), 1 << 20) if found and text else None
+            if found and text and content is not None:
                 line, *more = text.decode("utf-8", "surrogateescape").rstrip("\n").split("\n")
                 counts = [TRIES.fullmatch(it) for it in more]
                 address = more[0] if more and not counts[0] else ""

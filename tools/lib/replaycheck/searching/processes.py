@@ -1,6 +1,7 @@
 """The processes of a search: workers, and what they report."""
 from __future__ import annotations
 
+import io
 import json
 import os
 import selectors
@@ -20,6 +21,8 @@ AT_ONCE = 1 << 16  # bytes of one read
 
 class Forked(child_processes.Child):
     """A worker, which is a copy of this process. It ends when a signal ends this one. `stdout` is the pipe of its reports."""
+
+    stdout: io.FileIO
 
     def __init__(self, work: Callable, unneeded: List[int]):
         self.status, self.unread, self.has_ended = None, b"", False

@@ -67,11 +67,12 @@ class Tries:
                  outcomes: Outcomes, tick: Callable[[], None]):
         self.opened, self.step, self.length, self.known, self.outcomes, self.tick = opened, step, length, known, outcomes, tick
         self.session: Optional[Session] = None
-        self.base: Optional[bytes] = None
+        self.base = b""
         self.waiting: Deque[Waiting] = deque()
         self.unsent = bytearray()
         self.lines: List[bytes] = []  # those that have come and aren't taken yet, the first of them last
-        self.unread, self.part = b"", []  # a line, and the lines of a reply, that isn't whole
+        self.unread = b""  # a line that isn't whole
+        self.part: List[bytes] = []  # the lines of a reply that isn't whole
         self.numbers: List[int] = []  # the numbers of the session's outcomes
         self.dull: Set[bytes] = set()  # replies to tries that have no news
         self.counted = self.runs = 0
@@ -82,7 +83,7 @@ class Tries:
     def close(self):
         if self.session is not None:
             self.session.end()
-        self.session, self.base = None, None
+        self.session, self.base = None, b""
 
     def open(self, content: bytes):
         """Begins a session, which makes the known runs first."""
