@@ -1,6 +1,6 @@
 //! How orders are carried out and what they write, over files, readers and writers that fail.
 use crate::shelf::Shelf;
-use crate::words::{Said, profile_of};
+use crate::words::{Given, profile_of};
 use command_line::{Action, Order, SweepArgs, Task};
 use driver::{RunFault, run_once, run_order, tell};
 use guest_elf::{Image, read};
@@ -177,7 +177,7 @@ fn status_of(alloc: Global, order: &Order<'_>, shelf: &Shelf<'_>, writer: &mut R
 }
 
 /// Whether an order on a program, of which this is said, ends in this way.
-fn is_carried_on(alloc: Global, program: &[u8], said: Said, case: &Case) -> bool {
+fn is_carried_on(alloc: Global, program: &[u8], said: Given, case: &Case) -> bool {
     let (_, (file, has_rules, asked), rules, status, written) = case;
     let (input, task) = task_of(asked);
     let order = Order {
@@ -193,7 +193,7 @@ fn is_carried_on(alloc: Global, program: &[u8], said: Said, case: &Case) -> bool
 }
 
 /// Whether one on a new program does.
-fn is_carried(alloc: Global, said: Said, case: &Case) -> Result<bool, AllocError> {
+fn is_carried(alloc: Global, said: Given, case: &Case) -> Result<bool, AllocError> {
     let file = program(alloc, &EXITS)?;
     Ok(is_carried_on(alloc, &file, said, case))
 }
@@ -202,7 +202,7 @@ fn is_carried(alloc: Global, said: Said, case: &Case) -> Result<bool, AllocError
 fn assert_carried(rt: &impl Abort, alloc: Global, cases: &[Case]) {
     for case in cases {
         assert!(rt;
-            matches!(is_carried(alloc, Said::Nothing, case), Ok(true)),
+            matches!(is_carried(alloc, Given::Nothing, case), Ok(true)),
             "{}",
             case.0
         );
@@ -210,12 +210,12 @@ fn assert_carried(rt: &impl Abort, alloc: Global, cases: &[Case]) {
 }
 
 /// What is said of what a file is read for, and an order for that.
-type Named = (Said, Case);
+type Named = (Given, Case);
 
 /// Orders for a profile. One that there isn't ends them before the file is read, and after the arguments of a sweep.
 const NAMED: [Named; 9] = [
     (
-        Said::Heap("805306368"),
+        Given::Heap("805306368"),
         (
             "a report with the heap elsewhere",
             ("program", false, Asked::Do(Action::Report(3))),
@@ -225,7 +225,7 @@ const NAMED: [Named; 9] = [
         ),
     ),
     (
-        Said::Heap("0x48000000"),
+        Given::Heap("0x48000000"),
         (
             "no region of a heap",
             ("program", false, Asked::Do(Action::Report(3))),
@@ -235,7 +235,7 @@ const NAMED: [Named; 9] = [
         ),
     ),
     (
-        Said::Stack("0x7f000000"),
+        Given::Stack("0x7f000000"),
         (
             "no region of a stack",
             ("program", false, Asked::Do(Action::Session)),
@@ -245,7 +245,7 @@ const NAMED: [Named; 9] = [
         ),
     ),
     (
-        Said::Heap("0x70000000"),
+        Given::Heap("0x70000000"),
         (
             "regions that overlap",
             ("prog", false, Asked::Sweep(None, None, "1/1")),
@@ -255,7 +255,7 @@ const NAMED: [Named; 9] = [
         ),
     ),
     (
-        Said::Isa("rv32imc"),
+        Given::Isa("rv32imc"),
         (
             "a report for rv32imc",
             ("program", false, Asked::Do(Action::Report(3))),
@@ -265,7 +265,7 @@ const NAMED: [Named; 9] = [
         ),
     ),
     (
-        Said::Isa("rv32imac"),
+        Given::Isa("rv32imac"),
         (
             "a report for rv32imac",
             ("program", false, Asked::Do(Action::Report(3))),
@@ -275,7 +275,7 @@ const NAMED: [Named; 9] = [
         ),
     ),
     (
-        Said::Isa("rv32gc"),
+        Given::Isa("rv32gc"),
         (
             "a session for another set",
             ("prog", false, Asked::Do(Action::Session)),
@@ -285,7 +285,7 @@ const NAMED: [Named; 9] = [
         ),
     ),
     (
-        Said::Isa("RV32IM"),
+        Given::Isa("RV32IM"),
         (
             "a sweep for another set",
             ("prog", false, Asked::Sweep(None, None, "1/1")),
@@ -295,7 +295,7 @@ const NAMED: [Named; 9] = [
         ),
     ),
     (
-        Said::Isa(""),
+        Given::Isa(""),
         (
             "a verdict for none",
             ("program", false, Asked::Do(Action::Certify(Some(3)))),

@@ -2,7 +2,7 @@
 ghost use Rattle.std.specs.Prelude.{◌≡◌, IfOk, option_map, string_bytes};
 
 use crate::shelf::Shelf;
-use crate::words::{COPIES, Said, WRITES, profile_of};
+use crate::words::{COPIES, Given, WRITES, profile_of};
 use command_line::{ExecArgs, Order, ProfileArgs, Task};
 use exit_status::tell_exec;
 use std::alloc::{AllocError, Global};
@@ -194,7 +194,7 @@ fn put(setting: &mut Setting, ask: Ask) {
 /// What is usual, but for what is asked for.
 fn setting_of(asks: &[Ask]) -> Setting {
     let mut setting = Setting {
-        profile: profile_of(Said::Nothing),
+        profile: profile_of(Given::Nothing),
         asked: PLAIN,
         input: b"",
         rooms: Rooms {

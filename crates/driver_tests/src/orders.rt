@@ -1,5 +1,5 @@
 //! The orders of command lines.
-use crate::words::{Said, profile_of};
+use crate::words::{Given, profile_of};
 use clap::error::ErrorKind;
 use command_line::{Action, Order, ProfileArgs, SweepArgs, Task, read_order};
 use std::alloc::{AllocError, Global};
@@ -73,7 +73,7 @@ type Line = (
     &'static str,
     &'static [&'static str],
     (&'static str, Option<&'static str>, Option<&'static str>),
-    Said,
+    Given,
     Task<'static>,
 );
 
@@ -115,35 +115,35 @@ const REPORTS: [Line; 5] = [
         "the usual step",
         &["run", "program"],
         ("program", None, None),
-        Said::Nothing,
+        Given::Nothing,
         Task::Do(Action::Report(1_048_576)),
     ),
     (
         "the greatest step",
         &["run", "--step=4194304", "f"],
         ("f", None, None),
-        Said::Nothing,
+        Given::Nothing,
         Task::Do(Action::Report(4_194_304)),
     ),
     (
         "no minus",
         &["run", "f", "--step=-0"],
         ("f", None, None),
-        Said::Nothing,
+        Given::Nothing,
         Task::Do(Action::Report(0)),
     ),
     (
         "a verdict",
         &["certify", "f", "--input", "i", "--step", "7"],
         ("f", Some("i"), None),
-        Said::Nothing,
+        Given::Nothing,
         Task::Do(Action::Certify(Some(7))),
     ),
     (
         "a verdict on no step that is given",
         &["certify", "f"],
         ("f", None, None),
-        Said::Nothing,
+        Given::Nothing,
         Task::Do(Action::Certify(None)),
     ),
 ];
@@ -158,42 +158,42 @@ const SESSIONS: [Line; 6] = [
         "a text for the heap's region, whatever it is",
         &["session", "f", "--heap-region", "here"],
         ("f", None, None),
-        Said::Heap("here"),
+        Given::Heap("here"),
         Task::Do(Action::Session),
     ),
     (
         "a text for the stack's region, whatever it is",
         &["session", "f", "--stack-region=there"],
         ("f", None, None),
-        Said::Stack("there"),
+        Given::Stack("there"),
         Task::Do(Action::Session),
     ),
     (
         "a name of an instruction set, whatever it is",
         &["session", "f", "--isa", "rv32"],
         ("f", None, None),
-        Said::Isa("rv32"),
+        Given::Isa("rv32"),
         Task::Do(Action::Session),
     ),
     (
         "a session with files",
         &["session", "f", "--supp", "s", "--input=i"],
         ("f", Some("i"), Some("s")),
-        Said::Nothing,
+        Given::Nothing,
         Task::Do(Action::Session),
     ),
     (
         "one that looks",
         &["look", "f", "--input", "i"],
         ("f", Some("i"), None),
-        Said::Nothing,
+        Given::Nothing,
         Task::Do(Action::Look),
     ),
     (
         "one that tries",
         &["tries", "f", "--input", "i", "--supp", "s"],
         ("f", Some("i"), Some("s")),
-        Said::Nothing,
+        Given::Nothing,
         Task::Do(Action::Tries),
     ),
 ];
@@ -208,7 +208,7 @@ const SWEEPS: [Line; 3] = [
         "a sweep of all bytes",
         &["sweep", "f"],
         ("f", None, None),
-        Said::Nothing,
+        Given::Nothing,
         Task::Sweep(SweepArgs {
             step: 1_048_576,
             bytes: None,
@@ -238,7 +238,7 @@ const SWEEPS: [Line; 3] = [
             "--step=9",
         ],
         ("f", None, None),
-        Said::Nothing,
+        Given::Nothing,
         Task::Sweep(SweepArgs {
             step: 9,
             bytes: Some("1..2"),
@@ -265,7 +265,7 @@ const SWEEPS: [Line; 3] = [
             "--pairs=skip",
         ],
         ("f", None, None),
-        Said::Nothing,
+        Given::Nothing,
         Task::Sweep(SweepArgs {
             step: 1_048_576,
             bytes: None,

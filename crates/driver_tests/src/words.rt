@@ -4,7 +4,7 @@ use command_line::ProfileArgs;
 
 /// What is said of what a file is read for.
 #[derive(Clone, Copy)]
-pub(crate) enum Said {
+pub(crate) enum Given {
     /// Nothing.
     Nothing,
     /// The name of an instruction set.
@@ -16,18 +16,18 @@ pub(crate) enum Said {
 }
 
 /// What a file is read for, by what is said of it.
-pub(crate) fn profile_of(said: Said) -> ProfileArgs<'static> {
+pub(crate) fn profile_of(said: Given) -> ProfileArgs<'static> {
     ProfileArgs {
         isa: match said {
-            Said::Isa(name) => name,
+            Given::Isa(name) => name,
             _ => "rv32im",
         },
         heap: match said {
-            Said::Heap(begin) => begin,
+            Given::Heap(begin) => begin,
             _ => "0x40000000",
         },
         stack: match said {
-            Said::Stack(range) => range,
+            Given::Stack(range) => range,
             _ => "0x7f000000..0x80000000",
         },
         most_moved: None,
