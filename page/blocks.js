@@ -51,7 +51,7 @@ export class Blocks {
   changed = new Map();
   picked = 0;
   frame = null;
-  map = null;
+  /** @type {?BlockMap} */ map = null;
   step;
 
   // `callerOf` tells which function a trace is of, beside those of the heap; `show` shows the memory at an address.

@@ -34,10 +34,10 @@ export class Machine {
   step = 0;
   seen = null;
   bytes = [];
-  registers;
-  memory;
-  stack;
-  blocks;
+  /** @type {Registers} */ registers;
+  /** @type {Memory} */ memory;
+  /** @type {Stack} */ stack;
+  /** @type {Blocks} */ blocks;
   shown;
   rested;
   names;

@@ -42,7 +42,7 @@ export class Opening {
   wanted = null;
   kept = new Kept();
   isForgotten = false;
-  targetPart;
+  /** @type {TargetPart} */ targetPart;
 
   // `open` takes files by their roles, each with a name and bytes, and gives whether they were opened; `refuse` a sentence; `source` has
   // the source files.

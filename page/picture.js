@@ -28,8 +28,8 @@ export class Picture {
   ends;
   pointed;
   canvas = $('picture');
-  legend;
-  lens;
+  /** @type {Legend} */ legend;
+  /** @type {Lens} */ lens;
   swept;
   cells;
   here;
@@ -39,7 +39,7 @@ export class Picture {
   rows;
   columns;
   taken;
-  outcomes;
+  /** @type {Outcomes} */ outcomes;
   looks;
   hatches;
 

@@ -31,7 +31,7 @@ const ONE = new Map([[0x19, (a) => Math.abs(a | 0)], [0x1f, (a) => -a], [0x20, (
 // An expression at one step. `context` has the `registers`, `read`, which promises bytes of memory with their undefined bits,
 // `frameAddress`, `frameBase` and `addressOf` a number in the unit's table.
 export class Expression {
-  reader;
+  /** @type {Reader} */ reader;
   end;
   context;
   values = [];

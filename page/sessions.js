@@ -78,7 +78,7 @@ export class Helper {
 export class Session {
   program;
   mostLines;
-  helper = null;
+  /** @type {?Helper} */ helper = null;
   isClosed = false;
   memory = 0;
   sessions = 0;

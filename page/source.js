@@ -17,7 +17,7 @@ export class Source {
   pc = null;
   step = null;
   address = null;
-  own;
+  /** @type {Sources} */ own;
   drawn;
   found;
   begin;

@@ -45,13 +45,13 @@ export class SweepPart {
   fail;
   told;
   workers;
-  sweep = null;
+  /** @type {?Sweep} */ sweep = null;
   of = null;
   ended = null;
-  idle;
+  /** @type {Idle} */ idle;
   plain = null;
-  counting = null;
-  picture;
+  /** @type {?Sweep} */ counting = null;
+  /** @type {Picture} */ picture;
   most;
 
   // `state` gives what is swept: the program, the scenario, the step and the function that is shown, and how instructions lie in

@@ -86,7 +86,7 @@ export class Sweep {
   asked;
   idle;
   told;
-  swept;
+  /** @type {Swept} */ swept;
   helpers = new Set();
   memory = 0;
   isStopped = false;

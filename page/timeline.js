@@ -26,7 +26,7 @@ const HEAP_CALLS = {
 class Part {
   from;
   to;
-  calls;
+  /** @type {Calls} */ calls;
   events = [];
   marks = [];
 
@@ -52,15 +52,15 @@ export class Timeline {
   isRead = false;
   isDone = false;
   fault = null;
-  first = null;
-  ground = null;
+  /** @type {?Part} */ first = null;
+  /** @type {?Calls} */ ground = null;
   every = 0;
   samples = new Map();
-  part = null;
+  /** @type {?Part} */ part = null;
   full = null;
   errors = [];
   errorsTo = 0;
-  reading;
+  /** @type {Reading} */ reading;
   asked;
 
   // `look` promises replies to lines at a step of a scenario; `changed` is called whenever more is known. A run has so many steps.

@@ -37,8 +37,8 @@ export class Variables {
   elf;
   functions = new Map();
   scopes = new Map();
-  read;
-  framesRead;
+  /** @type {Dwarf} */ read;
+  /** @type {Frames} */ framesRead;
 
   constructor(elf) {
     this.elf = elf;

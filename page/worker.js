@@ -29,8 +29,8 @@ class Waiting {
   lines = [];
   wake = null;
   asked = [];
-  replies;
-  run;
+  /** @type {Replies} */ replies;
+  /** @type {Run} */ run;
   ended;
 
   constructor({ module, files, target, limit }) {
