@@ -34,9 +34,13 @@ export function editsOfByte(marks, byte, what, last) {
 }
 
 export class Asking {
+  look;
+  scenario;
+
   // `look` promises the replies to lines at a step of a scenario.
   constructor({ look, scenario }) {
-    Object.assign(this, { look, scenario });
+    this.look = look;
+    this.scenario = scenario;
   }
 
   // Finds the last step before `step` that wrote a byte or changed a register (`wrote`), or that changed what is known of it (`since`).

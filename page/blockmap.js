@@ -8,9 +8,16 @@ const EDGE = 0.01;  // pixels from the end of a row, of a point beyond it
 const FULL_ROWS = 4;  // rows over which sizes are spread, beside what the least widths take
 
 export class BlockMap {
+  blocks;
+  wide;
+  begins = [];
+  ends = [];
+  rows;
+
   // Places blocks, in order, in rows of a width.
   constructor(blocks, wide) {
-    Object.assign(this, { blocks, wide: Math.max(LEAST, wide), begins: [], ends: [] });
+    this.blocks = blocks;
+    this.wide = Math.max(LEAST, wide);
     const least = blocks.length * (LEAST + BETWEEN), bytes = blocks.reduce((sum, it) => sum + it.size, 0) || 1;
     const rows = Math.max(1, Math.ceil(least / this.wide)) + (least > this.wide ? FULL_ROWS : 0);
     const each = Math.max(0, Math.min(MOST_EACH, (rows * this.wide - least) / bytes));

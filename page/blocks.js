@@ -43,10 +43,21 @@ export function changedBlocks(before, now) {
 }
 
 export class Blocks {
+  callerOf;
+  showMemory;
+  canvas = $('blocks');
+  blocks = [];
+  isWhole = true;
+  changed = new Map();
+  picked = 0;
+  frame = null;
+  /** @type {?BlockMap} */ map = null;
+  step;
+
   // `callerOf` tells which function a trace is of, beside those of the heap; `show` shows the memory at an address.
   constructor({ callerOf, show }) {
-    Object.assign(this, { callerOf, showMemory: show, canvas: $('blocks'), blocks: [], isWhole: true, changed: new Map(), picked: 0 });
-    Object.assign(this, { frame: null, map: null });
+    this.callerOf = callerOf;
+    this.showMemory = show;
     this.canvas.addEventListener('pointermove', (event) => this.point(event));
     this.canvas.addEventListener('click', (event) => {
       this.point(event);
@@ -65,7 +76,11 @@ export class Blocks {
   // Shows blocks before a step. What has changed is marked later.
   show({ blocks, isWhole }, step) {
     const start = this.blocks[this.picked]?.start ?? 0, found = blocks.findIndex((it) => it.start >= start);
-    Object.assign(this, { blocks, isWhole, step, changed: new Map(), picked: Math.max(0, found < 0 ? blocks.length - 1 : found) });
+    this.blocks = blocks;
+    this.isWhole = isWhole;
+    this.step = step;
+    this.changed = new Map();
+    this.picked = Math.max(0, found < 0 ? blocks.length - 1 : found);
     this.wait(false);
     say('blocks-told', this.summary());
     for (const it of ['blocks-frame', 'block-row', 'block-list', 'block-key']) $(it).hidden = !blocks.length;

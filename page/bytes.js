@@ -9,11 +9,28 @@ const TALL = 21;  // pixels of a row, until one is measured
 const HEX = /^[0-9a-fA-F]$/;
 
 export class Bytes {
+  edit;
+  tell;
+  moved;
+  here = 0;
+  read = 0;
+  scenario = null;
+  wide = EACH;
+  tall = TALL;
+  isOneRow = false;
+  grid = $('bytes');
+  rows;
+  series;
+  digit;
+  each;
+  pointed;
+
   // `edit` takes the scenario after an edit, and its series; `tell` gives what is said of a byte; `moved` is called when bytes have other
   // places.
   constructor({ edit, tell, moved }) {
-    Object.assign(this, { edit, tell, moved, here: 0, read: 0, scenario: null, wide: EACH, tall: TALL, isOneRow: false });
-    this.grid = $('bytes');
+    this.edit = edit;
+    this.tell = tell;
+    this.moved = moved;
     this.rows = element('div', { role: 'rowgroup' });
     this.grid.append(this.rows);
     this.grid.addEventListener('scroll', () => this.render());
@@ -75,7 +92,8 @@ export class Bytes {
 
   show(scenario, read) {
     if (scenario === this.scenario && read === this.read) return;
-    Object.assign(this, { scenario, read });
+    this.scenario = scenario;
+    this.read = read;
     this.here = Math.max(0, Math.min(this.here, scenario.length - 1));
     const has = scenario.length > 0;
     for (const it of ['bytes', 'value-row']) $(it).hidden = !has;

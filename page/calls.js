@@ -7,8 +7,13 @@ const MOST_BACK = 8;  // functions before an address that are asked whether they
 
 // The names of functions by addresses within them.
 export class Names {
+  elf;
+  functions;
+  known = new Map();
+
   constructor(elf) {
-    Object.assign(this, { elf, functions: elf.functions, known: new Map() });
+    this.elf = elf;
+    this.functions = elf.functions;
   }
 
   // The name of the function that begins at an address.
@@ -45,9 +50,21 @@ export function firstAfter(things, value, key = (it) => it) {
 }
 
 export class Calls {
+  from;
+  until;
+  names;
+  isSampled;
+  rows = [];
+  depth = -1;
+  stack = [];
+  hasForgotten = false;
+
   // `stack` has the addresses of `look stack` at the first step; `isSampled` says that what is between two stacks isn't known.
   constructor(from, stack, names, isSampled = false) {
-    Object.assign(this, { from, until: from, names, isSampled, rows: [], depth: -1, stack: [], hasForgotten: false });
+    this.from = from;
+    this.until = from;
+    this.names = names;
+    this.isSampled = isSampled;
     this.restart(from, stack);
   }
 
@@ -102,7 +119,8 @@ export class Calls {
     }
     this.leave(same - 1, step);
     for (const site of sites.slice(same)) this.enter(step, site, false);
-    Object.assign(this, { stack: sites, until: step + 1 });
+    this.stack = sites;
+    this.until = step + 1;
   }
 
   // Goes on with calls of which only the number is known.

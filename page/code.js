@@ -11,17 +11,44 @@ const MOST_ROWS = 1500;
 const HALF_DIGITS = /^0[xX][0-9a-fA-F]{4}$/, SHORT_DIGITS = /^(?:0[xX][0-9a-fA-F]{1,4}|[0-9]{1,5})$/;
 
 export class Code {
+  edit;
+  alter;
+  refuse;
+  shows;
+  isa = USUAL;
+  shown = null;
+  at = null;
+  writing = null;
+  pc = null;
+  step = 0;
+  rows = new Map();
+  frame = null;
+  elf;
+  lineOf;
+  scenario;
+  lengths;
+
   // `edit` takes the scenario after an edit, `alter` a line that alters the run at its step; `refuse` a sentence. `shows` is told the
   // address whose function is shown.
   constructor({ edit, alter, refuse, shows }) {
-    Object.assign(this, { edit, alter, refuse, shows, isa: USUAL, shown: null, at: null, writing: null, pc: null, step: 0 });
-    Object.assign(this, { rows: new Map(), frame: null });
+    this.edit = edit;
+    this.alter = alter;
+    this.refuse = refuse;
+    this.shows = shows;
     $('function').addEventListener('change', () => this.visit(Number($('function').value)));
   }
 
   // Shows `main` of a program for an instruction set, or its first function.
   open({ elf, lineOf, isa }, scenario) {
-    Object.assign(this, { elf, lineOf, isa, scenario, shown: null, at: null, writing: null, pc: null, rows: new Map() });
+    this.elf = elf;
+    this.lineOf = lineOf;
+    this.isa = isa;
+    this.scenario = scenario;
+    this.shown = null;
+    this.at = null;
+    this.writing = null;
+    this.pc = null;
+    this.rows = new Map();
     $('function').replaceChildren(...elf.functions.map((it) => element('option', { value: it.address }, it.name)));
     $('code-rows').replaceChildren();
     const first = elf.functions.find((it) => it.name === 'main') ?? elf.functions[0];
@@ -44,7 +71,9 @@ export class Code {
   turnTo(address, at = address) {
     const found = this.elf.functionAt(address);
     if (!found) return false;
-    Object.assign(this, { at, writing: null, shown: found });
+    this.at = at;
+    this.writing = null;
+    this.shown = found;
     $('function').value = found.address;
     this.render();
     return true;
@@ -87,7 +116,8 @@ export class Code {
   // Where the run is before a step, null where it has ended. Another step leads to the function that it is in, unless one works here.
   showPc(pc, step) {
     const before = this.pc, isStep = step !== this.step, follows = pc !== null && isStep && $('code-follows').checked && !this.isHeld;
-    Object.assign(this, { pc, step });
+    this.pc = pc;
+    this.step = step;
     const leaves = follows && !this.rows.has(pc) && this.elf.functionAt(pc)?.address !== this.shown?.address;
     if (!(leaves && this.turnTo(pc, null)) && (pc !== before || isStep)) for (const it of new Set([before, pc])) this.renderRow(it);
     if (follows) this.frame ??= requestAnimationFrame(() => this.showRow());

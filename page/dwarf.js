@@ -35,8 +35,26 @@ const MOST_LINKS = 8;  // references from one entry to the next one that has wha
 
 // One unit: its entries, each with its tag, its fields that are wanted, and the entries in it.
 class Unit {
-  constructor(dwarf, head) {
-    Object.assign(this, head, { dwarf, elf: dwarf.elf, entries: null });
+  dwarf;
+  elf;
+  version;
+  abbreviations;
+  first;
+  at;
+  end;
+  entries = null;
+  table;
+  root;
+
+  // A unit is between two places of the file, by what its head says.
+  constructor(dwarf, { version, abbreviations, first, at, end }) {
+    this.dwarf = dwarf;
+    this.elf = dwarf.elf;
+    this.version = version;
+    this.abbreviations = abbreviations;
+    this.first = first;
+    this.at = at;
+    this.end = end;
   }
 
   // Reads the unit's own entry only.
@@ -175,10 +193,15 @@ export const isAddress = ({ form }) => form === FORM.addr || ADDRESS_INDEX.has(f
 
 // All units of a file.
 export class Dwarf {
+  elf;
+  left = MOST_FIELDS;
+  tables = new Map();
+  info;
+  units = [];
+
   constructor(elf) {
-    Object.assign(this, { elf, left: MOST_FIELDS, tables: new Map() });
+    this.elf = elf;
     this.info = elf.section('.debug_info');
-    this.units = [];
     attempt(() => this.readUnits());
   }
 

@@ -7,10 +7,23 @@ const SHOWN = ['definite', 'indirect', 'possible', 'reachable'];
 const MOST_CHIPS = 200;
 
 export class Edits {
+  edit;
+  use;
+  refuse;
+  tell;
+  link;
+  text;
+  scenario;
+
   // `edit` takes a scenario, and `clear` takes all edits off; `use` takes the lines of a text, `refuse` and `tell` a sentence;
   // `link` promises the page's address with the scenario, and `text` gives its lines.
   constructor({ edit, clear, use, refuse, tell, link, text }) {
-    Object.assign(this, { edit, use, refuse, tell, link, text });
+    this.edit = edit;
+    this.use = use;
+    this.refuse = refuse;
+    this.tell = tell;
+    this.link = link;
+    this.text = text;
     $('none').addEventListener('click', clear);
     $('mark-form').addEventListener('submit', (event) => this.submit(event, () => this.mark()));
     $('option-form').addEventListener('submit', (event) => this.submit(event, () => this.options()));

@@ -17,15 +17,20 @@ function partsBeside(segment, [begin, end]) {
 }
 
 export class Elf {
+  bytes;
+  view;
+  segments = [];
+  sections = [];
+  functions = [];
+  functionNames = new Set();
+  labelNames = new Set();
+  left = MOST_NAMED;
+  flags = 0;
+  names;
+
   constructor(bytes) {
     this.bytes = bytes;
     this.view = new DataView(bytes.buffer, bytes.byteOffset, bytes.byteLength);
-    this.segments = [];
-    this.sections = [];
-    this.functions = [];
-    this.functionNames = new Set();
-    this.labelNames = new Set();
-    Object.assign(this, { left: MOST_NAMED, flags: 0 });
     try {
       this.read();
     } catch (fault) {

@@ -24,9 +24,13 @@ function parseCalls(text) {
 const parseStep = (text) => (text.startsWith('step ') ? Number(text.slice(5)) : null);
 
 export class Reading {
+  isWanted;
+  replies;
+
   // `ask` promises the replies to lines at a step; `isWanted` says whether somebody still wants what is read.
   constructor(ask, isWanted) {
-    Object.assign(this, { isWanted, replies: ask });
+    this.isWanted = isWanted;
+    this.replies = ask;
   }
 
   async ask(step, ...lines) {

@@ -45,8 +45,12 @@ function commonAt(elf, at) {
 }
 
 export class Frames {
+  elf;
+  functions = [];
+  commons = new Map();
+
   constructor(elf) {
-    Object.assign(this, { elf, functions: [], commons: new Map() });
+    this.elf = elf;
     for (const name of Object.keys(COMMON)) attempt(() => this.readSection(name));
     this.functions.sort((a, b) => a.begin - b.begin);
   }
@@ -96,8 +100,19 @@ function functionAt(reader, common, section, end) {
 
 // The operations of a function, carried out up to an instruction.
 class Rules {
+  elf;
+  common;
+  operations;
+  location;
+  rule = null;
+  remembered = [];
+  left = MOST_OPERATIONS;
+
   constructor(elf, { begin, common, operations }) {
-    Object.assign(this, { elf, common, operations, location: begin, rule: null, remembered: [], left: MOST_OPERATIONS });
+    this.elf = elf;
+    this.common = common;
+    this.operations = operations;
+    this.location = begin;
   }
 
   at(pc) {

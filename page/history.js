@@ -2,8 +2,12 @@
 const MOST = 1000;
 
 export class History {
+  all;
+  place = 0;
+  series = null;
+
   constructor(first) {
-    Object.assign(this, { all: [first], place: 0, series: null });
+    this.all = [first];
   }
 
   get now() { return this.all[this.place]; }

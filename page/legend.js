@@ -8,9 +8,17 @@ import { lengthAt } from './sweeping.js';
 const MOST = 60, MOST_LISTED = 40;
 
 export class Legend {
+  make;
+  changed;
+  hidden = new Set();
+  open = new Set();
+  pointed = null;
+  rows;
+
   // `make` makes an edit: a kind, a place and a value; `changed` is called when outcomes are taken out, put back or pointed at.
   constructor({ make, changed }) {
-    Object.assign(this, { make, changed, hidden: new Set(), open: new Set(), pointed: null });
+    this.make = make;
+    this.changed = changed;
     for (const [event, is] of [['pointerover', true], ['focusin', true], ['pointerleave', false], ['focusout', false]]) {
       $('legend-rows').addEventListener(event, ({ target }) => this.pointAt(is ? target.closest('tr')?.dataset.number : null));
     }

@@ -10,8 +10,13 @@ const ABOVE = 28;  // pixels between a finger and the magnifier
 const SLACK = 10;  // pixels that a finger moves while it is held
 
 export class Lens {
+  picture;
+  canvas = $('lens');
+  timer = null;
+  begun = null;
+
   constructor(picture) {
-    Object.assign(this, { picture, canvas: $('lens'), timer: null, begun: null });
+    this.picture = picture;
     const { canvas } = picture;
     canvas.addEventListener('pointerdown', (event) => this.begin(event));
     canvas.addEventListener('pointermove', (event) => this.move(event));

@@ -107,6 +107,9 @@ export const nameIn = (path) => path.replace(/.*\//, '');
 
 // The lines of a program's sources: where an address comes from.
 export class Lines {
+  rows;
+  all;
+
   constructor(elf) {
     this.rows = allRows(elf).filter((it) => it.address).map((it, order) => ({ ...it, order }));
     this.rows.sort((a, b) => a.address - b.address || b.isEnd - a.isEnd || a.order - b.order);

@@ -21,13 +21,44 @@ const differ = (a, b) => a.value !== b.value || a.undef !== b.undef;
 const differing = (a, b) => new Set(b.flatMap((it, i) => (differ(a[i], it) ? [i] : [])));
 
 export class Machine {
+  look;
+  search;
+  again;
+  go;
+  showPc;
+  functionAt;
+  lineOf;
+  rests;
+  chosen = null;
+  at = 0;
+  step = 0;
+  seen = null;
+  bytes = [];
+  /** @type {Registers} */ registers;
+  /** @type {Memory} */ memory;
+  /** @type {Stack} */ stack;
+  /** @type {Blocks} */ blocks;
+  shown;
+  rested;
+  names;
+  wanted;
+  timer;
+  asked;
+  cameFrom;
+
   // `look` promises the replies to lines at a step of what is shown, and `search` those of another session; `again` has all shown anew;
   // `alter` takes a line that alters the run at its step, `refuse` a sentence, `go` a step; `showPc` has the code show where the run is,
   // and `visit` goes there; `functionAt` and `lineOf` tell the function and the source line of an address. `rests` is told that
   // the step rests.
   constructor({ look, search, again, alter, refuse, go, showPc, visit, functionAt, lineOf, rests }) {
-    Object.assign(this, { look, search, again, go, showPc, functionAt, lineOf, rests, chosen: null, at: 0, step: 0 });
-    Object.assign(this, { seen: null, bytes: [] });
+    this.look = look;
+    this.search = search;
+    this.again = again;
+    this.go = go;
+    this.showPc = showPc;
+    this.functionAt = functionAt;
+    this.lineOf = lineOf;
+    this.rests = rests;
     const ask = (what, place) => this.ask(what, place), show = (address) => this.choose(address, address);
     this.registers = new Registers({ alter, refuse, ask });
     this.memory = new Memory({ alter, refuse, ask, choose: (address) => this.choose(address) });
@@ -39,7 +70,13 @@ export class Machine {
 
   open() {
     clearTimeout(this.timer);
-    Object.assign(this, { chosen: null, at: 0, seen: null, bytes: [], shown: null, rested: null, names: new Map() });
+    this.chosen = null;
+    this.at = 0;
+    this.seen = null;
+    this.bytes = [];
+    this.shown = null;
+    this.rested = null;
+    this.names = new Map();
     for (const it of [this.registers, this.memory, this.stack, this.blocks]) it.clear();
     this.tellAsked('');
   }
@@ -66,12 +103,16 @@ export class Machine {
     clearTimeout(this.timer);
     const seen = parseRegisters(registers);
     if (shown.scenario !== this.shown?.scenario) this.tellAsked('');
-    Object.assign(this, { shown, step: shown.step, seen, rested: null });
+    this.shown = shown;
+    this.step = shown.step;
+    this.seen = seen;
+    this.rested = null;
     this.showPc(seen.pc, shown.step);
     const sp = seen.registers[STACK].value, at = Math.min(this.chosen ?? sp - sp % GRAIN, HIGHEST - SEEN);
     const line = memoryLine(at), text = shown.lines.at(-1) === line ? memory : (await this.look(shown.step, [line]))[0];
     if (wanted !== this.wanted) return;
-    Object.assign(this, { at, bytes: parseMemory(text) });
+    this.bytes = parseMemory(text);
+    this.at = at;
     this.render(parseStack(stack), blocks);
     this.timer = setTimeout(() => this.rest(() => wanted !== this.wanted), REST);
   }

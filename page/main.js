@@ -47,8 +47,36 @@ const BEYOND_STEPS = 5;  // the number with which a session refuses a step
 class NotLoaded extends Error {}
 
 class App {
+  turn = 0;
+  left = 0;
+  isTravelling = false;
+  /** @type {?Opened} */ opened = null;
+  /** @type {?History} */ history = null;
+  sources = new Map();
+  /** @type {Source} */ source;
+  /** @type {Opening} */ opening;
+  /** @type {Bytes} */ bytes;
+  /** @type {Code} */ code;
+  /** @type {Machine} */ machine;
+  /** @type {VariablesPart} */ variables;
+  /** @type {Reports} */ reports;
+  /** @type {Verdict} */ verdict;
+  /** @type {Steps} */ steps;
+  /** @type {Strip} */ strip;
+  /** @type {Edits} */ edits;
+  /** @type {SweepPart} */ sweeps;
+  wanted;
+  /** @type {?Opened} */ judged;
+  scenario;
+  shown;
+  marked;
+  step;
+  isWanted;
+  isBusy;
+  timer;
+  lookedAt;
+
   constructor() {
-    Object.assign(this, { turn: 0, left: 0, isTravelling: false, opened: null, history: null, sources: new Map() });
     const edit = (scenario, series) => this.edit(scenario, series);
     const refuse = (text, how) => this.notice(text, how);
     const make = (...edit) => this.make(...edit);
@@ -177,7 +205,10 @@ class App {
   replace(opened, example) {
     const { history } = this;
     this.close();
-    Object.assign(this, { opened, judged: null, history, isTravelling: false });
+    this.opened = opened;
+    this.judged = null;
+    this.history = history;
+    this.isTravelling = false;
     this.opening.hold(opened.files, example, opened.target);
   }
 
@@ -187,7 +218,11 @@ class App {
     this.opened?.close();
     this.sweeps.close();
     this.strip.close();
-    Object.assign(this, { opened: null, scenario: null, history: null, shown: null, marked: null });
+    this.opened = null;
+    this.scenario = null;
+    this.history = null;
+    this.shown = null;
+    this.marked = null;
     this.notice('');
     this.showTravel();
     $('main').inert = true;
@@ -224,7 +259,9 @@ class App {
 
   async begin(scenario, lines = []) {
     const { opened, left } = this, { files, last, follow } = opened;
-    Object.assign(this, { scenario, step: follow, left: 0 });
+    this.scenario = scenario;
+    this.step = follow;
+    this.left = 0;
     say('example-told', this.opening.example?.about ?? '');
     if (this.opening.example) $('goal').value = this.opening.example.goal ?? '';
     say('heap-told', opened.heap);

@@ -14,10 +14,26 @@ const SINCE = { inaccessible: 'Inaccessible since?', undefined: 'Undefined since
 export const knownOf = ({ undef }) => (undef === null ? 'inaccessible' : undef ? 'undefined' : 'defined');
 
 export class Memory {
+  alter;
+  refuse;
+  choose;
+  at = 0;
+  bytes = [];
+  step = 0;
+  runs = false;
+  picked = null;
+  writing = null;
+  changed = new Set();
+  wide;
+  cells;
+  rows;
+
   // `alter` takes a line that alters the run at its step, `refuse` a sentence; `ask` takes a question about a byte; `choose` takes the
   // address that is wanted, null for where the stack is.
   constructor({ alter, refuse, ask, choose }) {
-    Object.assign(this, { alter, refuse, choose, at: 0, bytes: [], step: 0, runs: false, picked: null, writing: null, changed: new Set() });
+    this.alter = alter;
+    this.refuse = refuse;
+    this.choose = choose;
     $('memory-form').addEventListener('submit', (event) => {
       event.preventDefault();
       this.goTo($('memory-at').value.trim());
@@ -45,7 +61,9 @@ export class Memory {
   }
 
   clear() {
-    Object.assign(this, { bytes: [], picked: null, writing: null });
+    this.bytes = [];
+    this.picked = null;
+    this.writing = null;
     $('memory-rows').replaceChildren();
     $('byte-form').hidden = true;
   }
@@ -53,7 +71,11 @@ export class Memory {
   // Shows bytes from an address on, before a step. What has changed is marked later.
   show({ at, bytes, step, runs }) {
     if (at !== this.at || step !== this.step || !runs) this.endWriting();
-    Object.assign(this, { at, bytes, step, runs, changed: new Set() });
+    this.at = at;
+    this.bytes = bytes;
+    this.step = step;
+    this.runs = runs;
+    this.changed = new Set();
     if (document.activeElement !== $('memory-at')) $('memory-at').value = hexWord(at);
     if ($('memory-rows').childElementCount) this.render();
     else this.build();

@@ -17,6 +17,24 @@ const MOST_BEFORE = 500;  // reports of the unedited run that are kept
 const isRunning = (report) => report.state.startsWith('running');
 
 export class Opened {
+  program;
+  files;
+  target;
+  /** @type {Elf} */ elf;
+  base;
+  /** @type {Scenario} */ plain;
+  before = new Map();
+  /** @type {Lines} */ lines;
+  lineOf;
+  /** @type {Variables} */ variables;
+  /** @type {Session} */ session;
+  /** @type {Session} */ unedited;
+  /** @type {Session} */ search;
+  last;
+  follow;
+  heap;
+  board;
+
   // `base` is the input as it is read, a value of its own for each opening: scenarios over it are of these files and of this
   // target.
   constructor(files, module, base, { target, limit, again, lines, makeWorker }) {
@@ -24,8 +42,14 @@ export class Opened {
     elf.leaveOut(target.stack);
     const given = Object.fromEntries(Object.entries(files).map(([role, it]) => [role, it.bytes]));
     this.program = { module, files: given, target, base, elf, limit, again, makeWorker, loaded: (at, length) => elf.loaded(at, length) };
-    Object.assign(this, { files, target, elf, base, plain: new Scenario(base), before: new Map() });
-    Object.assign(this, { lines: lineTable, lineOf: remembered((address) => lineTable.lineOf(address)), variables: new Variables(elf) });
+    this.files = files;
+    this.target = target;
+    this.elf = elf;
+    this.base = base;
+    this.plain = new Scenario(base);
+    this.lines = lineTable;
+    this.lineOf = remembered((address) => lineTable.lineOf(address));
+    this.variables = new Variables(elf);
     this.session = new Session(this.program, lines);
     this.unedited = new Session(this.program);
     this.search = new Session(this.program);

@@ -33,11 +33,23 @@ class TooLarge extends Error {}
 const hasFiles = (event) => event.dataTransfer?.types.includes('Files');
 
 export class Opening {
+  open;
+  refuse;
+  source;
+  files = {};
+  example = null;
+  target = USUAL_TARGET;
+  wanted = null;
+  kept = new Kept();
+  isForgotten = false;
+  /** @type {TargetPart} */ targetPart;
+
   // `open` takes files by their roles, each with a name and bytes, and gives whether they were opened; `refuse` a sentence; `source` has
   // the source files.
   constructor({ open, refuse, source }) {
-    Object.assign(this, { open, refuse, source, files: {}, example: null, target: USUAL_TARGET, wanted: null, kept: new Kept() });
-    this.isForgotten = false;
+    this.open = open;
+    this.refuse = refuse;
+    this.source = source;
     for (const role of ROLES) {
       $(`open-${role}`).addEventListener('change', (event) => this.chosen(role, event.target));
     }
@@ -181,7 +193,10 @@ export class Opening {
 
   // Notes what is open now.
   hold(files, example, target) {
-    Object.assign(this, { files, example, target, isForgotten: false });
+    this.files = files;
+    this.example = example;
+    this.target = target;
+    this.isForgotten = false;
     this.targetPart.show(target);
     for (const it of $('examples').children) it.setAttribute('aria-pressed', it.textContent === example?.name);
   }
@@ -194,7 +209,10 @@ export class Opening {
   }
 
   // An edit is made: what a link waited for isn't wanted any more, and what is open is kept.
-  edited() { Object.assign(this, { wanted: null, isForgotten: false }); }
+  edited() {
+    this.wanted = null;
+    this.isForgotten = false;
+  }
 
   // Keeps what is open, unless it is what a page begins with, or was just thrown away.
   keep(lines) {

@@ -25,10 +25,16 @@ const foundIn = (text) => BADNESS.find(([begin]) => text.startsWith(begin));
 const badnessOf = (text) => foundIn(text)?.[1] ?? 0;
 
 class Outcome {
+  state;
+  parts = [];
+  fresh;
+  gone;
+  runsOn;
+  bad;
+
   constructor(text, lineOf) {
     const lines = text.split('\n');
     this.state = lines[0];
-    this.parts = [];
     for (let at = 1; at < lines.length;) {
       let end = at + 1;
       while (end < lines.length && lines[end].startsWith('   ')) end++;
@@ -58,8 +64,16 @@ class Outcome {
 // The outcomes of a sweep, by their numbers, of which 0 is that of the run that is swept. `goal` is a text with which a line
 // of an outcome begins, or empty.
 export class Outcomes {
+  swept;
+  lineOf;
+  goal;
+  made = [];
+  known;
+
   constructor(swept, lineOf, goal = '') {
-    Object.assign(this, { swept, lineOf, goal, made: [] });
+    this.swept = swept;
+    this.lineOf = lineOf;
+    this.goal = goal;
   }
 
   reaches(number) { return this.goal !== '' && this.swept.outcomes[number].split('\n').some((it) => it.startsWith(this.goal)); }

@@ -23,11 +23,34 @@ const DARK = matchMedia('(prefers-color-scheme: dark)');
 const within = (at, count) => Math.max(0, Math.min(count - 1, at));
 
 export class Picture {
+  make;
+  otherRun;
+  ends;
+  pointed;
+  canvas = $('picture');
+  /** @type {Legend} */ legend;
+  /** @type {Lens} */ lens;
+  swept;
+  cells;
+  here;
+  timer;
+  before;
+  count;
+  rows;
+  columns;
+  taken;
+  /** @type {Outcomes} */ outcomes;
+  looks;
+  hatches;
+
   // `make` makes an edit: a kind, a place and a value; `otherRun` tells which run the picture is of, where another one is shown; `ends`
   // gives where the bytes begin and end, in pixels from the left, if there is this number of them and they are in one row; `pointed` takes
   // the byte that one points at.
   constructor({ make, otherRun, ends, pointed }) {
-    Object.assign(this, { make, otherRun, ends, pointed, canvas: $('picture') });
+    this.make = make;
+    this.otherRun = otherRun;
+    this.ends = ends;
+    this.pointed = pointed;
     this.legend = new Legend({ make, changed: () => this.draw() });
     this.canvas.addEventListener('pointermove', (event) => this.point(event));
     this.canvas.addEventListener('click', (event) => {
@@ -46,7 +69,10 @@ export class Picture {
 
   clear() {
     clearTimeout(this.timer);
-    Object.assign(this, { swept: null, cells: [], here: { column: 0, row: 0 }, timer: null });
+    this.swept = null;
+    this.cells = [];
+    this.here = { column: 0, row: 0 };
+    this.timer = null;
     this.legend.clear();
     say('picture-told', '');
     $('picture-parts').hidden = $('picture-make').hidden = true;
@@ -56,7 +82,12 @@ export class Picture {
   begin(swept, before, lineOf, goal) {
     this.clear();
     const count = placesOf(swept.asked), rows = swept.asked.values === 'all' ? 256 : valuesOf(swept.asked);
-    Object.assign(this, { swept, before, count, rows, columns: Math.min(count, MOST_COLUMNS), taken: new Map() });
+    this.swept = swept;
+    this.before = before;
+    this.count = count;
+    this.rows = rows;
+    this.columns = Math.min(count, MOST_COLUMNS);
+    this.taken = new Map();
     this.outcomes = new Outcomes(swept, lineOf, goal);
     this.empty();
     $('picture-parts').hidden = false;

@@ -31,8 +31,17 @@ const ONE = new Map([[0x19, (a) => Math.abs(a | 0)], [0x1f, (a) => -a], [0x20, (
 // An expression at one step. `context` has the `registers`, `read`, which promises bytes of memory with their undefined bits,
 // `frameAddress`, `frameBase` and `addressOf` a number in the unit's table.
 export class Expression {
+  /** @type {Reader} */ reader;
+  end;
+  context;
+  values = [];
+  pieces = [];
+  place = null;
+
   constructor(elf, { at, length }, context) {
-    Object.assign(this, { reader: new Reader(elf, at), end: at + length, context, values: [], pieces: [], place: null });
+    this.reader = new Reader(elf, at);
+    this.end = at + length;
+    this.context = context;
   }
 
   // The pieces of the value; none where the expression is empty.
@@ -159,8 +168,16 @@ const LOST = { value: 0, undef: 0, isLost: true };
 
 // What a variable has, by the pieces in which it is.
 export class Content {
+  elf;
+  pieces;
+  registers;
+  read;
+
   constructor(elf, pieces, { registers, read }) {
-    Object.assign(this, { elf, pieces, registers, read });
+    this.elf = elf;
+    this.pieces = pieces;
+    this.registers = registers;
+    this.read = read;
   }
 
   // The address, if all is in memory from there on; else null.

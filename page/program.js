@@ -9,13 +9,23 @@ const FIRST_FILE = 3;
 export const canWait = typeof WebAssembly.Suspending === 'function' && typeof WebAssembly.promising === 'function';
 
 export class Run {
+  words;
+  files;
+  ask;
+  tell;
+  opened = [];
+  given = null;
+  said = '';
+  exports;
+  start;
+
   // `ask` gives the next bytes of standard input, null at its end, or a promise of either where `waits`; `tell` takes what is
   // written to standard output, and must copy what it keeps.
   constructor(module, { words, files, limit, ask, tell, waits = false }) {
-    Object.assign(this, { words, files, ask, tell });
-    this.opened = [];
-    this.given = null;
-    this.said = '';
+    this.words = words;
+    this.files = files;
+    this.ask = ask;
+    this.tell = tell;
     const read = (file, at, most) => this.read(file, at, most);
     const page = {
       read: waits ? new WebAssembly.Suspending(read) : read,

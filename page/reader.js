@@ -15,8 +15,12 @@ const MOST_BYTES = 8;  // of a number
 export class Unknown extends Error {}
 
 export class Reader {
+  elf;
+  at;
+
   constructor(elf, at) {
-    Object.assign(this, { elf, at });
+    this.elf = elf;
+    this.at = at;
   }
 
   byte() { return this.elf.view.getUint8(this.at++); }

@@ -8,9 +8,18 @@ const WORD = 32, GROUP = 8;  // bits of a register, and of those that stand toge
 const FIRST = 10;  // the register that is picked first: a0
 
 export class Registers {
+  alter;
+  refuse;
+  picked = FIRST;
+  seen = null;
+  step = 0;
+  changed = new Set();
+  buttons;
+
   // `alter` takes a line that alters the run at its step, `refuse` a sentence; `ask` takes a question about a register.
   constructor({ alter, refuse, ask }) {
-    Object.assign(this, { alter, refuse, picked: FIRST, seen: null, step: 0, changed: new Set() });
+    this.alter = alter;
+    this.refuse = refuse;
     $('register-form').addEventListener('submit', (event) => {
       event.preventDefault();
       this.set();
@@ -25,7 +34,9 @@ export class Registers {
 
   // Shows what registers are before a step. What has changed is marked later.
   show(seen, step) {
-    Object.assign(this, { seen, step, changed: new Set() });
+    this.seen = seen;
+    this.step = step;
+    this.changed = new Set();
     if (!$('registers').childElementCount) this.build();
     REGISTERS.forEach((_, number) => number && this.update(number));
     this.renderPicked();

@@ -8,10 +8,8 @@ const LISTED = new Set(['calls', 'blocks']);
 const LIST_END = /^(?:end|next .*)\n/m;
 
 export class Replies {
-  constructor() {
-    this.rest = '';
-    this.asked = [];
-  }
+  rest = '';
+  asked = [];
 
   // Takes lines whose replies come next.
   ask(lines) {

@@ -7,9 +7,18 @@ const BADGES = { new: 'new', changed: 'changed', gone: 'gone' };
 const MOST_GROUPS = 200;
 
 export class Reports {
+  lineOf;
+  visit;
+  suppress;
+  kinds;
+  groups;
+
   // `lineOf` tells the source line of an address; `visit` shows its code; `suppress` takes a suppression's text.
   constructor({ lineOf, visit, suppress, kinds }) {
-    Object.assign(this, { lineOf, visit, suppress, kinds });
+    this.lineOf = lineOf;
+    this.visit = visit;
+    this.suppress = suppress;
+    this.kinds = kinds;
   }
 
   // `where` tells where in the run the reports are, its own and that of the unedited run.

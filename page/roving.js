@@ -6,9 +6,15 @@ const ALONG = { ArrowLeft: -1, ArrowRight: 1 }, ACROSS = { ArrowUp: -1, ArrowDow
 const isText = (it) => it.tagName === 'INPUT' && it.type !== 'checkbox';
 
 export class Roving {
+  part;
+  row;
+  place = 0;
+  held = null;
+
   // A part by its id, and what a row is in it.
   constructor(id, row = 'tr') {
-    Object.assign(this, { part: $(id), row, place: 0, held: null });
+    this.part = $(id);
+    this.row = row;
     this.part.addEventListener('focusin', ({ target }) => this.stopAt(target));
     this.part.addEventListener('keydown', (event) => this.key(event));
     new MutationObserver(() => this.renew()).observe(this.part, { childList: true, subtree: true, attributeFilter: ['disabled'] });
@@ -27,7 +33,8 @@ export class Roving {
   stopAt(target) {
     const { things } = this, at = things.indexOf(target);
     if (at < 0) return;
-    Object.assign(this, { place: at, held: target.dataset.held ?? null });
+    this.place = at;
+    this.held = target.dataset.held ?? null;
     for (const it of things) it.tabIndex = it === target ? 0 : -1;
   }
 

@@ -11,9 +11,27 @@ export const OPTIONS = { redzone: '16', queue: '20000000', callers: '12', show: 
 export class NoEdit extends Error {}
 
 export class Scenario {
-  constructor(base, parts = {}) {
-    Object.assign(this, { cut: 0, appended: [], changes: new Map(), patches: new Map(), marks: [], options: new Map(),
-      added: [], switched: new Map(), ...parts, base });
+  base;
+  cut;
+  appended;
+  changes;
+  patches;
+  marks;
+  options;
+  added;
+  switched;
+
+  constructor(base, { cut = 0, appended = [], changes = new Map(), patches = new Map(), marks = [], options = new Map(), added = [],
+    switched = new Map() } = {}) {
+    this.base = base;
+    this.cut = cut;
+    this.appended = appended;
+    this.changes = changes;
+    this.patches = patches;
+    this.marks = marks;
+    this.options = options;
+    this.added = added;
+    this.switched = switched;
   }
 
   with(parts) {

@@ -6,17 +6,25 @@ const MOST_LINES = 90000;
 
 // The program refuses a line, by a number.
 export class Refused extends Error {
+  line;
+  number;
+
   constructor(line, number) {
     super(`${line}: refused ${number}`);
-    Object.assign(this, { line, number });
+    this.line = line;
+    this.number = number;
   }
 }
 
 // The program has ended, or its worker has.
 export class Ended extends Error {
+  status;
+  said;
+
   constructor({ status, said, text }) {
     super(said || text);
-    Object.assign(this, { status, said });
+    this.status = status;
+    this.said = said;
   }
 }
 
@@ -28,10 +36,12 @@ export class TooManyLines extends Error {}
 
 // A worker that is asked one thing or several, with their answers as promises. `onPart` takes what comes before an answer.
 export class Helper {
+  worker;
+  waiting = new Map();
+  next = 1;
+
   constructor(makeWorker) {
     this.worker = makeWorker();
-    this.waiting = new Map();
-    this.next = 1;
     this.worker.onmessage = ({ data }) => this.told(data);
     this.worker.onerror = (event) => this.fail(new Ended({ text: event.message || 'the worker could not be started' }));
   }
@@ -66,8 +76,19 @@ export class Helper {
 
 // A session that is asked about a scenario at a step, and keeps what it was led to.
 export class Session {
+  program;
+  mostLines;
+  /** @type {?Helper} */ helper = null;
+  isClosed = false;
+  memory = 0;
+  sessions = 0;
+  busy = Promise.resolve();
+  said;
+  at;
+
   constructor(program, mostLines = MOST_LINES) {
-    Object.assign(this, { program, mostLines, helper: null, isClosed: false, memory: 0, sessions: 0, busy: Promise.resolve() });
+    this.program = program;
+    this.mostLines = mostLines;
   }
 
   stop() {

@@ -10,9 +10,22 @@ const LONGEST = 1 << 22, LONGEST_LINE = 1000;  // bytes of a source file, and le
 const MOST_TOLD = 6;  // names in a sentence
 
 export class Source {
+  visitCode;
+  refuse;
+  given = new Map();
+  opened = null;
+  pc = null;
+  step = null;
+  address = null;
+  /** @type {Sources} */ own;
+  drawn;
+  found;
+  begin;
+
   // `visit` has the code at an address shown; `refuse` takes a sentence.
   constructor({ visit, refuse }) {
-    Object.assign(this, { visitCode: visit, refuse, given: new Map(), opened: null, pc: null, step: null, address: null });
+    this.visitCode = visit;
+    this.refuse = refuse;
     for (const id of ['open-sources', 'open-folder']) {
       $(id).addEventListener('change', async ({ target }) => {
         const files = [...target.files];
@@ -24,7 +37,13 @@ export class Source {
 
   // Shows the sources of a program, of which an example has some itself.
   open(opened, own = []) {
-    Object.assign(this, { opened, own: new Sources(), pc: null, step: null, address: null, drawn: null, found: new Map() });
+    this.opened = opened;
+    this.own = new Sources();
+    this.pc = null;
+    this.step = null;
+    this.address = null;
+    this.drawn = null;
+    this.found = new Map();
     for (const { path, text } of own) this.own.add(path, text);
     this.draw();
   }
@@ -42,7 +61,8 @@ export class Source {
     const files = all.filter(({ bytes }) => bytes.length <= LONGEST);
     if (!this.given.has(program)) this.given.set(program, new Sources());
     for (const { path, bytes } of files) this.given.get(program).add(path, new TextDecoder().decode(bytes));
-    Object.assign(this, { drawn: null, found: new Map() });
+    this.drawn = null;
+    this.found = new Map();
     this.draw();
     const names = files.slice(0, MOST_TOLD).map(({ path }) => `“${nameIn(path)}”`), more = files.length - names.length;
     const told = listed(more ? [...names, many(more, 'other file')] : names, 'and');
@@ -73,7 +93,8 @@ export class Source {
   // The run is at an instruction before a step, null where it has ended: then what was shown stays.
   follow(pc, step) {
     const isNew = pc !== this.pc || step !== this.step;
-    Object.assign(this, { pc, step });
+    this.pc = pc;
+    this.step = step;
     if (isNew && pc !== null) this.address = pc;
     this.draw();
   }
@@ -97,7 +118,8 @@ export class Source {
     const { begin, end } = spanOf(place.line, this.openings(place.path), file.lines);
     const key = `${file.path}:${begin}-${end}`;
     if (this.drawn !== key) this.render(file, place.path, begin, end);
-    Object.assign(this, { drawn: key, begin });
+    this.drawn = key;
+    this.begin = begin;
     this.mark(place);
     const unsure = file.isUnsure ? ', or another file of this name: give a folder' : '';
     say('source-told', `${nameIn(file.path)}${unsure}`);

@@ -32,7 +32,7 @@ export function isSource(path, paths) {
 }
 
 export class Sources {
-  constructor() { this.files = []; }
+  files = [];
 
   // Takes a text in place of another one of the same path.
   add(path, text) {

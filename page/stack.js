@@ -11,13 +11,22 @@ export function moved(before, now, functionOf) {
 }
 
 export class Stack {
+  nameOf;
+  lineOf;
+  visit;
+  frames = [];
+  count = 0;
+
   // `nameOf` and `lineOf` tell the function and the source line of an address, `visit` shows its code.
   constructor({ nameOf, lineOf, visit }) {
-    Object.assign(this, { nameOf, lineOf, visit, frames: [], count: 0 });
+    this.nameOf = nameOf;
+    this.lineOf = lineOf;
+    this.visit = visit;
   }
 
   clear() {
-    Object.assign(this, { frames: [], count: 0 });
+    this.frames = [];
+    this.count = 0;
     $('calls').replaceChildren();
     say('calls-told', '');
   }

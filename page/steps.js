@@ -35,8 +35,19 @@ const differing = (a, b) => Object.keys(NAMES).filter((it) => a[it] !== b[it]);
 
 // Finds the landmarks of a run by reports at some steps, and then by halving where two of these differ.
 export class Search {
+  session;
+  scenario;
+  isStale;
+  found;
+  known = new Map();
+  count = 0;
+  begun = performance.now();
+
   constructor(session, scenario, isStale, found) {
-    Object.assign(this, { session, scenario, isStale, found, known: new Map(), count: 0, begun: performance.now() });
+    this.session = session;
+    this.scenario = scenario;
+    this.isStale = isStale;
+    this.found = found;
   }
 
   async at(step) {
@@ -75,9 +86,18 @@ export class Search {
 }
 
 export class Steps {
+  go;
+  most;
+  last = 0;
+  landmarks = [];
+  follow;
+  goesOn;
+  step;
+
   // `go` takes the step that is chosen; the last one stands for the end of the run, however it is edited.
   constructor({ go, most }) {
-    Object.assign(this, { go, most, last: 0, landmarks: [] });
+    this.go = go;
+    this.most = most;
     $('step').addEventListener('input', () => this.choose(Number($('step').value)));
     $('step-number').addEventListener('change', () => this.choose(Number($('step-number').value)));
     $('step-back').addEventListener('click', () => this.choose(this.shown - 1));
@@ -87,7 +107,10 @@ export class Steps {
   }
 
   open(last, follow) {
-    Object.assign(this, { last, follow, goesOn: false, landmarks: [] });
+    this.last = last;
+    this.follow = follow;
+    this.goesOn = false;
+    this.landmarks = [];
     $('step').max = last;
     $('step-number').max = this.most;
     this.show(follow);
@@ -96,7 +119,8 @@ export class Steps {
 
   // The slider ends where the run that is shown ends, or, where it goes on, at the last step that is looked at.
   showEnd({ last, goesOn }) {
-    Object.assign(this, { last, goesOn });
+    this.last = last;
+    this.goesOn = goesOn;
     $('step').max = last;
     this.show(this.step);
     this.draw();

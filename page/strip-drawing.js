@@ -52,15 +52,36 @@ function tickOf(wide, pixels) {
 }
 
 export class StripDrawing {
+  canvas;
+  on;
+  fitted = new Map();
+  tones = new Map();
+  letter = 0;
+  wide;
+  tall;
+  view;
+  rows;
+  top;
+  isDark;
+  scale;
+  colours;
+
   constructor(canvas) {
-    Object.assign(this, { canvas, on: canvas.getContext('2d'), fitted: new Map(), tones: new Map(), letter: 0 });
+    this.canvas = canvas;
+    this.on = canvas.getContext('2d');
   }
 
   // Begins a drawing of this size in pixels, of the steps of a view and of some rows from the one at the top on.
   begin({ wide, tall, view, rows, top, isDark }) {
     const scale = devicePixelRatio || 1, { canvas, on } = this, style = getComputedStyle(canvas);
     if (isDark !== this.isDark) this.tones.clear();
-    Object.assign(this, { wide, tall, view, rows, top, isDark, scale });
+    this.wide = wide;
+    this.tall = tall;
+    this.view = view;
+    this.rows = rows;
+    this.top = top;
+    this.isDark = isDark;
+    this.scale = scale;
     this.colours = Object.fromEntries(Object.entries(COLOURS).map(([name, it]) => [name, style.getPropertyValue(it)]));
     const size = [wide * scale, tall * scale].map(Math.round);
     if (canvas.width !== size[0] || canvas.height !== size[1]) [canvas.width, canvas.height] = size;

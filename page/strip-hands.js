@@ -4,10 +4,24 @@ const WHEEL = 400;  // pixels of a wheel by which the steps that are shown are s
 const LINE = 16;  // pixels of a line, where a wheel counts these
 
 export class Hands {
+  canvas;
+  pan;
+  zoom;
+  point;
+  choose;
+  leave;
+  fingers = new Map();
+  isDrag = false;
+
   // `pan` takes pixels sideways and down, `zoom` how many times as many steps are wanted and the pixel that stays; `point` and `choose`
   // take pixels from the left and the top; `leave` is told that nothing points any more.
   constructor(canvas, { pan, zoom, point, choose, leave }) {
-    Object.assign(this, { canvas, pan, zoom, point, choose, leave, fingers: new Map(), isDrag: false });
+    this.canvas = canvas;
+    this.pan = pan;
+    this.zoom = zoom;
+    this.point = point;
+    this.choose = choose;
+    this.leave = leave;
     canvas.addEventListener('pointerdown', (event) => this.down(event));
     canvas.addEventListener('pointermove', (event) => this.move(event));
     canvas.addEventListener('pointerup', (event) => this.up(event));

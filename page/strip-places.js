@@ -11,9 +11,20 @@ const between = (marks, from, to) => marks.slice(indexFrom(marks, from), indexFr
 export const marksBetween = (marks, from, to) => between(marks, Math.floor(from), Math.ceil(to));
 
 export class Place {
+  run;
+  index;
+  row;
+  step;
+  mark;
+  more = 0;
+
   // A place of a run, by its index among those that are shown: a step of a row, or a mark, above the rows.
   constructor(run, index, row, step, mark = null) {
-    Object.assign(this, { run, index, row, step, mark, more: 0 });
+    this.run = run;
+    this.index = index;
+    this.row = row;
+    this.step = step;
+    this.mark = mark;
   }
 
   // What is at the steps of a pixel: a cell, first one that begins there, or the nearest mark, if it isn't far, first one of this lane.

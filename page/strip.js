@@ -22,9 +22,32 @@ const NAMES = ['unedited', 'edited'];
 const DARK = matchMedia('(prefers-color-scheme: dark)');
 
 export class Strip {
+  choose;
+  explain;
+  canvas = $('strip');
+  view = new View();
+  sessions = [];
+  top = 0;
+  rows = LEAST_ROWS;
+  step = 0;
+  /** @type {StripDrawing} */ drawing;
+  /** @type {Hands} */ hands;
+  /** @type {?Timeline} */ plain;
+  /** @type {?Timeline} */ edited;
+  /** @type {?Timeline} */ next;
+  /** @type {?Place} */ here;
+  parting;
+  opened;
+  /** @type {Names} */ names;
+  scenario;
+  drawn;
+  keyShown;
+  timer;
+
   // `choose` takes the step that is chosen; `explain` says a fault in words.
   constructor({ choose, explain }) {
-    Object.assign(this, { choose, explain, canvas: $('strip'), view: new View(), sessions: [], top: 0, rows: LEAST_ROWS, step: 0 });
+    this.choose = choose;
+    this.explain = explain;
     this.drawing = new StripDrawing(this.canvas);
     this.hands = new Hands(this.canvas, { pan: (x, y) => this.pan(x, y), zoom: (times, x) => this.zoom(times, this.stepAt(x)),
       point: (x, y) => this.point(x, y), choose: (x, y) => this.click(x, y), leave: () => this.tell(this.here) });
@@ -42,7 +65,14 @@ export class Strip {
   clear() {
     clearTimeout(this.timer);
     for (const it of [this.plain, this.edited, this.next]) it?.leave();
-    Object.assign(this, { plain: null, edited: null, next: null, here: null, parting: undefined, opened: null, top: 0, rows: LEAST_ROWS });
+    this.plain = null;
+    this.edited = null;
+    this.next = null;
+    this.here = null;
+    this.parting = undefined;
+    this.opened = null;
+    this.top = 0;
+    this.rows = LEAST_ROWS;
     say('strip-told', HINT);
     say('strip-how', '');
   }
@@ -51,7 +81,9 @@ export class Strip {
 
   open(opened) {
     this.close();
-    Object.assign(this, { opened, names: new Names(opened.elf), sessions: [0, 1].map(() => new Session(opened.program)) });
+    this.opened = opened;
+    this.names = new Names(opened.elf);
+    this.sessions = [0, 1].map(() => new Session(opened.program));
     this.view = new View(opened.last);
     this.draw();
   }
@@ -100,7 +132,8 @@ export class Strip {
   more(timeline) {
     if (timeline === this.next && (timeline.isBegun || timeline.fault)) {
       this.edited?.leave();
-      Object.assign(this, { edited: timeline, next: null });
+      this.edited = timeline;
+      this.next = null;
     }
     this.changed();
   }

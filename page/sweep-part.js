@@ -40,12 +40,30 @@ export function filesOf(scenario, { files, elf }) {
 }
 
 export class SweepPart {
+  state;
+  refuse;
+  fail;
+  told;
+  workers;
+  /** @type {?Sweep} */ sweep = null;
+  of = null;
+  ended = null;
+  /** @type {Idle} */ idle;
+  plain = null;
+  /** @type {?Sweep} */ counting = null;
+  /** @type {Picture} */ picture;
+  most;
+
   // `state` gives what is swept: the program, the scenario, the step and the function that is shown, and how instructions lie in
   // a range; `make` makes an edit; `refuse` takes a sentence, `fail` a fault; `told` is called when more is known of the edits; `ends`
   // and `pointed` are the picture's.
   constructor({ state, make, refuse, fail, told, makeWorker, workers, ends, pointed }) {
-    Object.assign(this, { state, refuse, fail, told, workers, sweep: null, of: null, ended: null, idle: new Idle(makeWorker) });
-    Object.assign(this, { plain: null, counting: null });
+    this.state = state;
+    this.refuse = refuse;
+    this.fail = fail;
+    this.told = told;
+    this.workers = workers;
+    this.idle = new Idle(makeWorker);
     const makeEdit = (kind, at, value) => make(kind, at, value, lengthAt(this.of.asked, at));
     this.picture = new Picture({ make: makeEdit, otherRun: () => this.otherRun, ends, pointed });
     $('goal').addEventListener('input', () => this.showGoal());
@@ -63,7 +81,11 @@ export class SweepPart {
   // Another program is opened.
   close() {
     for (const it of [this.sweep, this.counting]) it?.stop();
-    Object.assign(this, { sweep: null, of: null, ended: null, plain: null, counting: null });
+    this.sweep = null;
+    this.of = null;
+    this.ended = null;
+    this.plain = null;
+    this.counting = null;
     this.show(false);
     this.picture.clear();
     this.showOf();

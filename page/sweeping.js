@@ -26,9 +26,18 @@ export const MOST_EDITS = 4000000;
 // What came of the edits. `outcomes` are texts, of which the first is the unedited run's; a place has values, each with its
 // outcome.
 export class Swept {
+  asked;
+  outcomes = [];
+  numbers = new Map();
+  tallies = [];
+  firsts = [];
+  places = new Map();
+  edits = 0;
+  isWhole = false;
+  time;
+
   constructor(asked) {
-    Object.assign(this, { asked, outcomes: [], numbers: new Map(), tallies: [], firsts: [], places: new Map() });
-    Object.assign(this, { edits: 0, isWhole: false });
+    this.asked = asked;
   }
 
   number(text) {
@@ -60,8 +69,11 @@ export class Swept {
 
 // Workers that have nothing to do and are kept for the next sweep, since it takes a while to start one.
 export class Idle {
+  makeWorker;
+  helpers = [];
+
   constructor(makeWorker) {
-    Object.assign(this, { makeWorker, helpers: [] });
+    this.makeWorker = makeWorker;
   }
 
   take() { return this.helpers.pop() ?? new Helper(this.makeWorker); }
@@ -69,10 +81,25 @@ export class Idle {
 }
 
 export class Sweep {
+  program;
+  files;
+  asked;
+  idle;
+  told;
+  /** @type {Swept} */ swept;
+  helpers = new Set();
+  memory = 0;
+  isStopped = false;
+  isOver = false;
+
   // `asked` has the kind, the first and the last place, the values and the step; `told` is called while it goes on.
   constructor(program, files, asked, idle, told) {
-    Object.assign(this, { program, files, asked, idle, told, swept: new Swept(asked), helpers: new Set(), memory: 0 });
-    Object.assign(this, { isStopped: false, isOver: false });
+    this.program = program;
+    this.files = files;
+    this.asked = asked;
+    this.idle = idle;
+    this.told = told;
+    this.swept = new Swept(asked);
   }
 
   get words() {

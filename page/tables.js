@@ -3,14 +3,12 @@ const EDIT_FIELDS = 3;
 const EDITS = new Set(['input', 'patch', 'patch16']);
 
 export class Table {
-  constructor() {
-    this.rest = '';
-    this.outcome = null;
-    this.outcomes = [];
-    this.edits = [];
-    this.isWhole = false;
-    this.inHead = true;
-  }
+  rest = '';
+  outcome = null;
+  outcomes = [];
+  edits = [];
+  isWhole = false;
+  inHead = true;
 
   // Takes some more of the text. What was found since `take` was called last is what it gives.
   add(text) {

@@ -7,9 +7,10 @@ import { USUAL_TARGET, regionsOf, stackText, targetOf } from './targets.js';
 const FIELDS = { heap: 'heap-region', stack: 'stack-region' };
 
 export class TargetPart {
+  regions = null;
+
   // `choose` takes a part of a target, which isn't the one that is shown.
   constructor({ choose }) {
-    this.regions = null;
     $('isa').append(...ISAS.map((it) => element('option', { value: it }, it)));
     $('isa').addEventListener('change', () => choose({ isa: $('isa').value }));
     $('heap-region').placeholder = hexWord(USUAL_TARGET.heap);

@@ -24,8 +24,16 @@ const HEAP_CALLS = {
 
 // A stretch that is read whole.
 class Part {
+  from;
+  to;
+  /** @type {Calls} */ calls;
+  events = [];
+  marks = [];
+
   constructor(from, to, stack, names) {
-    Object.assign(this, { from, to, calls: new Calls(from, stack, names), events: [], marks: [] });
+    this.from = from;
+    this.to = to;
+    this.calls = new Calls(from, stack, names);
   }
 
   add(event) {
@@ -36,11 +44,31 @@ class Part {
 }
 
 export class Timeline {
+  scenario;
+  last;
+  names;
+  changed;
+  isWanted = true;
+  isRead = false;
+  isDone = false;
+  fault = null;
+  /** @type {?Part} */ first = null;
+  /** @type {?Calls} */ ground = null;
+  every = 0;
+  samples = new Map();
+  /** @type {?Part} */ part = null;
+  full = null;
+  errors = [];
+  errorsTo = 0;
+  /** @type {Reading} */ reading;
+  asked;
+
   // `look` promises replies to lines at a step of a scenario; `changed` is called whenever more is known. A run has so many steps.
   constructor({ look, scenario, last, names, changed }) {
-    Object.assign(this, { scenario, last, names, changed, isWanted: true, isRead: false, isDone: false, fault: null });
-    Object.assign(this, { first: null, ground: null, every: 0, samples: new Map(), part: null, full: null });
-    Object.assign(this, { errors: [], errorsTo: 0 });
+    this.scenario = scenario;
+    this.last = last;
+    this.names = names;
+    this.changed = changed;
     this.reading = new Reading((step, lines) => look(scenario, step, lines), () => this.isWanted);
   }
 

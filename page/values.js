@@ -36,9 +36,16 @@ function knownOf(bytes, mask = (1n << BigInt(8 * bytes.length)) - 1n) {
 }
 
 export class Values {
+  read;
+  nameAt;
+  parts = [];
+  shown = 0;
+  length = 0;
+
   // `read` promises bytes of memory, and `nameAt` tells the function that has an address.
   constructor({ read, nameAt }) {
-    Object.assign(this, { read, nameAt, parts: [], shown: 0, length: 0 });
+    this.read = read;
+    this.nameAt = nameAt;
   }
 
   add(text, known = { how: '' }) {

@@ -8,15 +8,24 @@ const HOW = { undefined: 'undefined', inaccessible: 'inaccessible', lost: 'quiet
 export class Stale extends Error {}
 
 export class VariablesPart {
+  showMemory;
+  fail;
+  all = null;
+  asked = null;
+  at;
+
   // `show` has the memory at an address shown, and `fail` takes a fault.
   constructor({ show, fail }) {
-    Object.assign(this, { showMemory: show, fail, all: null, asked: null });
+    this.showMemory = show;
+    this.fail = fail;
     $('globals').addEventListener('toggle', () => this.again());
   }
 
   // Shows the variables of a program from now on.
   open(all) {
-    Object.assign(this, { all, at: null, asked: null });
+    this.all = all;
+    this.at = null;
+    this.asked = null;
     for (const it of ['variable-rows', 'global-rows']) $(it).replaceChildren();
     say('variables-told', '');
   }

@@ -34,8 +34,14 @@ function byChunks(read) {
 }
 
 export class Variables {
+  elf;
+  functions = new Map();
+  scopes = new Map();
+  /** @type {Dwarf} */ read;
+  /** @type {Frames} */ framesRead;
+
   constructor(elf) {
-    Object.assign(this, { elf, functions: new Map(), scopes: new Map() });
+    this.elf = elf;
   }
 
   // Files are read once something is asked.

@@ -18,10 +18,16 @@ function stateWords({ name, rest, address }, isa) {
 }
 
 export class Verdict {
+  lineOf;
+  isa;
+  use = null;
+  before;
+
   // `lineOf` tells the source line of an address; `isa` for which instruction set the run is; `showPicture` and `go` go to the picture
   // and to a step; `certify` has the program asked whether uninitialised memory has an influence.
   constructor({ lineOf, isa, showPicture, go, certify }) {
-    Object.assign(this, { lineOf, isa, use: null });
+    this.lineOf = lineOf;
+    this.isa = isa;
     $('counted').addEventListener('click', showPicture);
     $('certified').addEventListener('click', () => (this.use === null ? certify() : go(this.use)));
   }

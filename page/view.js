@@ -3,12 +3,19 @@ const LEAST = 16;  // steps that are shown
 const MARGIN = 0.1;  // of the stretch, between its ends and a step that comes into view
 
 export class View {
+  last;
+  from;
+  to;
+
   constructor(last = 1) {
     this.last = Math.max(1, last);
     this.all();
   }
 
-  all() { Object.assign(this, { from: 0, to: this.last }); }
+  all() {
+    this.from = 0;
+    this.to = this.last;
+  }
 
   get wide() { return this.to - this.from; }
   get isAll() { return this.from === 0 && this.to === this.last; }

@@ -12,9 +12,13 @@ const GOTO = /^goto /;
 let session = null;
 
 class Fault extends Error {
+  status;
+  said;
+
   constructor(status, said) {
     super(said);
-    Object.assign(this, { status, said });
+    this.status = status;
+    this.said = said;
   }
 }
 
@@ -22,10 +26,14 @@ const text = (lines) => encoder.encode(lines.map((line) => `${line}\n`).join('')
 
 // A session that waits in `read` while nobody asks.
 class Waiting {
+  lines = [];
+  wake = null;
+  asked = [];
+  /** @type {Replies} */ replies;
+  /** @type {Run} */ run;
+  ended;
+
   constructor({ module, files, target, limit }) {
-    this.lines = [];
-    this.wake = null;
-    this.asked = [];
     this.replies = new Replies();
     const ask = () => this.lines.shift() ?? new Promise((wake) => { this.wake = wake; });
     const tell = (bytes) => this.told(decoder.decode(bytes));
@@ -68,10 +76,12 @@ class Waiting {
 
 // Where the browser can't let it wait, each question is a session of its own, with all lines before it.
 class Again {
+  begun;
+  before = [];
+  memory = 0;
+
   constructor(begun) {
     this.begun = begun;
-    this.before = [];
-    this.memory = 0;
   }
 
   async ask(lines) {
