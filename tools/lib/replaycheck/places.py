@@ -101,8 +101,10 @@ class Places:
                 self.child.stdin.flush()
             except BrokenPipeError:
                 self.ended()
-            for address in part:
-                self.known[address] = self.righted(self.asked(address), self.answer())
+            # addr2line reads the file meanwhile
+            rows = [self.table.misread(int(str(self.asked(it)), 16)) for it in part]
+            for address, row in zip(part, rows):
+                self.known[address] = self.righted(row, self.answer())
 
     def asked(self, address):
         """The address that addr2line is asked for: a stub's is that of its site."""
@@ -124,10 +126,10 @@ class Places:
         from replaycheck.line_table import LineTable  # here, as a report without errors asks for no place
         return LineTable(self.file)
 
-    def righted(self, address, told):
-        """The places of an address. If addr2line has taken the including file for that of the innermost, it is the line table's file."""
-        row = self.table.misread(int(str(address), 16)) if told else None
-        if row is None or row.line != told[0].line or not is_same(told[0].path, row.including, row.path):
+    def righted(self, row, told):
+        """The places of an address. If addr2line has taken the including file for that of the innermost, it is the file of the line table's
+        row."""
+        if row is None or not told or row.line != told[0].line or not is_same(told[0].path, row.including, row.path):
             return told
         return [Place(told[0].function, row.path, self.paths.name(row.path), row.line), *told[1:]]
 
