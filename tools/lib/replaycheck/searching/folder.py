@@ -1,6 +1,7 @@
 """The folder of a search: the queue, and the findings with their inputs, sessions and reports."""
 from __future__ import annotations
 
+import contextlib
 import fcntl
 import os
 import re
@@ -109,7 +110,9 @@ class Folder:
                 yield Finding(int(found[1]), line, address, content, next((int(it[1]) for it in counts if it), None))
 
     def write(self, finding: Finding, lines: List[str], report: List[str]):
-        """Writes a finding. Its text comes last: what has none isn't whole."""
+        """Writes a finding. Its text goes first, if it has one, and comes last: what has none isn't whole, and is found again."""
+        with contextlib.suppress(FileNotFoundError):
+            os.unlink(self.finding(f"{finding.name}.text"))
         parts = {"input": finding.content, "session": text_of(lines), "report": text_of(report),
                 "text": text_of([finding.text, *finding.more])}
         for suffix, content in parts.items():
