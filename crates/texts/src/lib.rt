@@ -9,7 +9,7 @@
 //! | [`Tallies::begin`] | starts with a first text, of number 0, with count 0 |
 //! | [`Tallies::new`] | starts without a text |
 //! | [`Tallies::find`] | looks up a text: its number, and whether it was counted before |
-//! | [`Tallies::meet`] | counts a text; returns its number, and whether it was counted before |
+//! | [`Tallies::record`] | counts a text; returns its number, and whether it was counted before |
 //! | [`Tallies::counts`] | returns how often each text was counted, in their order |
 //! | [`laws::texts_are_counted`] | does nothing; its contract says that the entries are the distinct texts with how often each was counted |
 //!
