@@ -8,7 +8,7 @@ use Rattle.std.proofs.lemmas.List.Elements.{All-contains, All-from_recursion}
 use Rattle.std.proofs.lemmas.Option.{IfSome_then}
 use Rattle.rv_decode.specs.declared.Insn.{Insn}
 use Rattle.rv_decode.specs.declared.Op.TheVariants as ops
-use Rattle.rv_decode.specs.Fields.{field}
+use Rattle.rv_fields.specs.Fields.{field}
 use Rattle.rv_decode.specs.Table.{I, R, Shift, S, B, U, J, Bare}
 use Rattle.rv_decode.specs.Table.{Row as Line, row as line, rows as lines}
 use Rattle.rv_compressed.specs.Operands.{rd, rs2, short_rs1, short_rs2, uimm_4spn}

@@ -1,81 +1,50 @@
 -- What some bits of a half rule out may be left out of the table: the lemmas that the branches of the decoder use.
-use Rattle.std.proofs.Common.{◌≡◌, ℕ, Bool, true, false, List, []}
-use Rattle.std.proofs.Common.{◌∷◌, Option, Some, None, bit_and, bit_or, filter}
-use Rattle.std.proofs.Common.{min, max, sym, ◌∙◌, ap, ap₂, refl, arith}
-use Rattle.std.specs.Prelude.{find, ◌==◌, ◌&&◌}
-use Rattle.std.specs.Int.{bit_at}
-use Rattle.std.specs.List.{list_any, list_all}
-use Rattle.std.specs.Option.{option_map}
-use Rattle.std.proofs.lemmas.Bool.{ne_eqb, eq-eqb, eqb-false, eqb-true, and_parts}
-use Rattle.std.proofs.lemmas.Nat.Bits.{bit_at_and, bit_at_or, same_from_bits}
+use Rattle.std.proofs.Common.{◌≡◌, ℕ, Bool, true, false, List, [], ◌∷◌, Option, Some, None, bit_and, filter, ◌∙◌, refl}
+use Rattle.std.specs.Prelude.{◌==◌, not}
+use Rattle.std.specs.List.{list_any}
+use Rattle.std.proofs.lemmas.Bool.{ne_eqb, eq-eqb, eqb-true, and_parts}
+use Rattle.rv_fields.proofs.BitLemmas.{narrow_bits, join, Avoids}
+use Rattle.rv_fields.proofs.Tables.{Table, reads as reads_of, may_have as may_have_of, reads-filter, reads-fixes}
 use Rattle.rv_decode.specs.declared.Insn.{Insn}
 use Rattle.rv_decode.specs.declared.Op.TheVariants as ops
-use Rattle.rv_decode.proofs.TableLemmas.{find-filter, shared_bits, narrow_bits, Avoids, list_any-Avoids}
 use Rattle.rv_compressed.specs.Operands.{rd, rs2, imm_upper}
-use Rattle.rv_compressed.specs.Table.{Row, rows, rows_0, immediate_rows}
-use Rattle.rv_compressed.specs.Table.{upper_rows, short_rows, jump_rows, rows_1}
-use Rattle.rv_compressed.specs.Table.{stack_rows, rows_2}
-use Rattle.rv_compressed.specs.Table.{register_rows, is_of, insn_with, insn_of, expansion}
+use Rattle.rv_compressed.specs.Table.{Row, rows, rows_0, immediate_rows, upper_rows, short_rows, jump_rows, rows_1}
+use Rattle.rv_compressed.specs.Table.{stack_rows, rows_2, register_rows, has, is_of, insn_with, insn_of, expansion}
+use Rattle.rv_compressed.specs.Laws.{IsOf}
 
--- a half whose bits m are k may have the fixed bits of the row
-abbrev pub may_have : ℕ → ℕ → Row → Bool
-may_have m k row = bit_and k row.mask == bit_and row.value m
+-- a half of a row has its fixed bits
+pub IsOf-fixed : (half : ℕ) (row : Row) → IsOf half row → bit_and half row.mask ≡ row.value
+IsOf-fixed half row of =
+    eqb-true (bit_and half row.mask) row.value (and_parts (bit_and half row.mask == row.value)
+    (not (list_any (has half) row.exceptions)) of).0
 
--- a half without the fixed bits of a row isn't of it
-pub is_of-false : (half : ℕ) (row : Row) → (bit_and half row.mask ≡ row.value → ⊥) → is_of half row ≡ false
-is_of-false half row lacks = rw (ne_eqb (bit_and half row.mask) row.value lacks) refl
-
--- so it isn't of a row that its bits m rule out
-pub may_have-false : (half m k : ℕ) → bit_and half m ≡ k → (row : Row) → may_have m k row ≡ false
-    → is_of half row ≡ false
-may_have-false half m k at row differ =
-    is_of-false half row
-    (λ has. eqb-false (bit_and k row.mask) (bit_and row.value m) differ
-    (shared_bits half m row.mask k row.value at has))
+-- the table, as the lemmas on tables take it
+abbrev pub listing : Table Row Insn
+listing =
+    record {
+      mask = λ row. row.mask;
+      value = λ row. row.value;
+      IsOf = IsOf;
+      fixed = IsOf-fixed;
+      is_of = is_of;
+      decides = λ half row. (λ of. of, λ of. of);
+      read = insn_of;
+    }
 
 -- the instruction that these rows read from the half
 abbrev pub reads : List Row → ℕ → Option Insn
-reads some half = option_map (λ row. insn_of row half) (find (is_of half) some)
+reads = reads_of listing
+
+-- a half whose bits m are k may have the fixed bits of the row
+abbrev pub may_have : ℕ → ℕ → Row → Bool
+may_have = may_have_of listing
 
 -- the instruction of a half, by the rows that its bits m leave
 pub expansion_by : (half m k : ℕ) → bit_and half m ≡ k → expansion half ≡ reads (filter (may_have m k) rows) half
 unfolding expansion
-expansion_by half m k at =
-    ap (option_map (λ row. insn_of row half))
-    (find-filter (is_of half) (may_have m k) (may_have-false half m k at) rows)
+expansion_by half m k at = reads-filter listing rows half m k at
 
--- ---- halves outside of a list of values
-
--- the row fixes the bits m to one of the values
-abbrev pub fixes : ℕ → List ℕ → Row → Bool
-fixes m values row = (bit_and row.mask m == m) && list_any (λ v. bit_and row.value m == v) values
-
--- a half whose bits m are none of the values isn't of a row that fixes them to one
-pub fixes-other : (half m : ℕ) (values : List ℕ) → Avoids (bit_and half m) values → (row : Row)
-    → fixes m values row ≡ true → is_of half row ≡ false
-fixes-other half m values avoids row fixed =
-    let parts = and_parts (bit_and row.mask m == m) (list_any (λ v. bit_and row.value m == v) values) fixed in
-    is_of-false half row
-    (λ has.
-    let same : bit_and half m ≡ bit_and row.value m = narrow_bits half row.mask m row.value
-    (eqb-true (bit_and row.mask m) m parts.0) has in
-    let clash : true ≡ false = sym parts.1 ∙ ap (λ n. list_any (λ v. n == v) values) (sym same)
-    ∙ list_any-Avoids (bit_and half m) values avoids in
-    cc)
-
--- and so no such row is found
-pub find-fixes : (half m : ℕ) (values : List ℕ) → Avoids (bit_and half m) values → (some : List Row)
-    → list_all (fixes m values) some ≡ true → find (is_of half) some ≡ None
-find-fixes half m values avoids [] fixed = refl
-find-fixes half m values avoids (r ∷ rs) fixed =
-    let parts = and_parts (fixes m values r) (list_all (fixes m values) rs) fixed in
-    rw (fixes-other half m values avoids r parts.0) (find-fixes half m values avoids rs parts.1)
-
--- nor read
-pub reads-fixes : (half m : ℕ) (values : List ℕ) (some : List Row) → Avoids (bit_and half m) values
-    → list_all (fixes m values) some ≡ true → reads some half ≡ None
-reads-fixes half m values some avoids fixed =
-    ap (option_map (λ row. insn_of row half)) (find-fixes half m values avoids some fixed)
+-- ---- values of the bits that the code tests
 
 -- the quadrants of RV32C
 abbrev pub quadrants : List ℕ
@@ -100,27 +69,6 @@ values_2 = 0x0002 ∷ 0x4002 ∷ 0x8002 ∷ 0xC002 ∷ []
 -- quadrant 2 with funct3 100, and each value of bit 12
 abbrev pub register_values : List ℕ
 register_values = 0x8002 ∷ 0x9002 ∷ []
-
--- ---- bits of two masks
-
--- AND distributes over OR, at one bit
-min_max : (a b c : ℕ) → min a (max b c) ≡ max (min a b) (min a c)
-min_max a b c = grind arith
-
--- and so at all bits
-and_or : (half a b : ℕ) → bit_and half (bit_or a b) ≡ bit_or (bit_and half a) (bit_and half b)
-and_or half a b =
-    same_from_bits (bit_and half (bit_or a b)) (bit_or (bit_and half a) (bit_and half b))
-    (λ i.
-    bit_at_and half (bit_or a b) i
-    ∙ ap (min (bit_at half i)) (bit_at_or a b i)
-    ∙ min_max (bit_at half i) (bit_at a i) (bit_at b i)
-    ∙ ap₂ max (sym (bit_at_and half a i)) (sym (bit_at_and half b i))
-    ∙ sym (bit_at_or (bit_and half a) (bit_and half b) i))
-
--- what the bits a and b of a half say of both
-join : (half a b u v : ℕ) → bit_and half a ≡ u → bit_and half b ≡ v → bit_and half (bit_or a b) ≡ bit_or u v
-join half a b u v at_a at_b = and_or half a b ∙ ap₂ bit_or at_a at_b
 
 -- ---- what the bits that the code tests leave of the table: `expansion_by` at these bits, with the filter computed
 
@@ -293,34 +241,34 @@ expansion_ebreak half at no_rs2 no_rs1 =
 
 pub expansion_other : (half : ℕ) → Avoids (bit_and half 3) quadrants → expansion half ≡ None
 unfolding rows expansion
-expansion_other half avoids = reads-fixes half 3 quadrants rows avoids refl
+expansion_other half avoids = reads-fixes listing rows half 3 quadrants avoids refl
 
 pub expansion_other_0 : (half : ℕ) → bit_and half 3 ≡ 0 → Avoids (bit_and half 0xE003) values_0 → expansion half ≡ None
 unfolding rows
-expansion_other_0 half at avoids = expansion_by half 3 0 at ∙ reads-fixes half 0xE003 values_0 rows_0 avoids refl
+expansion_other_0 half at avoids =
+    expansion_by half 3 0 at ∙ reads-fixes listing rows_0 half 0xE003 values_0 avoids refl
 
 -- (there is no such half)
 pub expansion_other_1 : (half : ℕ) → bit_and half 3 ≡ 1 → Avoids (bit_and half 0xE003) values_1 → expansion half ≡ None
 unfolding rows
 expansion_other_1 half at avoids =
-    expansion_by half 3 1 at
-    ∙ reads-fixes half 0xE003 values_1 rows_1 avoids refl
+    expansion_by half 3 1 at ∙ reads-fixes listing rows_1 half 0xE003 values_1 avoids refl
 
 -- (nor such a one)
 pub expansion_other_short : (half : ℕ) → bit_and half 0xE003 ≡ 0x8001 → Avoids (bit_and half 0xEC03) short_values
     → expansion half ≡ None
 unfolding rows
 expansion_other_short half at avoids =
-    expansion_by half 0xE003 0x8001 at ∙ reads-fixes half 0xEC03 short_values short_rows avoids refl
+    expansion_by half 0xE003 0x8001 at ∙ reads-fixes listing short_rows half 0xEC03 short_values avoids refl
 
 pub expansion_other_2 : (half : ℕ) → bit_and half 3 ≡ 2 → Avoids (bit_and half 0xE003) values_2 → expansion half ≡ None
 unfolding rows
 expansion_other_2 half at avoids =
-    expansion_by half 3 2 at ∙ reads-fixes half 0xE003 values_2 rows_2 avoids refl
+    expansion_by half 3 2 at ∙ reads-fixes listing rows_2 half 0xE003 values_2 avoids refl
 
 -- (nor such a one)
 pub expansion_other_registers : (half : ℕ) → bit_and half 0xE003 ≡ 0x8002 → Avoids (bit_and half 0xF003) register_values
     → expansion half ≡ None
 unfolding rows
 expansion_other_registers half at avoids =
-    expansion_by half 0xE003 0x8002 at ∙ reads-fixes half 0xF003 register_values register_rows avoids refl
+    expansion_by half 0xE003 0x8002 at ∙ reads-fixes listing register_rows half 0xF003 register_values avoids refl

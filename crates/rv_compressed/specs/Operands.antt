@@ -1,7 +1,7 @@
 -- The operands of a 16-bit instruction: registers, and immediates by the manual's patterns of bits.
 -- Source: RISC-V Unprivileged ISA 20191213, section 16.2 (formats) and section 16.8 (listing, tables 16.5 to 16.7).
 use Rattle.std.specs.Prelude.{ℕ, List, [], ◌∷◌, ◌+◌, ◌-◌, ◌*◌, ◌^◌}
-use Rattle.rv_decode.specs.Fields.{field}
+use Rattle.rv_fields.specs.Fields.{field}
 
 -- ---- registers
 

@@ -1,19 +1,10 @@
 //! The operands of a 16-bit instruction: its registers, and its immediates modulo 2^32
 //! (RISC-V Unprivileged ISA 20191213, sections 16.2 and 16.8).
-ghost use Rattle.std.specs.Prelude.{◌≡◌, ◌<◌, ◌≤◌};
-ghost use Rattle.rv_decode.specs.Fields.{field};
+ghost use Rattle.std.specs.Prelude.{◌≡◌};
 ghost use Rattle.rv_compressed.specs.Operands.{rd, rs2, short_rs1, short_rs2, uimm_4spn, uimm_word, imm_six, imm_jump, imm_16sp};
 ghost use Rattle.rv_compressed.specs.Operands.{imm_upper, shift_amount, imm_branch, uimm_lwsp, uimm_swsp};
 
-/// Returns the number in the bits `high` down to `low` of the half.
-#[inline(always)]
-fn field(half: u32, high: u32, low: u32) -> u32
-    requires order { low ≤ high }
-    requires range { high < 32 }
-    ensures { result ≡ field half high low }
-{
-    (half >> low) & (u32::MAX >> (31 - high + low))
-}
+use rv_fields::field;
 
 /// Returns the number of the register in bits 11 to 7, below 32: `rd`, `rs1` or both.
 pub(crate) fn rd(half: u32) -> u8

@@ -6,7 +6,7 @@ use Rattle.std.specs.Option.{option_map}
 use Rattle.rv_decode.specs.declared.Insn.{Insn}
 use Rattle.rv_decode.specs.declared.Op.{Op}
 use Rattle.rv_decode.specs.declared.Op.TheVariants as ops
-use Rattle.rv_decode.specs.Fields.{rd, rs1, rs2, shift_amount, imm_i, imm_s, imm_b, imm_u, imm_j}
+use Rattle.rv_fields.specs.Fields.{rd, rs1, rs2, shift_amount, imm_i, imm_s, imm_b, imm_u, imm_j}
 
 -- which bits of a word are its operands: the formats of section 2.2 and 2.3, shifts by an immediate, or none
 pub data Form : Type 0 where

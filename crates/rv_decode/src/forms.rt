@@ -3,8 +3,8 @@
 ghost use Rattle.std.specs.Prelude.{◌≡◌};
 ghost use Rattle.rv_decode.specs.Table.{with_fields, R, I, Shift, S, B, U, J, Bare};
 
-use crate::fields::{imm_b, imm_i, imm_j, imm_s, imm_u, rd, rs1, rs2, shift_amount};
 use crate::{Insn, Op};
+use rv_fields::{imm_b, imm_i, imm_j, imm_s, imm_u, rd, rs1, rs2, shift_amount};
 
 /// Returns an instruction with two source registers and a destination.
 pub(crate) fn r_form(op: Op, word: u32) -> Insn

@@ -22,16 +22,16 @@
 //!
 //! # Where the definitions are
 //!
-//! - `specs/Fields.antt`: the fields of a word, as bits from `high` down to `low`, and the five
-//!   immediates, by the positions of their bits.
+//! - `specs/Fields.antt` of `rv_fields`: the fields of a word, as bits from `high` down to `low`, and the five immediates, by the positions
+//!   of their bits.
 //! - `specs/Table.antt`: the rows (mask, value, form, operation), the operands that a form has,
 //!   `insn`, and the law that no word has two rows.
 //!
 //! # How the code decodes
 //!
 //! The code searches no table: [`decode`] branches on the opcode, then on funct7 and funct3, each time on the word under a mask. That the
-//! branches give what the table gives rests on two facts (`proofs/TableLemmas.antt`). Rows that some bits of a word rule out may be left
-//! out of the table. A word whose bits are none of those that the rows fix has no row.
+//! branches give what the table gives rests on two facts (`proofs/Tables.antt` of `rv_fields`). Rows that some bits of a word rule out may
+//! be left out of the table. A word whose bits are none of those that the rows fix has no row.
 //!
 //! # Edges of the table
 //!
@@ -44,7 +44,6 @@
 ghost use Rattle.std.specs.Prelude.{◌≡◌, ℕ, ◌<◌, IfSome, IfNone, bit_and, All, Any};
 ghost use Rattle.rv_decode.specs.Table.{insn, insn_of, rows, HasFixedBits, IsOfRow, OneRow};
 
-mod fields;
 mod forms;
 
 use forms::{b_form, bare, i_form, j_form, r_form, s_form, shift_form, u_form};

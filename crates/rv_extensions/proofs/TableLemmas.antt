@@ -1,66 +1,31 @@
 -- What some bits of a word rule out may be left out of the table: the lemmas that the branches of the decoder use.
-use Rattle.std.proofs.Common.{◌≡◌, ℕ, ◌<◌, ◌^◌, Bool, true, false, List, [], ◌∷◌, Option, None, bit_and, filter}
-use Rattle.std.proofs.Common.{sym, ◌∙◌, ap, refl}
-use Rattle.std.specs.Prelude.{find, ◌==◌, ◌&&◌}
-use Rattle.std.specs.List.{list_any, list_all}
+use Rattle.std.proofs.Common.{◌≡◌, ℕ, ◌<◌, ◌^◌, Bool, false, List, [], ◌∷◌, Option, None, bit_and, filter, ◌∙◌, refl}
+use Rattle.std.specs.Prelude.{find, ◌==◌}
 use Rattle.std.specs.Option.{option_map}
-use Rattle.std.proofs.Math.Nat.{mod-eq_of_lt}
-use Rattle.std.proofs.lemmas.Nat.{and_mask}
-use Rattle.std.proofs.lemmas.Bool.{ne_eqb, eqb-false, eqb-true, and_parts}
-use Rattle.rv_decode.proofs.TableLemmas.{find-filter, shared_bits, narrow_bits, Avoids, list_any-Avoids}
+use Rattle.std.proofs.lemmas.Bool.{ne_eqb}
+use Rattle.rv_fields.proofs.BitLemmas.{narrow_bits, Avoids, whole_word}
+use Rattle.rv_fields.proofs.Tables.{Table, plain_table, reads as reads_of, may_have as may_have_of}
+use Rattle.rv_fields.proofs.Tables.{reads-filter, reads-fixes}
 use Rattle.rv_extensions.specs.declared.Extension.{Extension}
 use Rattle.rv_extensions.specs.Table.{Row, rows, load_rows, update_rows, system_rows, fence_rows}
-use Rattle.rv_extensions.specs.Table.{has_fixed_bits, extension_of, extension}
+use Rattle.rv_extensions.specs.Table.{extension_of, extension}
 
--- a word whose bits m are k may have the fixed bits of the row
-abbrev pub may_have : ℕ → ℕ → Row → Bool
-may_have m k row = bit_and k row.mask == bit_and row.value m
-
--- so a row that those bits rule out fails its test
-pub may_have-false : (word m k : ℕ) → bit_and word m ≡ k → (row : Row) → may_have m k row ≡ false
-    → has_fixed_bits word row ≡ false
-may_have-false word m k at row differ =
-    ne_eqb (bit_and word row.mask) row.value
-    (λ has. eqb-false (bit_and k row.mask) (bit_and row.value m) differ
-    (shared_bits word m row.mask k row.value at has))
+-- the table, as the lemmas on tables take it
+abbrev pub listing : Table Row Extension
+listing = plain_table (λ row. row.mask) (λ row. row.value) extension_of
 
 -- the instruction that these rows read from the word
 abbrev pub reads : List Row → ℕ → Option Extension
-reads some word = option_map (λ row. extension_of row word) (find (has_fixed_bits word) some)
+reads = reads_of listing
+
+-- a word whose bits m are k may have the fixed bits of the row
+abbrev pub may_have : ℕ → ℕ → Row → Bool
+may_have = may_have_of listing
 
 -- the instruction of a word, by the rows that its bits m leave
 pub extension_by : (word m k : ℕ) → bit_and word m ≡ k → extension word ≡ reads (filter (may_have m k) rows) word
 unfolding extension
-extension_by word m k at =
-    ap (option_map (λ row. extension_of row word))
-    (find-filter (has_fixed_bits word) (may_have m k) (may_have-false word m k at) rows)
-
--- ---- words outside of a list of values
-
--- the row fixes the bits m to one of the values
-abbrev pub fixes : ℕ → List ℕ → Row → Bool
-fixes m values row = (bit_and row.mask m == m) && list_any (λ v. bit_and row.value m == v) values
-
--- a word whose bits m are none of the values fails the test of a row that fixes them to one
-pub fixes-other : (word m : ℕ) (values : List ℕ) → Avoids (bit_and word m) values → (row : Row)
-    → fixes m values row ≡ true → has_fixed_bits word row ≡ false
-fixes-other word m values avoids row fixed =
-    let parts = and_parts (bit_and row.mask m == m) (list_any (λ v. bit_and row.value m == v) values) fixed in
-    ne_eqb (bit_and word row.mask) row.value
-    (λ has.
-    let same : bit_and word m ≡ bit_and row.value m = narrow_bits word row.mask m row.value
-    (eqb-true (bit_and row.mask m) m parts.0) has in
-    let clash : true ≡ false = sym parts.1 ∙ ap (λ n. list_any (λ v. n == v) values) (sym same)
-    ∙ list_any-Avoids (bit_and word m) values avoids in
-    cc)
-
--- and so no such row is found
-pub find-fixes : (word m : ℕ) (values : List ℕ) → Avoids (bit_and word m) values → (some : List Row)
-    → list_all (fixes m values) some ≡ true → find (has_fixed_bits word) some ≡ None
-find-fixes word m values avoids [] fixed = refl
-find-fixes word m values avoids (r ∷ rs) fixed =
-    let parts = and_parts (fixes m values r) (list_all (fixes m values) rs) fixed in
-    rw (fixes-other word m values avoids r parts.0) (find-fixes word m values avoids rs parts.1)
+extension_by word m k at = reads-filter listing rows word m k at
 
 -- the opcodes of the table
 abbrev pub opcodes : List ℕ
@@ -96,9 +61,7 @@ pub extension_wait : (word : ℕ) → word < 2 ^ 32 → bit_and word 0x707F ≡ 
     ≡ option_map (λ row. extension_of row word)
     (find (λ row. word == row.value) (filter (may_have 0x707F 0x0073) system_rows))
 unfolding rows
-extension_wait word small at =
-    let whole : bit_and word 0xFFFFFFFF ≡ word = and_mask word 32 ∙ mod-eq_of_lt small in
-    rw whole at (extension_by word 0x707F 0x0073 at)
+extension_wait word small at = rw (whole_word word small) at (extension_by word 0x707F 0x0073 at)
 
 -- the fixed bits of SC and the AMOs
 abbrev pub update_values : List ℕ
@@ -110,8 +73,7 @@ update_values =
 pub extension_other_update : (word : ℕ) → bit_and word 0x7F ≡ 0x2F → (bit_and word 0xF800707F ≡ 0x1000202F → ⊥)
     → Avoids (bit_and word 0xF800707F) update_values → extension word ≡ None
 extension_other_update word at other avoids =
-    extension_update word at other
-    ∙ ap (option_map (λ row. extension_of row word)) (find-fixes word 0xF800707F update_values avoids update_rows refl)
+    extension_update word at other ∙ reads-fixes listing update_rows word 0xF800707F update_values avoids refl
 
 -- opcode 0x73 with each funct3 that has a row
 abbrev pub system_values : List ℕ
@@ -121,11 +83,9 @@ system_values = 0x0073 ∷ 0x1073 ∷ 0x2073 ∷ 0x3073 ∷ 0x5073 ∷ 0x6073 �
 pub extension_other_system : (word : ℕ) → bit_and word 0x7F ≡ 0x73 → Avoids (bit_and word 0x707F) system_values
     → extension word ≡ None
 extension_other_system word at avoids =
-    extension_system word at
-    ∙ ap (option_map (λ row. extension_of row word)) (find-fixes word 0x707F system_values avoids system_rows refl)
+    extension_system word at ∙ reads-fixes listing system_rows word 0x707F system_values avoids refl
 
 -- a word with another opcode
 pub extension_other : (word : ℕ) → Avoids (bit_and word 0x7F) opcodes → extension word ≡ None
 unfolding rows extension
-extension_other word avoids =
-    ap (option_map (λ row. extension_of row word)) (find-fixes word 0x7F opcodes avoids rows refl)
+extension_other word avoids = reads-fixes listing rows word 0x7F opcodes avoids refl

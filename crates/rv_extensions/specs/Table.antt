@@ -3,7 +3,7 @@
 -- Privileged Architecture 20190608, section 3.2.3 (WFI).
 use Rattle.std.specs.Prelude.{◌≡◌, ℕ, Bool, List, [], ◌∷◌, ◌++◌, Option, bit_and, find, ◌==◌}
 use Rattle.std.specs.Option.{option_map}
-use Rattle.rv_decode.specs.Fields.{field, rd, rs1, rs2}
+use Rattle.rv_fields.specs.Fields.{field, rd, rs1, rs2}
 use Rattle.rv_extensions.specs.declared.Extension.{Extension}
 use Rattle.rv_extensions.specs.declared.ExtensionOp.{ExtensionOp}
 use Rattle.rv_extensions.specs.declared.ExtensionOp.TheVariants as ops

@@ -2,8 +2,9 @@
 ghost use Rattle.std.specs.Prelude.{◌≡◌};
 ghost use Rattle.rv_extensions.specs.Table.{with_fields, Load, Update, Control, Immediate, Bare};
 
-use crate::fields::{csr, rd, rs1, rs2, uimm};
+use crate::fields::{csr, uimm};
 use crate::{Extension, ExtensionOp};
+use rv_fields::{rd, rs1, rs2};
 
 /// Returns a load that reserves its address.
 pub(crate) fn load_form(op: ExtensionOp, word: u32) -> Extension
