@@ -1,13 +1,12 @@
 -- The sides of a run, one step after another.
 use Rattle.std.proofs.Common.{◌≡◌, ◌⊎◌, ℕ, ◌+◌, ◌≤◌, ◌<◌, ◌==◌, ◌&&◌, ◌||◌, Bool, true, false, List, Option, Some, None}
-use Rattle.std.proofs.Common.{refl, ap, ap₂, sym, ◌∙◌, subst, arith, inl, inr}
+use Rattle.std.proofs.Common.{refl, ap, ap₂, sym, ◌∙◌, subst, arith, inl, inr, if◌then◌else◌}
 use Rattle.std.specs.Prelude.{Decides}
 use Rattle.std.proofs.lemmas.Bool.{cases_lt, true≢false}
 use Rattle.std.proofs.lemmas.Bool.Decides.{Decides-and, Decides-eqb, Decides-or}
 use Rattle.std.proofs.lemmas.Option.{none-some}
 use Rattle.guest_elf.specs.Profiles.{unit}
 use Rattle.guest_elf.specs.declared.profile.Isa.{Isa}
-use Rattle.guest_elf.specs.declared.profile.Isa.TheVariants.{Rv32im, Rv32imc, Rv32imac}
 use Rattle.guest_machine.specs.State.{State}
 use Rattle.guest_machine.specs.Exec.{action_at, exec, is_running, fetch_span, touched_at}
 use Rattle.guest_machine.specs.Laws.{StaysHalted}
@@ -291,6 +290,8 @@ module _ (laws : Laws) (effect : Effect) (of : IsOfSetup effect) (one other : Ru
 
 pub apart : (isa : Isa) → IsApart (unit isa)
 unfolding unit
-apart Rv32im = inr refl
-apart Rv32imc = inl refl
-apart Rv32imac = inl refl
+apart isa = go isa.compressed
+  where
+    go : (compressed : Bool) → IsApart (if compressed then 2 else 4)
+    go true = inl refl
+    go false = inr refl

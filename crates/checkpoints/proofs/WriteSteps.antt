@@ -3,9 +3,8 @@ use Rattle.std.proofs.Common.{◌≡◌, ℕ, ◌+◌, ◌≤◌, ◌^◌, ◌==
 use Rattle.std.specs.Prelude.{fold}
 use Rattle.std.specs.List.{list_any}
 use Rattle.std.proofs.lemmas.Bool.{true≢false}
-use Rattle.guest_elf.specs.Profiles.{has_halves}
+use Rattle.guest_elf.specs.Profiles.{has_halves, rv32im}
 use Rattle.guest_elf.specs.declared.profile.Isa.{Isa}
-use Rattle.guest_elf.specs.declared.profile.Isa.TheVariants.{Rv32im}
 use Rattle.guest_machine.specs.Alterations.{altered, goes_by_bytes}
 use Rattle.guest_machine.specs.Run.{after_marks, marks_at, poked}
 use Rattle.guest_machine.specs.Spans.{covers}
@@ -83,6 +82,6 @@ marks-isa k marks s = fold-isa (marks_at k marks) s
 
 -- with RV32IM only those count that write a byte
 with-words-only : (marks : List Alteration) (addr len : ℕ)
-    → touch_code Rv32im marks addr len ≡ list_any (λ mark. writes_code mark.act addr len) marks
+    → touch_code rv32im marks addr len ≡ list_any (λ mark. writes_code mark.act addr len) marks
 unfolding has_halves
 with-words-only marks addr len = refl

@@ -2,18 +2,19 @@
 use Rattle.std.specs.Prelude.{ℕ, List, Option, Some, None, codes, if◌then◌else◌}
 use Rattle.std.specs.Str.{bytes_eq}
 use Rattle.guest_elf.specs.declared.profile.Isa.{Isa}
-use Rattle.guest_elf.specs.declared.profile.Isa.TheVariants.{Rv32im, Rv32imc, Rv32imac}
+use Rattle.guest_elf.specs.Profiles.{rv32im, rv32imac, rv32imc}
 
--- the name of an instruction set
+-- the name of an instruction set: RV32I with M, with C too, or with A too. The last two have control registers as well
 abbrev pub isa_name : Isa → List ℕ
-isa_name Rv32im = codes "rv32im"
-isa_name Rv32imc = codes "rv32imc"
-isa_name Rv32imac = codes "rv32imac"
+isa_name isa =
+    if isa.atomics then codes "rv32imac"
+    else if isa.compressed then codes "rv32imc"
+    else codes "rv32im"
 
 -- the instruction set of a name, if it is one
 abbrev pub isa_named : List ℕ → Option Isa
 isa_named name =
-    if bytes_eq name (isa_name Rv32im) then Some Rv32im
-    else if bytes_eq name (isa_name Rv32imc) then Some Rv32imc
-    else if bytes_eq name (isa_name Rv32imac) then Some Rv32imac
+    if bytes_eq name (codes "rv32im") then Some rv32im
+    else if bytes_eq name (codes "rv32imc") then Some rv32imc
+    else if bytes_eq name (codes "rv32imac") then Some rv32imac
     else None

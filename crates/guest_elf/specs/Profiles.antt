@@ -1,8 +1,7 @@
 -- What a file is read for, besides its own bytes: an instruction set (RISC-V Unprivileged ISA 20191213, chapter
 -- 27, "ISA Extension Naming Conventions"), the regions of heap and stack, and how many bytes `read` and `write` move.
-use Rattle.std.specs.Prelude.{ℕ, ◌%◌, ◌==◌, Bool, true, false, not}
+use Rattle.std.specs.Prelude.{ℕ, ◌%◌, ◌==◌, ◌&&◌, Bool, true, false, not, if◌then◌else◌}
 use Rattle.guest_elf.specs.declared.profile.Isa.{Isa}
-use Rattle.guest_elf.specs.declared.profile.Isa.TheVariants.{Rv32im, Rv32imc, Rv32imac}
 use Rattle.guest_elf.specs.declared.profile.Profile.{Profile}
 use Rattle.guest_elf.specs.declared.profile.StreamLimits.{StreamLimits}
 use Rattle.memory_map.specs.Usual.{usual as usual_regions}
@@ -11,38 +10,44 @@ use Rattle.memory_map.specs.Usual.{usual as usual_regions}
 abbrev pub usual_limits : StreamLimits
 usual_limits = record { most_moved = 4096; most_output = 65536 }
 
+-- RV32I with M, and nothing besides
+abbrev pub rv32im : Isa
+rv32im = record { compressed = false; atomics = false; controls = false }
+
+-- the same with C, and with A too, each with control registers
+abbrev pub rv32imc : Isa
+rv32imc = record { compressed = true; atomics = false; controls = true }
+
+abbrev pub rv32imac : Isa
+rv32imac = record { compressed = true; atomics = true; controls = true }
+
 abbrev pub usual : Profile
-usual = record { isa = Rv32im; regions = usual_regions; limits = usual_limits }
+usual = record { isa = rv32im; regions = usual_regions; limits = usual_limits }
 
 -- IALIGN in bytes: each instruction begins at a multiple of it (sections 1.5 and 16.1)
 unfoldable pub unit : Isa → ℕ
-unit Rv32im = 4
-unit Rv32imc = 2
-unit Rv32imac = 2
+unit isa = if isa.compressed then 2 else 4
 
 -- are there instructions of 16 bits? (chapter 16)
 unfoldable pub has_halves : Isa → Bool
-has_halves Rv32im = false
-has_halves Rv32imc = true
-has_halves Rv32imac = true
+has_halves isa = isa.compressed
 
 -- are there atomic instructions? (chapter 8)
 unfoldable pub has_atomics : Isa → Bool
-has_atomics Rv32im = false
-has_atomics Rv32imc = false
-has_atomics Rv32imac = true
+has_atomics isa = isa.atomics
 
 -- are there control registers, and FENCE.I and WFI? (chapters 9 and 3; Privileged Architecture 20190608, section 3.2.3)
 unfoldable pub has_controls : Isa → Bool
-has_controls Rv32im = false
-has_controls Rv32imc = true
-has_controls Rv32imac = true
+has_controls isa = isa.controls
 
--- has an instruction 16 bits? With C it has if its two lowest bits aren't both set (section 1.5, figure 1.1)
+-- do these bits begin an instruction of 16, where there are such? They do if the two lowest aren't both set
+-- (section 1.5, figure 1.1)
+abbrev pub is_short : ℕ → Bool
+is_short first = not (first % 4 == 3)
+
+-- has an instruction 16 bits?
 unfoldable pub is_half : Isa → ℕ → Bool
-is_half Rv32im first = false
-is_half Rv32imc first = not (first % 4 == 3)
-is_half Rv32imac first = not (first % 4 == 3)
+is_half isa first = isa.compressed && is_short first
 
 -- may an instruction begin at an address?
 abbrev pub is_aligned : Isa → ℕ → Bool

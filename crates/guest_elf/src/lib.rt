@@ -10,7 +10,7 @@
 //! | [`read`] | the image of a file, or an [`ElfFault`] |
 //! | [`read_for`] | the same, with a profile other than the usual one |
 //! | [`Profile::USUAL`] | the profile of [`read`]: RV32IM, the usual regions of heap and stack, and the usual [`StreamLimits`] |
-//! | [`Isa::aligns`] | whether an instruction may begin at an address |
+//! | [`Isa::aligns`], [`is_short`] | whether an instruction may begin at an address, and whether some bits begin one of 16 |
 //! | [`Image::segments`] | the loaded segments, in the order of the file's program headers |
 //! | [`Image::entry`] | the address of the first instruction |
 //! | [`Image::profile`] | what the file was read for |
@@ -87,7 +87,7 @@ pub use fault::ElfFault;
 pub use hook::Hook;
 pub use image::Image;
 pub use laws::{pieces_stay_good, usual_whole};
-pub use profile::{Isa, Profile, StreamLimits};
+pub use profile::{Isa, Profile, StreamLimits, is_short};
 pub use reading::{read, read_for};
 pub use segment::Segment;
 pub use segments::MOST_BYTES;

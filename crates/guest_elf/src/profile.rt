@@ -1,32 +1,50 @@
 //! What a file is read for.
 ghost use Rattle.std.specs.Prelude.{◌≡◌};
-ghost use Rattle.guest_elf.specs.Profiles.{has_atomics, has_controls, has_halves, is_aligned, is_half, unit};
+ghost use Rattle.guest_elf.specs.Profiles.{has_atomics, has_controls, has_halves, is_aligned, is_half, is_short, unit};
 
 use memory_map::Regions;
 
-/// An instruction set, named as the RISC-V ISA manual names it (volume I, 20191213, chapter 27).
+/// An instruction set: RV32I, the base, with M, products and quotients, and what it has besides
+/// (RISC-V Unprivileged ISA 20191213, chapter 27).
 #[derive(Clone, Copy, PartialEq, Eq)]
-pub enum Isa {
-    /// RV32I, the base, with M: products and quotients.
-    Rv32im,
-    /// The same with C: instructions of 16 bits too, at each multiple of 2. Like the next it also has Zicsr, Zifencei and WFI, which start
-    /// files have.
-    Rv32imc,
-    /// The same with A too: atomic instructions.
-    Rv32imac,
+pub struct Isa {
+    /// Has it C, instructions of 16 bits too, at each multiple of 2?
+    pub compressed: bool,
+    /// Has it A, atomic instructions?
+    pub atomics: bool,
+    /// Has it control registers, FENCE.I and WFI, which start files have?
+    pub controls: bool,
 }
 
 impl Isa {
+    /// RV32IM.
+    pub const RV32IM: Isa = Isa {
+        compressed: false,
+        atomics: false,
+        controls: false,
+    };
+
+    /// RV32IMC with Zicsr, Zifencei and WFI.
+    pub const RV32IMC: Isa = Isa {
+        compressed: true,
+        atomics: false,
+        controls: true,
+    };
+
+    /// RV32IMAC with the same.
+    pub const RV32IMAC: Isa = Isa {
+        compressed: true,
+        atomics: true,
+        controls: true,
+    };
+
     /// Returns the number of bytes of its shortest instructions, each of which begins at a multiple of that.
     #[inline(always)]
     #[tactic(auto, unfolding(crate::specs::Profiles::unit))]
     pub fn unit(self) -> u32
         ensures { result ≡ unit self }
     {
-        match self {
-            Isa::Rv32im => 4,
-            Isa::Rv32imc | Isa::Rv32imac => 2,
-        }
+        if self.compressed { 2 } else { 4 }
     }
 
     /// Returns whether there are instructions of 16 bits.
@@ -35,10 +53,7 @@ impl Isa {
     pub fn has_halves(self) -> bool
         ensures { result ≡ has_halves self }
     {
-        match self {
-            Isa::Rv32im => false,
-            Isa::Rv32imc | Isa::Rv32imac => true,
-        }
+        self.compressed
     }
 
     /// Returns whether there are atomic instructions.
@@ -46,10 +61,7 @@ impl Isa {
     pub fn has_atomics(self) -> bool
         ensures { result ≡ has_atomics self }
     {
-        match self {
-            Isa::Rv32im | Isa::Rv32imc => false,
-            Isa::Rv32imac => true,
-        }
+        self.atomics
     }
 
     /// Returns whether there are control registers, and FENCE.I and WFI.
@@ -58,10 +70,7 @@ impl Isa {
     pub fn has_controls(self) -> bool
         ensures { result ≡ has_controls self }
     {
-        match self {
-            Isa::Rv32im => false,
-            Isa::Rv32imc | Isa::Rv32imac => true,
-        }
+        self.controls
     }
 
     /// Returns whether an instruction whose first two bytes are this number has no further ones. Only the two lowest bits count.
@@ -70,10 +79,7 @@ impl Isa {
     pub fn is_half(self, first: u32) -> bool
         ensures { result ≡ is_half self first }
     {
-        match self {
-            Isa::Rv32im => false,
-            Isa::Rv32imc | Isa::Rv32imac => first % 4 != 3,
-        }
+        self.compressed && is_short(first)
     }
 
     /// Returns whether an instruction may begin at an address. Each may at a multiple of 4, which is looked at first.
@@ -85,11 +91,16 @@ impl Isa {
         if addr % 4 == 0 {
             return true;
         }
-        match self {
-            Isa::Rv32im => false,
-            Isa::Rv32imc | Isa::Rv32imac => addr % 2 == 0,
-        }
+        self.compressed && addr % 2 == 0
     }
+}
+
+/// Returns whether an instruction that begins with these bits has 16 of them, wherever there are such. Only the two lowest bits count.
+#[inline(always)]
+pub fn is_short(first: u32) -> bool
+    ensures { result ≡ is_short first }
+{
+    first % 4 != 3
 }
 
 /// How many bytes the calls `read` and `write` of a program move.
@@ -123,7 +134,7 @@ pub struct Profile {
 impl Profile {
     /// The profile of [`read`](crate::read).
     pub const USUAL: Profile = Profile {
-        isa: Isa::Rv32im,
+        isa: Isa::RV32IM,
         regions: Regions::USUAL,
         limits: StreamLimits::USUAL,
     };

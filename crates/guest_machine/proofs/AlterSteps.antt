@@ -7,9 +7,8 @@ use Rattle.std.proofs.Math.Path.{fun_ext}
 use Rattle.std.proofs.lemmas.Bool.{cases_lt, true≢false}
 use Rattle.std.proofs.lemmas.Bool.Decides.{nat_tests}
 use Rattle.definedness.specs.Operations.{xor_of}
-use Rattle.guest_elf.specs.Profiles.{has_halves, is_half}
+use Rattle.guest_elf.specs.Profiles.{has_halves, is_half, is_short}
 use Rattle.guest_elf.specs.declared.profile.Isa.{Isa}
-use Rattle.guest_elf.specs.declared.profile.Isa.TheVariants.{Rv32im, Rv32imc, Rv32imac}
 use Rattle.instructions.specs.Codes.{len_of, number_of}
 use Rattle.instructions.specs.Widths.{width_len}
 use Rattle.instructions.specs.declared.code.Code.{Code}
@@ -145,9 +144,7 @@ no-halves false h = refl
 
 pub never-half : (isa : Isa) (first : ℕ) → has_halves isa ≡ false → is_half isa first ≡ false
 unfolding has_halves is_half
-never-half Rv32im first none = refl
-never-half Rv32imc first none = absurd (true≢false none)
-never-half Rv32imac first none = absurd (true≢false none)
+never-half isa first none = ap (λ compressed. compressed && is_short first) none
 
 core-blind : (act : Act) (core : Core) (f g : ℕ → ℕ) → goes_by_bytes core.isa act ≡ false
     → core_by act core f ≡ core_by act core g

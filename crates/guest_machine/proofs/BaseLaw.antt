@@ -1,7 +1,6 @@
 -- A machine without extensions takes their words for no instruction.
 use Rattle.std.proofs.Common.{◌≡◌, ℕ, ◌%◌, ◌==◌, ◌&&◌, false, cond, refl, ap, List, Option, Some, None, not}
-use Rattle.guest_elf.specs.Profiles.{has_atomics, has_controls}
-use Rattle.guest_elf.specs.declared.profile.Isa.TheVariants.{Rv32im}
+use Rattle.guest_elf.specs.Profiles.{has_atomics, has_controls, rv32im}
 use Rattle.instructions.specs.Controls as Writes
 use Rattle.instructions.specs.Instructions.{extension_by, extension_of, if_extension, if_row, row_of, row_or}
 use Rattle.instructions.specs.declared.atomic.Atomic.{Atomic}
@@ -105,7 +104,7 @@ lacks-atomics core none = record { effects = effect core none; uses = none-used 
 
 -- ---- RV32IM
 
-module _ (core : Core) (base : core.isa ≡ Rv32im) where
+module _ (core : Core) (base : core.isa ≡ rv32im) where
   no-atomics : has_atomics core.isa ≡ false
   unfolding has_atomics
   no-atomics = ap has_atomics base

@@ -10,8 +10,7 @@ use Rattle.std.proofs.lemmas.Bool.{cases_eq, cases_lt}
 use Rattle.std.proofs.lemmas.Bool.Decides.{nat_tests}
 use Rattle.shadow_memory.specs.Ranges.{above, offset, is_in, changed_in, first_from, little_word, window}
 use Rattle.shadow_memory.specs.Shadows.{Shadow, address_at, first_inaccessible, loaded_undef}
-use Rattle.guest_elf.specs.Profiles.{is_half}
-use Rattle.guest_elf.specs.declared.profile.Isa.TheVariants.{Rv32imc}
+use Rattle.guest_elf.specs.Profiles.{is_short}
 use Rattle.instructions.specs.Codes.{code_of, row_of_code}
 use Rattle.guest_machine.specs.DecodeCaches.{place_of, no_entry, entry_at, IsEntry, IsEntryAt, AreEntries, HasRow}
 use Rattle.guest_machine.specs.DecodeCaches.{HasEach, IsClear, AreLeft, AreLeftBut, ArePlaced, IsCodeLen, IsLeft}
@@ -59,7 +58,7 @@ row-kept bytes after shadows later len a row fits same same_shadows has =
     let codes = window-same bytes after a len fits same in
     record {
       row = ap (λ f. row_of_code (code_of len (little_word f))) codes ∙ has.row;
-      length = ap (λ f. is_half Rv32imc (little_word f)) codes ∙ has.length;
+      length = ap (λ f. is_short (little_word f)) codes ∙ has.length;
       undef =
           ap little_word (window-same (λ b. loaded_undef (shadows b)) (λ b. loaded_undef (later b)) a len fits
           (λ i low. ap loaded_undef (same_shadows i low))) ∙ has.undef;

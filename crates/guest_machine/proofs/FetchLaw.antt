@@ -1,11 +1,11 @@
 -- A code that is fetched begins where an instruction may, and is at least as long as the shortest ones.
-use Rattle.std.proofs.Common.{◌≡◌, ◌%◌, ◌≤◌, ℕ, Bool, true, false, refl, arith, Option, Some, None, IfSome}
+use Rattle.std.proofs.Common.{◌≡◌, ◌%◌, ◌≤◌, ◌==◌, ◌&&◌, ℕ, Bool, true, false, if◌then◌else◌, refl, arith, Option, Some}
+use Rattle.std.proofs.Common.{None, IfSome}
 use Rattle.std.specs.Prelude.{is_none}
 use Rattle.std.proofs.lemmas.Bool.Decides.{nat_tests}
-use Rattle.guest_elf.specs.Profiles.{is_aligned, is_half, unit}
+use Rattle.guest_elf.specs.Profiles.{is_aligned, is_half, is_short, unit}
 use Rattle.guest_elf.specs.declared.hook.Hook.{Hook}
 use Rattle.guest_elf.specs.declared.profile.Isa.{Isa}
-use Rattle.guest_elf.specs.declared.profile.Isa.TheVariants.{Rv32im, Rv32imc, Rv32imac}
 use Rattle.shadow_memory.specs.Shadows.{Shadow, first_inaccessible}
 use Rattle.guest_machine.specs.State.{Core}
 use Rattle.guest_machine.specs.Exec.{called_here, action_by, fetch_by, fetch_span, fetched, fetches, half_at}
@@ -16,29 +16,38 @@ use Rattle.guest_machine.proofs.Fetching.{at_start, no-fault}
 
 few-bytes : (isa : Isa) → unit isa ≤ 4
 unfolding unit
-few-bytes Rv32im = omega arith
-few-bytes Rv32imc = omega arith
-few-bytes Rv32imac = omega arith
+few-bytes isa = go isa.compressed
+  where
+    go : (compressed : Bool) → (if compressed then 2 else 4) ≤ 4
+    go true = omega arith
+    go false = omega arith
 
 multiple : (isa : Isa) (a : ℕ) → is_aligned isa a ≡ true → a % unit isa ≡ 0
 unfolding unit
-multiple Rv32im a h = grind (arith, nat_tests)
-multiple Rv32imc a h = grind (arith, nat_tests)
-multiple Rv32imac a h = grind (arith, nat_tests)
+multiple isa a h = go isa.compressed h
+  where
+    go : (compressed : Bool) → (a % (if compressed then 2 else 4) == 0) ≡ true → a % (if compressed then 2 else 4) ≡ 0
+    go true h = grind (arith, nat_tests)
+    go false h = grind (arith, nat_tests)
 
 -- where there are halves, and where a word can be cut, the shortest instructions have two bytes
 by-half : (isa : Isa) (first : ℕ) → is_half isa first ≡ true → unit isa ≤ 2
 unfolding is_half unit
-by-half Rv32im first h = cc
-by-half Rv32imc first h = omega arith
-by-half Rv32imac first h = omega arith
+by-half isa first h = go isa.compressed h
+  where
+    go : (compressed : Bool) → compressed && is_short first ≡ true → (if compressed then 2 else 4) ≤ 2
+    go true h = omega arith
+    go false h = cc
 
 by-cut : (isa : Isa) (shadows : ℕ → Shadow) (a : ℕ) → first_inaccessible shadows a (unit isa) ≡ None
     → is_none (first_inaccessible shadows a 4) ≡ false → unit isa ≤ 2
 unfolding unit
-by-cut Rv32im shadows a none some = cc
-by-cut Rv32imc shadows a none some = omega arith
-by-cut Rv32imac shadows a none some = omega arith
+by-cut isa shadows a none some = go isa.compressed none
+  where
+    go : (compressed : Bool) → first_inaccessible shadows a (if compressed then 2 else 4) ≡ None
+        → (if compressed then 2 else 4) ≤ 2
+    go true none = omega arith
+    go false none = cc
 
 of-code : (core : Core) (bytes : ℕ → ℕ) (function : Option Hook)
     → IfSome (fetch_span core (action_by function (fetched core bytes))) (IsCodeOf core.isa)

@@ -1,11 +1,10 @@
 -- What may be fetched, and which code that is.
 use Rattle.std.proofs.Common.{◌≡◌, ◌%◌, ◌&&◌, ◌==◌, ℕ, Bool, true, false, Option, Some, None, refl, sym, ap, ◌∙◌, arith}
-use Rattle.std.proofs.Common.{not, IfSome, inl, inr}
+use Rattle.std.proofs.Common.{not, IfSome, if◌then◌else◌, inl, inr}
 use Rattle.std.specs.Prelude.{is_none}
 use Rattle.std.proofs.lemmas.Bool.Decides.{nat_tests}
-use Rattle.guest_elf.specs.Profiles.{has_halves, is_aligned, is_half, unit}
+use Rattle.guest_elf.specs.Profiles.{has_halves, is_aligned, is_half, is_short, unit}
 use Rattle.guest_elf.specs.declared.profile.Isa.{Isa}
-use Rattle.guest_elf.specs.declared.profile.Isa.TheVariants.{Rv32im, Rv32imc, Rv32imac}
 use Rattle.instructions.specs.Codes.{code_of, row_of_code}
 use Rattle.instructions.specs.declared.code.Code.{Code}
 use Rattle.instructions.specs.declared.code.Code.TheVariants.{Word, Half}
@@ -33,9 +32,11 @@ at_start core h = second _ _ _ h
 
 is-even : (isa : Isa) (a : ℕ) → is_aligned isa a ≡ true → a % 2 ≡ 0
 unfolding unit
-is-even Rv32im a h = let four : a % 4 ≡ 0 = grind (arith, nat_tests) in omega arith
-is-even Rv32imc a h = grind (arith, nat_tests)
-is-even Rv32imac a h = grind (arith, nat_tests)
+is-even isa a h = go isa.compressed h
+  where
+    go : (compressed : Bool) → (a % (if compressed then 2 else 4) == 0) ≡ true → a % 2 ≡ 0
+    go true h = grind (arith, nat_tests)
+    go false h = let four : a % 4 ≡ 0 = grind (arith, nat_tests) in omega arith
 
 -- where a machine is ready, and where a code is fetched
 pub at_ready : (core : Core) → (is_running core.status && is_aligned core.isa core.pc) ≡ true → core.pc % 2 ≡ 0
@@ -76,11 +77,8 @@ low-bits f a = omega arith
 pub half-by-word : (isa : Isa) (f g : ℕ → ℕ) (a : ℕ) → little_word (window f a 4) ≡ little_word (window g a 4)
     → is_half isa (little_word (window g a 2)) ≡ is_half isa (little_word (window f a 2))
 unfolding is_half
-half-by-word Rv32im f g a same = refl
-half-by-word Rv32imc f g a same =
-    ap (λ n. not (n == 3)) (sym (low-bits g a) ∙ ap (λ n. n % 4) (sym same) ∙ low-bits f a)
-half-by-word Rv32imac f g a same =
-    ap (λ n. not (n == 3)) (sym (low-bits g a) ∙ ap (λ n. n % 4) (sym same) ∙ low-bits f a)
+half-by-word isa f g a same =
+    ap (λ n. isa.compressed && not (n == 3)) (sym (low-bits g a) ∙ ap (λ n. n % 4) (sym same) ∙ low-bits f a)
 
 -- of four accessible bytes the first two are
 two-of-four : (shadows : ℕ → Shadow) (a : ℕ) → first_inaccessible shadows a 4 ≡ None
@@ -92,17 +90,21 @@ two-of-four shadows a h = grind (arith, nat_tests)
 front : (isa : Isa) (shadows : ℕ → Shadow) (a : ℕ) → first_inaccessible shadows a 4 ≡ None
     → first_inaccessible shadows a (unit isa) ≡ None
 unfolding unit
-front Rv32im shadows a h = h
-front Rv32imc shadows a h = two-of-four shadows a h
-front Rv32imac shadows a h = two-of-four shadows a h
+front isa shadows a h = go isa.compressed
+  where
+    go : (compressed : Bool) → first_inaccessible shadows a (if compressed then 2 else 4) ≡ None
+    go true = two-of-four shadows a h
+    go false = h
 
 -- a word whose lowest bits are those of one is none of the profile's halves
-no-half : (isa : Isa) (f : ℕ → ℕ) (a : ℕ) → is_half Rv32imc (little_word (window f a 4)) ≡ false
+no-half : (isa : Isa) (f : ℕ → ℕ) (a : ℕ) → is_short (little_word (window f a 4)) ≡ false
     → is_half isa (little_word (window f a 2)) ≡ false
 unfolding is_half
-no-half Rv32im f a h = refl
-no-half Rv32imc f a h = ap (λ n. not (n == 3)) (sym (low-bits f a)) ∙ h
-no-half Rv32imac f a h = ap (λ n. not (n == 3)) (sym (low-bits f a)) ∙ h
+no-half isa f a h = go isa.compressed
+  where
+    go : (compressed : Bool) → compressed && is_short (little_word (window f a 2)) ≡ false
+    go true = ap (λ n. not (n == 3)) (sym (low-bits f a)) ∙ h
+    go false = refl
 
 both-true : (p q r : Bool) → p && q ≡ true → r ≡ true → p && (q && r) ≡ true
 both-true true true r h k = k
@@ -136,11 +138,10 @@ decoded_word core bytes row ready has = record {
 
 -- instructions of 16 bits are told from others in one way, wherever there are any
 by-halves : (isa : Isa) → has_halves isa ≡ true
-    → (unit isa ≡ 2) × ((first : ℕ) → is_half isa first ≡ is_half Rv32imc first)
+    → (unit isa ≡ 2) × ((first : ℕ) → is_half isa first ≡ is_short first)
 unfolding has_halves unit is_half
-by-halves Rv32im h = cc
-by-halves Rv32imc h = (refl, λ first. refl)
-by-halves Rv32imac h = (refl, λ first. refl)
+by-halves isa h =
+    (ap (λ compressed. if compressed then 2 else 4) h, λ first. ap (λ compressed. compressed && is_short first) h)
 
 pub decoded_half : (core : Core) (bytes : ℕ → ℕ) (row : Instruction) → has_halves core.isa ≡ true
     → (is_running core.status && is_aligned core.isa core.pc) ≡ true
@@ -192,9 +193,12 @@ no-fault core h =
 unit-there : (isa : Isa) (shadows : ℕ → Shadow) (a : ℕ) → first_inaccessible shadows a (unit isa) ≡ None
     → first_inaccessible shadows a 2 ≡ None
 unfolding unit
-unit-there Rv32im shadows a h = two-of-four shadows a h
-unit-there Rv32imc shadows a h = h
-unit-there Rv32imac shadows a h = h
+unit-there isa shadows a h = go isa.compressed h
+  where
+    go : (compressed : Bool) → first_inaccessible shadows a (if compressed then 2 else 4) ≡ None
+        → first_inaccessible shadows a 2 ≡ None
+    go true h = h
+    go false h = two-of-four shadows a h
 
 pub two_there : (core : Core) → fetches core ≡ true → first_inaccessible core.shadow core.pc 2 ≡ None
 two_there core h = unit-there core.isa core.shadow core.pc (no-fault core h)
@@ -210,27 +214,27 @@ half_there core bytes half h = (
 
 -- a code that is fetched and defined, and has the lowest bits of its length, may be kept
 pub keep_word : (core : Core) (bytes : ℕ → ℕ) (word : ℕ) (row : Instruction) → fetched core bytes ≡ Takes (Word word)
-    → row_of_code (Word word) ≡ Some row → fetch_undef core 4 ≡ 0 → is_half Rv32imc word ≡ false
+    → row_of_code (Word word) ≡ Some row → fetch_undef core 4 ≡ 0 → is_short word ≡ false
     → HasRow bytes core.shadow 4 core.pc row
 unfolding code_of
 keep_word core bytes word row taken is undef long =
     let there = word_there core bytes word taken in
     record {
       row = ap (λ n. row_of_code (Word n)) (sym there.0) ∙ is;
-      length = ap (is_half Rv32imc) (sym there.0) ∙ long;
+      length = ap is_short (sym there.0) ∙ long;
       undef = undef;
       bad = there.1;
     }
 
 pub keep_half : (core : Core) (bytes : ℕ → ℕ) (half : ℕ) (row : Instruction) → fetched core bytes ≡ Takes (Half half)
-    → row_of_code (Half half) ≡ Some row → fetch_undef core 2 ≡ 0 → is_half Rv32imc half ≡ true
+    → row_of_code (Half half) ≡ Some row → fetch_undef core 2 ≡ 0 → is_short half ≡ true
     → HasRow bytes core.shadow 2 core.pc row
 unfolding code_of
 keep_half core bytes half row taken is undef short =
     let there = half_there core bytes half taken in
     record {
       row = ap (λ n. row_of_code (Half n)) (sym there.0) ∙ is;
-      length = ap (is_half Rv32imc) (sym there.0) ∙ short;
+      length = ap is_short (sym there.0) ∙ short;
       undef = undef;
       bad = there.1;
     }
@@ -253,6 +257,8 @@ found_half core bytes (Some row) is ready has = decoded_half core bytes row is r
 -- the number of bytes of the shortest instructions is one that a load may have
 pub unit_width : (isa : Isa) → IsWidth (unit isa)
 unfolding unit
-unit_width Rv32im = inr (inr refl)
-unit_width Rv32imc = inr (inl refl)
-unit_width Rv32imac = inr (inl refl)
+unit_width isa = go isa.compressed
+  where
+    go : (compressed : Bool) → IsWidth (if compressed then 2 else 4)
+    go true = inr (inl refl)
+    go false = inr (inr refl)

@@ -4,14 +4,13 @@ use Rattle.std.proofs.Common.{refl, ap, sym, ◌∙◌, List, [], ◌∷◌, Opt
 use Rattle.error_events.specs.declared.parameter.Parameter.{Parameter}
 use Rattle.std.specs.Prelude.{is_none}
 use Rattle.guest_elf.specs.Hooks.{hook_at}
-use Rattle.guest_elf.specs.Profiles.{has_atomics, has_controls, is_aligned, is_half, unit}
+use Rattle.guest_elf.specs.Profiles.{has_atomics, has_controls, is_aligned, is_half, rv32im, unit}
 use Rattle.shadow_memory.specs.Shadows.{first_inaccessible}
 use Rattle.guest_elf.specs.declared.hook.Hook.{Hook}
 use Rattle.guest_elf.specs.declared.hook.Hook.TheVariants.{Malloc, Free, Calloc, Realloc}
 use Rattle.guest_elf.specs.declared.profile.Isa.{Isa}
 use Rattle.guest_elf.specs.declared.profile.StreamLimits.{StreamLimits}
 use Rattle.memory_map.specs.declared.regions.StackRegion.{StackRegion}
-use Rattle.guest_elf.specs.declared.profile.Isa.TheVariants.{Rv32im}
 use Rattle.guest_heap.specs.Steps.{place}
 use Rattle.guest_heap.specs.declared.released.Released.{Released}
 use Rattle.guest_heap.specs.declared.released.Released.TheVariants.{Done, Nothing, Invalid}
@@ -313,7 +312,7 @@ last-true true true r h = h
 last-true true false r h = cc
 last-true false q r h = cc
 
-by-fours : (core : Core) → core.isa ≡ Rv32im → IsByFours core
+by-fours : (core : Core) → core.isa ≡ rv32im → IsByFours core
 unfolding jumped linked_jump called_here fetched fetches unfetched unit has_controls is_half first_inaccessible
 by-fours core is = record {
   jumps = λ to. (λ i. cond (is_aligned (is i) to) (moved_to core to) (stopped core Misaligned));

@@ -5,8 +5,7 @@ use Rattle.std.proofs.lemmas.Bool.{cases_eq, cases_lt}
 use Rattle.std.proofs.lemmas.List.{get_or_past}
 use Rattle.shadow_memory.specs.Ranges.{little_word, window}
 use Rattle.shadow_memory.specs.Shadows.{Shadow, HasDefined}
-use Rattle.guest_elf.specs.Profiles.{is_half}
-use Rattle.guest_elf.specs.declared.profile.Isa.TheVariants.{Rv32imc}
+use Rattle.guest_elf.specs.Profiles.{is_short}
 use Rattle.instructions.specs.Codes.{code_of, row_of_code}
 use Rattle.guest_machine.specs.DecodeCaches.{no_entry, entry_at, HasBoth, HasRow, HasEach, IsEntry}
 use Rattle.guest_machine.specs.declared.decode_cache.Decoded.{Decoded}
@@ -81,7 +80,7 @@ fit_each bytes others shadows known len old new end long fit each k is = elim (c
       let code = here.has below in
       record {
         row = ap (λ n. row_of_code (code_of len n)) code.value ∙ was.row;
-        length = ap (is_half Rv32imc) code.value ∙ was.length;
+        length = ap is_short code.value ∙ was.length;
         undef = code.undef;
         bad = code.bad;
       }
@@ -97,7 +96,7 @@ all_fit bytes others shadows known len entries same each k is =
     let was = each k is in
     record {
       row = ap (λ n. row_of_code (code_of len n)) code.value ∙ was.row;
-      length = ap (is_half Rv32imc) code.value ∙ was.length;
+      length = ap is_short code.value ∙ was.length;
       undef = code.undef;
       bad = code.bad;
     }

@@ -1,8 +1,7 @@
 -- Instructions that were decoded recently, each with the address of the code that it was decoded from. Those of words
 -- are in one table, and those of halves in another one.
 use Rattle.std.specs.Prelude.{◌≡◌, ℕ, ◌+◌, ◌/◌, ◌%◌, ◌<◌, ◌≤◌, ◌==◌, ◌⊎◌, false, Some, None, List, slice_index_or}
-use Rattle.guest_elf.specs.Profiles.{is_half}
-use Rattle.guest_elf.specs.declared.profile.Isa.TheVariants.{Rv32imc}
+use Rattle.guest_elf.specs.Profiles.{is_short}
 use Rattle.shadow_memory.specs.Ranges.{is_in, little_word, window}
 use Rattle.shadow_memory.specs.Shadows.{Shadow, first_inaccessible, loaded_undef}
 use Rattle.instructions.specs.Codes.{code_of, row_of_code}
@@ -48,7 +47,7 @@ pub record CoversEntries (range : Span) (len : ℕ) (entries : List Decoded) : T
 -- may be accessed, and are defined
 pub record HasRow (bytes : ℕ → ℕ) (shadows : ℕ → Shadow) (len a : ℕ) (instruction : Instruction) : Type 0 where
   pub row : row_of_code (code_of len (little_word (window bytes a len))) ≡ Some instruction
-  pub length : is_half Rv32imc (little_word (window bytes a len)) ≡ (len == 2)
+  pub length : is_short (little_word (window bytes a len)) ≡ (len == 2)
   pub undef : little_word (window (λ b. loaded_undef (shadows b)) a len) ≡ 0
   pub bad : first_inaccessible shadows a len ≡ None
 

@@ -3,7 +3,6 @@ use Rattle.std.specs.Prelude.{◌≡◌, ℕ, ◌/◌, ◌%◌, ◌<◌, ◌≤�
 use Rattle.std.specs.Prelude.{slice_get, ◌==◌, ◌&&◌, if◌then◌else◌, is_none, None, drop}
 use Rattle.guest_elf.specs.Hooks.{hook_at}
 use Rattle.guest_elf.specs.declared.hook.Hook.{Hook}
-use Rattle.guest_elf.specs.declared.profile.Isa.TheVariants.{Rv32im}
 use Rattle.instructions.specs.declared.hint.StackHint.{StackHint}
 use Rattle.run_values.specs.declared.alteration.Act.TheVariants.{Skip}
 use Rattle.run_values.specs.declared.status.Stop.TheVariants.{Illegal, Misaligned}
@@ -24,7 +23,7 @@ use Rattle.guest_machine.specs.Exec.{word_fault, Terms, atomic_uses, calls_heap,
 use Rattle.guest_machine.specs.Exec.{row_uses}
 use Rattle.instructions.specs.Instructions.{if_row, row_of}
 use Rattle.rv_decode.specs.Table.{insn}
-use Rattle.guest_elf.specs.Profiles.{has_atomics}
+use Rattle.guest_elf.specs.Profiles.{has_atomics, rv32im}
 use Rattle.guest_machine.specs.Atomics.{atomic_effect}
 use Rattle.instructions.specs.declared.atomic.Atomic.{Atomic}
 use Rattle.instructions.specs.Codes.{len_of}
@@ -181,7 +180,7 @@ pub record IsByFours (core : Core) : Type 0 where
 
 -- a core whose instruction set is RV32IM is one
 abbrev pub GoesByFours : Type 0
-GoesByFours = (core : Core) → core.isa ≡ Rv32im → IsByFours core
+GoesByFours = (core : Core) → core.isa ≡ rv32im → IsByFours core
 
 -- a core at which each word is what it is in RV32IM
 pub record HasBaseWords (core : Core) : Type 0 where
@@ -194,7 +193,7 @@ pub record HasBaseWords (core : Core) : Type 0 where
 
 -- a core whose instruction set is RV32IM is one
 abbrev pub LacksExtensions : Type 0
-LacksExtensions = (core : Core) → core.isa ≡ Rv32im → HasBaseWords core
+LacksExtensions = (core : Core) → core.isa ≡ rv32im → HasBaseWords core
 
 -- a core at which an atomic instruction is none
 pub record HasNoAtomics (core : Core) : Type 0 where

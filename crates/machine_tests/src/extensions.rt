@@ -74,7 +74,7 @@ const ATOMICS: [Row; 3] = [
 
 #[test]
 fn atomics_are_executed(rt: HostRuntime) {
-    assert_so_for(&rt, rt.alloc(), Isa::Rv32imac, &ATOMICS);
+    assert_so_for(&rt, rt.alloc(), Isa::RV32IMAC, &ATOMICS);
 }
 
 // `csrwi mscratch, 5; csrrsi a1, mscratch, 2; csrrc a0, mscratch, a1; csrr a0, mscratch`. `csrw mcycle, sp; csrr a0, mcycle`.
@@ -144,7 +144,7 @@ const CONTROLS: [Row; 4] = [
 
 #[test]
 fn control_registers_are_accessed(rt: HostRuntime) {
-    assert_so_for(&rt, rt.alloc(), Isa::Rv32imc, &CONTROLS);
+    assert_so_for(&rt, rt.alloc(), Isa::RV32IMC, &CONTROLS);
 }
 
 /// The end of a run of one word that is no instruction.
@@ -270,8 +270,8 @@ fn control_registers_are_replaced(rt: HostRuntime) {
 
 #[test]
 fn a_set_without_atomics_has_none(rt: HostRuntime) {
-    assert_so_for(&rt, rt.alloc(), Isa::Rv32im, &WITHOUT);
-    assert_so_for(&rt, rt.alloc(), Isa::Rv32imc, &WITHOUT);
+    assert_so_for(&rt, rt.alloc(), Isa::RV32IM, &WITHOUT);
+    assert_so_for(&rt, rt.alloc(), Isa::RV32IMC, &WITHOUT);
 }
 
 const BASE: [Row; 3] = [
@@ -282,5 +282,5 @@ const BASE: [Row; 3] = [
 
 #[test]
 fn the_base_has_no_extensions(rt: HostRuntime) {
-    assert_so_for(&rt, rt.alloc(), Isa::Rv32im, &BASE);
+    assert_so_for(&rt, rt.alloc(), Isa::RV32IM, &BASE);
 }

@@ -249,7 +249,7 @@ const SHORT: [Row; 3] = [
 
 #[test]
 fn halves_are_executed(rt: HostRuntime) {
-    assert_so_for(&rt, rt.alloc(), Isa::Rv32imc, &SHORT);
+    assert_so_for(&rt, rt.alloc(), Isa::RV32IMC, &SHORT);
 }
 
 /// Returns whether a code of this length adds 1 to a register.

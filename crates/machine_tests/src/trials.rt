@@ -354,7 +354,7 @@ fn has_registers(machine: &Machine) -> bool {
             return false;
         }
     }
-    machine.isa() == Isa::Rv32im
+    machine.isa() == Isa::RV32IM
 }
 
 /// Returns whether a trial passes on an image.
@@ -418,7 +418,7 @@ fn is_so(alloc: Global, isa: Isa, row: &Row) -> Result<bool, AllocError> {
 
 /// Asserts that rows hold under RV32IM.
 pub(crate) fn assert_so(rt: &impl Abort, alloc: Global, rows: &[Row]) {
-    assert_so_for(rt, alloc, Isa::Rv32im, rows);
+    assert_so_for(rt, alloc, Isa::RV32IM, rows);
 }
 
 /// Asserts that rows hold under an instruction set.

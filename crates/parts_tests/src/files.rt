@@ -73,7 +73,7 @@ fn is_read_for(alloc: Global, profile: Profile) -> bool {
 
 /// Returns whether it is for the usual one, which is that of `read`.
 fn is_read_for_usual(alloc: Global) -> bool {
-    let Some(usual) = profile_of(Isa::Rv32im) else {
+    let Some(usual) = profile_of(Isa::RV32IM) else {
         return false;
     };
     match read(alloc, &PROGRAM) {
@@ -101,7 +101,7 @@ fn profile_of(isa: Isa) -> Option<Profile> {
 
 /// Returns whether instructions of RV32IM may begin at multiples of 4 alone.
 fn begin_at_fours() -> bool {
-    let isa = Isa::Rv32im;
+    let isa = Isa::RV32IM;
     isa.aligns(0x10004)
         && !isa.aligns(0x10005)
         && !isa.aligns(0x10006)
@@ -172,12 +172,10 @@ fn is_coded_for(alloc: Global, file: &[u8], isa: Isa, row: &Coded) -> bool {
         return false;
     };
     match read_for(alloc, file, profile) {
-        Ok(image) => match isa {
-            Isa::Rv32im => image.is_word(*addr) == *word,
-            Isa::Rv32imc | Isa::Rv32imac => {
-                image.is_word(*addr) == *long && image.is_half_word(*addr) == *half
-            }
-        },
+        Ok(image) if isa.has_halves() => {
+            image.is_word(*addr) == *long && image.is_half_word(*addr) == *half
+        }
+        Ok(image) => image.is_word(*addr) == *word,
         Err(_) => false,
     }
 }
@@ -186,9 +184,9 @@ fn is_coded_for(alloc: Global, file: &[u8], isa: Isa, row: &Coded) -> bool {
 fn is_coded(alloc: Global, row: &Coded) -> bool {
     let mut file = PROGRAM;
     change(&mut file, row.0);
-    is_coded_for(alloc, &file, Isa::Rv32im, row)
-        && is_coded_for(alloc, &file, Isa::Rv32imc, row)
-        && is_coded_for(alloc, &file, Isa::Rv32imac, row)
+    is_coded_for(alloc, &file, Isa::RV32IM, row)
+        && is_coded_for(alloc, &file, Isa::RV32IMC, row)
+        && is_coded_for(alloc, &file, Isa::RV32IMAC, row)
 }
 
 /// Returns whether there is one segment, with bytes or without.
@@ -242,12 +240,12 @@ fn files_by_hand(rt: HostRuntime) {
         is_read_for_usual(rt.alloc()),
     );
     holds(&rt, "instructions of 32 bits", begin_at_fours());
-    holds(&rt, "those of 16 bits too", begin_at_twos(Isa::Rv32imc));
-    holds(&rt, "and atomic ones", begin_at_twos(Isa::Rv32imac));
+    holds(&rt, "those of 16 bits too", begin_at_twos(Isa::RV32IMC));
+    holds(&rt, "and atomic ones", begin_at_twos(Isa::RV32IMAC));
     holds(
         &rt,
         "atomic instructions in one set",
-        Isa::Rv32imac.has_atomics() && !Isa::Rv32imc.has_atomics(),
+        Isa::RV32IMAC.has_atomics() && !Isa::RV32IMC.has_atomics(),
     );
     comes(
         &rt,
@@ -371,7 +369,7 @@ fn changed(changes: &[Change; 3]) -> [u8; 96] {
 /// Returns whether a row holds.
 fn is_placed(alloc: Global, row: &Placed) -> bool {
     let file = changed(&row.3);
-    let Some(profile) = profile_with(Isa::Rv32im, row.1, row.2) else {
+    let Some(profile) = profile_with(Isa::RV32IM, row.1, row.2) else {
         return false;
     };
     match read_for(alloc, &file, profile) {
@@ -390,7 +388,7 @@ fn segments_lie_beside_the_regions(rt: HostRuntime) {
 /// Returns whether the program, as a segment that is around the stack, is loaded up to the stack and from its end on.
 fn is_loaded_around(alloc: Global) -> bool {
     let file = changed(&AROUND);
-    let Some(profile) = profile_with(Isa::Rv32im, 0x4000_0000, LOW_STACK) else {
+    let Some(profile) = profile_with(Isa::RV32IM, 0x4000_0000, LOW_STACK) else {
         return false;
     };
     match read_for(alloc, &file, profile) {

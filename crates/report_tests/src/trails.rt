@@ -444,7 +444,7 @@ impl<'a> Edited<'a> {
         }
         let fork = self
             .trail
-            .fork_at_code(addr, 4, 4000, Isa::Rv32im, &self.setup, &self.marks)?;
+            .fork_at_code(addr, 4, 4000, Isa::RV32IM, &self.setup, &self.marks)?;
         let effect = Effect::Patch {
             addr,
             code: Code::Word(word),

@@ -14,7 +14,6 @@ use Rattle.guest_elf.specs.Images.{profile_of}
 use Rattle.guest_elf.specs.Profiles.{usual_limits}
 use Rattle.guest_elf.specs.declared.image.Image.{Image as ProgramImage}
 use Rattle.guest_elf.specs.declared.profile.Isa.{Isa}
-use Rattle.guest_elf.specs.declared.profile.Isa.TheVariants.{Rv32im}
 use Rattle.guest_elf.specs.declared.profile.Profile.{Profile}
 use Rattle.guest_elf.specs.declared.profile.StreamLimits.{StreamLimits}
 use Rattle.memory_map.specs.Regions.{heap_begin}
@@ -73,8 +72,7 @@ words_line (Some range) values =
 
 -- is it another instruction set than the usual one?
 abbrev pub is_other : Isa → Bool
-is_other Rv32im = false
-is_other _ = true
+is_other isa = isa.compressed || isa.atomics || isa.controls
 
 -- does the heap's region begin elsewhere than the usual one?
 abbrev pub is_heap_moved : Regions → Bool

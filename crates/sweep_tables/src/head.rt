@@ -97,7 +97,7 @@ fn push_words(out: &mut Vec<u8>, words: Option<Range>, values: &str) -> Result<(
 fn is_other(isa: Isa) -> bool
     ensures { result ≡ is_other isa }
 {
-    !matches!(isa, Isa::Rv32im)
+    isa.compressed || isa.atomics || isa.controls
 }
 
 /// Returns whether the heap's region begins elsewhere than the usual one.

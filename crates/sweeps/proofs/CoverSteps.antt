@@ -1,6 +1,6 @@
 -- Another run of which a table says what it has executed.
 use Rattle.std.proofs.Common.{◌≡◌, ◌⊎◌, ℕ, zero, ◌+◌, ◌*◌, ◌-◌, ◌/◌, ◌<◌, ◌≤◌, ◌||◌, Bool, true, false, List, [], ◌∷◌}
-use Rattle.std.proofs.Common.{◌++◌}
+use Rattle.std.proofs.Common.{◌++◌, if◌then◌else◌}
 use Rattle.std.proofs.Common.{Option, Some, None, refl, ap, sym, ◌∙◌, subst, arith, inl, inr, length, get_or}
 use Rattle.std.proofs.Common.{append_assoc, append-nil}
 use Rattle.std.specs.List.{All, list_any}
@@ -10,7 +10,6 @@ use Rattle.std.proofs.lemmas.List.Folds.{list_any-append}
 use Rattle.std.proofs.lemmas.Option.{none-some}
 use Rattle.guest_elf.specs.Profiles.{unit}
 use Rattle.guest_elf.specs.declared.profile.Isa.{Isa}
-use Rattle.guest_elf.specs.declared.profile.Isa.TheVariants.{Rv32im, Rv32imc, Rv32imac}
 use Rattle.checkpoints.specs.Effects.{IsOfSetup}
 use Rattle.checkpoints.specs.declared.effect.Effect.{Effect}
 use Rattle.checkpoints.specs.declared.forks.Fork.{Fork}
@@ -152,15 +151,19 @@ no-length (x ∷ xs) h = absurd (omega arith)
 
 pub few-apart : (isa : Isa) → unit isa ≤ 4
 unfolding unit
-few-apart Rv32im = omega arith
-few-apart Rv32imc = omega arith
-few-apart Rv32imac = omega arith
+few-apart isa = go isa.compressed
+  where
+    go : (compressed : Bool) → (if compressed then 2 else 4) ≤ 4
+    go true = omega arith
+    go false = omega arith
 
 no-places : (isa : Isa) (len : ℕ) → len ≡ 0 → places (unit isa) len ≡ 0
 unfolding unit
-no-places Rv32im len none = ap (places 4) none
-no-places Rv32imc len none = ap (places 2) none
-no-places Rv32imac len none = ap (places 2) none
+no-places isa len none = ap (places (unit isa)) none ∙ go isa.compressed
+  where
+    go : (compressed : Bool) → places (if compressed then 2 else 4) 0 ≡ 0
+    go true = refl
+    go false = refl
 
 pub covers-nothing : (sc : Scenario) (range : Span) (table : List Sides) → range.len ≡ 0 → table ≡ []
     → AreCovered sc [] range table

@@ -7,7 +7,7 @@ ghost use Rattle.guest_machine.specs.Shows.{bytes_of, core_of};
 use crate::machine::Guest;
 use crate::machine::registers::known;
 use definedness::Bits;
-use guest_elf::Isa;
+use guest_elf::is_short;
 use instructions::{Register, Width};
 use run_values::Act;
 use shadow_memory::RangeKind;
@@ -129,17 +129,15 @@ impl Guest {
     }
 
     /// The length of the instruction at pc. It reads no byte if all have the same.
-    #[tactic(auto, unfolding(guest_elf::specs::Profiles::is_half))]
+    #[tactic(auto, unfolding(guest_elf::specs::Profiles::has_halves, guest_elf::specs::Profiles::is_half))]
     fn len_here(&self) -> u32
         ensures { result ≡ len_here (core_of self.now) (bytes_of self.now) }
     {
-        match self.isa {
-            Isa::Rv32im => 4,
-            Isa::Rv32imc | Isa::Rv32imac => {
-                let half = self.memory.load(self.pc, 2);
-                if self.isa.is_half(half.value) { 2 } else { 4 }
-            }
+        if !self.isa.has_halves() {
+            return 4;
         }
+        let half = self.memory.load(self.pc, 2);
+        if is_short(half.value) { 2 } else { 4 }
     }
 
     /// Leaves an instruction out. It counts as a step.

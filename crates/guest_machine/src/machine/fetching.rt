@@ -9,7 +9,7 @@ ghost use Rattle.instructions.specs.Codes.{len_of, row_of_code};
 
 use crate::machine::{Guest, Machine};
 use error_events::Kind;
-use guest_elf::Isa;
+use guest_elf::is_short;
 use instructions::{Code, Instruction, row_of_code};
 use run_values::{Status, Stop};
 use std::alloc::AllocError;
@@ -178,10 +178,10 @@ impl Guest {
             return;
         }
         match code {
-            Code::Word(word) if !Isa::Rv32imc.is_half(word) => {
+            Code::Word(word) if !is_short(word) => {
                 self.memory.keep_word(self.pc, instruction);
             }
-            Code::Half(half) if Isa::Rv32imc.is_half(u32::from(half)) => {
+            Code::Half(half) if is_short(u32::from(half)) => {
                 self.memory.keep_half(self.pc, instruction);
             }
             _ => {}

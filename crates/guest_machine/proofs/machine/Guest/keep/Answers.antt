@@ -1,6 +1,5 @@
 use Rattle.std.proofs.Common.{◌≡◌, ◌∙◌, ap, sym, arith}
-use Rattle.guest_elf.specs.Profiles.{is_half}
-use Rattle.guest_elf.specs.declared.profile.Isa.TheVariants.{Rv32imc}
+use Rattle.guest_elf.specs.Profiles.{is_short}
 use Rattle.instructions.specs.Codes.{len_of, row_of_code}
 use Rattle.guest_machine.specs.Errors.{fetch_undef}
 use Rattle.guest_machine.specs.Exec.{Takes}
@@ -16,7 +15,7 @@ keep_word-requires c =
     keep_word core bytes c.in-Word.word c.args.instruction (c.requires.taken ∙ ap Takes c.in-Word.is)
     (ap row_of_code (sym c.in-Word.is) ∙ c.requires.row)
     (ap (λ code. fetch_undef core (len_of code)) (sym c.in-Word.is) ∙ sym c.requires.undef ∙ none)
-    (sym c.if-not-is_half.ensures)
+    (sym c.if-not-is_short.ensures)
 
 pub keep_half-requires-clause-aligned : goal.keep_half-requires-clause-aligned
 keep_half-requires-clause-aligned c =
@@ -30,4 +29,4 @@ keep_half-requires-clause-there c =
     keep_half core bytes c.in-Half.half c.args.instruction (c.requires.taken ∙ ap Takes c.in-Half.is)
     (ap row_of_code (sym c.in-Half.is) ∙ c.requires.row)
     (ap (λ code. fetch_undef core (len_of code)) (sym c.in-Half.is) ∙ sym c.requires.undef ∙ none)
-    (ap (is_half Rv32imc) (sym c.from.ensures) ∙ sym c.if-is_half.ensures)
+    (ap is_short (sym c.from.ensures) ∙ sym c.if-is_short.ensures)
