@@ -5,7 +5,7 @@ use Rattle.guest_elf.specs.declared.profile.Isa.{Isa}
 use Rattle.command_line.specs.Isas.{isa_name, isa_named}
 
 -- the set that the name of one is read as
-again : Option Isa → Option Isa
+abbrev again : Option Isa → Option Isa
 again None = None
 again (Some isa) = isa_named (isa_name isa)
 
