@@ -182,7 +182,7 @@ def plain(text):
 
 
 def picture_file(bench, path):
-    """Writes the picture of docs/page.md: what a page begins with, once both runs are counted."""
+    """Writes the picture of docs/manual/page.md: what a page begins with, once both runs are counted."""
     with bench.page("", width=1280, height=2000) as page:
         page.run("replaycheck.opening.choose('station', ['input 1 8'])")
         page.until(f"{SWEPT} && document.getElementById('before').textContent.includes('break it')", 120)

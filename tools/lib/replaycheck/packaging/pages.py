@@ -18,7 +18,7 @@ td, th { border: 1px solid #8888; padding: .2em .5em; vertical-align: top; text-
 </head>
 """
 # The pages of a release, of docs/.
-SHIPPED = ("manual.md", "manual/*.md", "glossary.md", "page.md", "case-studies.md", "case-studies/*.md")
+SHIPPED = ("manual/*.md", "case-studies/*.md", "internals/glossary.md")
 PICTURES = ("station.svg", "boot-twice.svg")
 # What a page says of a checkout, and what it says instead in a release, where all is built and installed. Lines may break elsewhere.
 IN_RELEASE = (
@@ -28,7 +28,7 @@ IN_RELEASE = (
     (" In a checkout the first command proves and builds `replaycheck`, once, in 12 to 40 minutes.", ""),
     ("`./replaycheck` at the top of the repository builds the program first if it has to. If that build fails, it ends with 1 too, and "
      "says at which crate, and where its log is.", ""),
-    ("| `--anew`, `--kept` | `page` | compiles the module again; uses only a kept one | [the page](../page.md) |", ""),
+    ("| `--anew`, `--kept` | `page` | compiles the module again; uses only a kept one | [the page](page.md) |", ""),
     (" `--unproved`, as the first word after `./replaycheck` in a checkout, answers by a build that is "
      "[tested and not proved](../../README.md#get-it).", ""),
     ("In a checkout `./replaycheck page` [builds it](#in-the-repository).", ""),
