@@ -1,4 +1,4 @@
-"""The small programs in assembly of examples/guests, and what each is told: README.md there has the form of a row."""
+"""The small programs in assembly of tests/golden/guests, and what each is told: README.md there has the form of a row."""
 import os
 import re
 import subprocess
@@ -8,7 +8,7 @@ from replaycheck.guest_files import ENTRY, TOP, answered, elf
 from replaycheck.programs import USUAL, isa_words
 from replaycheck.reports import LEAK_KINDS
 
-TABLES = TOP / "examples" / "guests"
+TABLES = TOP / "tests" / "golden" / "guests"
 CALLS = {"read": 63, "write": 64, "exit": 93, "exit_group": 94, "malloc": 2001, "free": 2002, "calloc": 2003, "realloc": 2004}
 STEPS = 1000
 

@@ -103,7 +103,7 @@ GATE = (
     GateCheck("tools/test/test-clean PROGRAM"),
     GateCheck("tools/test/test-gdb PROGRAM", seconds=40),
     GateCheck("tools/test/test-page PROGRAM", seconds=270, without_proofs="tools/test/test-page --kept PROGRAM"),
-    GateCheck("examples/firmware/check.sh PROGRAM"),
+    GateCheck("tests/examples/test-firmware PROGRAM"),
 )
 
 

@@ -6,7 +6,7 @@ from replaycheck.assembly import assemble
 from replaycheck.guest_files import ENTRY, elf
 
 FORMATS = ("json", "sarif", "valgrind-xml", "junit", "gcc", "github")
-EXPECTED = (4, 17, 18)  # the cases of kinds.elf whose outputs stand in examples/firmware/expected
+EXPECTED = (4, 17, 18)  # the cases of kinds.elf whose outputs stand in tests/golden/firmware
 ADDR2LINE = ["riscv64-unknown-elf-addr2line"]
 BINUTILS = ["riscv64-unknown-elf-as", "riscv64-unknown-elf-objdump"]
 PACKET = ["packet.elf", "--input", "packet.input"]

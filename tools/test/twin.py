@@ -1,10 +1,10 @@
-"""The twin (bench/twin), a plain interpreter with nothing proved."""
+"""The twin (tests/twin), a plain interpreter with nothing proved."""
 import subprocess
 import sys
 
 from replaycheck.guest_files import TOP
 
-TWIN = TOP / "bench" / "twin"
+TWIN = TOP / "tests" / "twin"
 
 
 def build_twin(tool):

@@ -4,7 +4,7 @@ import pathlib
 import struct
 
 TOP = pathlib.Path(__file__).resolve().parents[3]
-DATA = TOP / "examples" / "sessions"
+DATA = TOP / "tests" / "golden" / "sessions"
 ENTRY = 0x10000
 
 

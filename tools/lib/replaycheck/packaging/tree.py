@@ -26,7 +26,7 @@ LIBRARY = f"{HOME}/tools/lib/replaycheck"
 PYTHON = "lib/python3/dist-packages/replaycheck"  # where Debian's Python looks for modules
 LEFT_OUT = r"README|build-times|prove$|replaycheck/(packaging/|paging/(?!made\.py))"
 SHIPPED = re.compile(rf"replaycheck$|tools/(bin|lib)/(?!{LEFT_OUT})|tools/bin/README\.md$")
-EXAMPLE = re.compile(r"examples/(?!README|guests/|sessions/|changes/|runners/expected/|firmware/(expected/|check\.sh|\.gitignore))")
+EXAMPLE = re.compile(r"examples/(?!README|firmware/\.gitignore)")
 
 # The package's own list of changes, in Debian's form.
 ENTRY = """\
