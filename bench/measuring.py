@@ -1,10 +1,10 @@
-"""What the scripts that measure have in common. Importing it makes the modules of tools/lib and tools/test known."""
+"""What the scripts that measure have in common. Importing it makes the modules of the tools and of the tests known."""
 import os
 import subprocess
 import sys
 
-for folder in ("lib", "test"):
-    sys.path.insert(0, os.path.realpath(f"{__file__}/../../tools/{folder}"))
+for folder in ("tests/program", "tests/page", "tests/support", "tools/lib"):
+    sys.path.insert(0, os.path.realpath(f"{__file__}/../../{folder}"))
 
 from replaycheck.assembly import ECALL, addi, branch, load, load_number, of_registers  # noqa: E402
 from replaycheck.guest_files import ENTRY, elf  # noqa: E402

@@ -1,4 +1,4 @@
-"""What man pages have that no page of help has: examples, files, and which page to read next. tools/test/test-man runs each example."""
+"""What man pages have that no page of help has: examples, files, and which page to read next. tests/package/test-man runs each example."""
 from typing import NamedTuple
 
 

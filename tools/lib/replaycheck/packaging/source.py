@@ -60,7 +60,7 @@ def passed(commit):
     """The program that the gate has passed at a commit."""
     said = PASSED.read_text().split() if PASSED.exists() else []
     if said[:1] != [commit]:
-        raise Fault("tools/test/gate has not passed this commit in this checkout")
+        raise Fault("tests/gate has not passed this commit in this checkout")
     if not PROGRAM.exists() or said[1:] != [hashlib.sha256(PROGRAM.read_bytes()).hexdigest()]:
         raise Fault("the program isn't the one that the gate has passed")
     return PROGRAM
