@@ -3,11 +3,11 @@ import os
 import subprocess
 import sys
 
-for folder in ("tests/program", "tests/page", "tests/support", "tools/lib"):
+for folder in ("tests/program", "tests/page", "tests/support", "build", "cli/python"):
     sys.path.insert(0, os.path.realpath(f"{__file__}/../../{folder}"))
 
-from replaycheck.assembly import ECALL, addi, branch, load, load_number, of_registers  # noqa: E402
-from replaycheck.guest_files import ENTRY, elf  # noqa: E402
+from guest_files import ENTRY, elf  # noqa: E402
+from replaycheck.guest.assembly import ECALL, addi, branch, load, load_number, of_registers  # noqa: E402
 
 READ = 63
 T0, S1, A0, A1, A2, A7 = 5, 9, 10, 11, 12, 17

@@ -15,8 +15,8 @@ import threading
 import time
 from collections.abc import Iterator
 
-sys.path[:0] = (os.path.realpath(f"{__file__}/../../{it}") for it in ("tests/support", "tools/lib"))
-from replaycheck.guest_files import TOP  # noqa: E402
+sys.path[:0] = (os.path.realpath(f"{__file__}/../../{it}") for it in ("tests/support", "build", "cli/python"))
+from checkout import TOP  # noqa: E402
 
 OUT = TOP / "out" / "lanes"
 COUNT = re.compile(r"(\d+) passed, (\d+) failed")

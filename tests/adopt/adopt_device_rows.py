@@ -7,8 +7,8 @@ import time
 from adopt_host_rows import HERE, LEAVES_BY, QEMU, TEXTS, executed, handler_faults, without_numbers
 from adopt_rows import AT, EXIT, GCC, firmware, lacking, listed, status, unlisted
 from board_files import OBJECT, READ_RUN, board, function, segment
+from checkout import TOP
 from replaycheck.adopting.device_handler import NO_SUCH, code_of, text_of
-from replaycheck.guest_files import TOP
 
 NO_MEMORY = "where no memory is"
 POLLS = "main: lui a5, 0x10013; lw a4, 4(a5); beq a4, zero, .-4; sw a0, 0(a5); jalr zero, 0(ra)\n"

@@ -5,7 +5,7 @@ import subprocess
 from adopt_host_rows import CALL, TEXTS, executed
 from adopt_rows import AT, EXIT, GCC, RAM, code, lacking, listed, status, unlisted
 from board_files import NO_TYPE, READ_RUN, board, function, segment, words
-from replaycheck.guest_files import TOP
+from checkout import TOP
 
 FIRMWARE = TOP / "examples" / "firmware"
 SETS = ("rv32imc", "rv32imac")

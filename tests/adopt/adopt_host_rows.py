@@ -8,8 +8,8 @@ import struct
 
 from adopt_rows import AT, GCC, code, firmware, lacking, listed, status, unlisted
 from board_files import OBJECT, READ_RUN, board, function, segment, words
+from checkout import TOP
 from replaycheck.adopting.host_handler import code_of, text_of
-from replaycheck.guest_files import TOP
 
 SEQUENCE = [0x01F01013, 0x00100073, 0x40705013]
 CALL = f".word {', '.join(map(hex, SEQUENCE))}"
@@ -49,7 +49,7 @@ BY_PICOLIBC = {"hosted": (b"0 arguments:\n0 lines\n", 7),
 
 def executed(rows, path, *arguments, given=INPUT, options=("-q",)):
     """What a program prints by `exec`, what its log is, and its status."""
-    done = subprocess.run([TOP / "tools/lib/exec", *options, path, *arguments], input=given, capture_output=True,
+    done = subprocess.run([TOP / "cli/libexec/exec", *options, path, *arguments], input=given, capture_output=True,
                           env={**os.environ, "REPLAYCHECK": rows.program})
     return done.stdout, done.stderr.decode(errors="replace"), done.returncode
 
@@ -247,10 +247,10 @@ def trace_rows(rows):
     log = without_numbers(executed(rows, out)[1])
     wanted = ["uninitialised byte(s)\n   at : __semihosting (in ", "\n   by : " + "\n   by : ".join(frames)]
     rows.row("exec has the line of the call", lacking(log, wanted))
-    lines = subprocess.run([TOP / "tools/bin/replaycheck-lines", out], input=report, capture_output=True, text=True).stdout
+    lines = subprocess.run([TOP / "cli/bin/replaycheck-lines", out], input=report, capture_output=True, text=True).stdout
     lines = re.sub("0x[0-9a-f]{8}: ", "", lines)
     rows.row("lines has it", lacking(lines, ["\n   by " + "\n   by ".join(frames)]))
-    formed = subprocess.run([TOP / "tools/lib/run", "--format", "gcc", out], capture_output=True, text=True,
+    formed = subprocess.run([TOP / "cli/libexec/run", "--format", "gcc", out], capture_output=True, text=True,
                             env={**os.environ, "REPLAYCHECK": rows.program}).stdout
     rows.row("a format has it", lacking(formed, ["host_call.h:6: "]))
 

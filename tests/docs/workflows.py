@@ -5,7 +5,7 @@ import subprocess
 import textwrap
 from collections.abc import Iterator
 
-from replaycheck.guest_files import TOP
+from checkout import TOP
 
 CHAPTER = TOP / "docs" / "manual" / "ci.md"
 YAML = re.compile(r"^```yaml\n((?:.*\n)*?)```$", re.M)

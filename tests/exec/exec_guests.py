@@ -1,8 +1,8 @@
 """Small programs for `test-exec`, each of which ends in its own way."""
 import pathlib
 
-from replaycheck.assembly import assemble
-from replaycheck.guest_files import ENTRY, elf
+from guest_files import ENTRY, elf
+from replaycheck.guest.assembly import assemble
 from tool_rows import placed_file
 
 # Code comes first, and from here on there is data.

@@ -9,12 +9,12 @@ import signal
 import subprocess
 import sys
 
+from checkout import TOP
 from coverage_cases import BINUTILS, GCC, START, frames, looked, records, rows_of_lines, words_of
 from explore_room import EXAMPLES, EXPLORE
 from explore_signals import ended_by
-from replaycheck.guest_files import TOP
 
-COVERAGE = str(TOP / "tools/bin/replaycheck-coverage")
+COVERAGE = str(TOP / "cli/bin/replaycheck-coverage")
 STATION = ["station.elf", "--input=station.input"]
 STEP = 1600
 BOOT = ["boot.elf", "--input=boot.input", f"--step={STEP}"]
@@ -45,7 +45,7 @@ int main(const unsigned char *given, int count)
 """
 # The tool with other bounds: of the lines of a session, and of those that wait.
 BOUNDED = f"""import runpy, sys
-sys.path.insert(0, {str(TOP / "tools/lib")!r})
+sys.path.insert(0, {str(TOP / "cli/python")!r})
 from replaycheck.exploring import executed
 executed.MOST_LINES, executed.MOST_WAITING = map(int, sys.argv[1:3])
 sys.argv = [{EXPLORE!r}, *sys.argv[3:]]

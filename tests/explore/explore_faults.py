@@ -6,10 +6,10 @@ import shutil
 from explore_cases import changed
 from explore_pictures import test_swept_steps
 from explore_room import EXAMPLES
-from replaycheck.assembly import assemble
+from guest_files import elf
 from replaycheck.disassembly import PROGRAMS
 from replaycheck.exploring.steps import MODELS
-from replaycheck.guest_files import elf
+from replaycheck.guest.assembly import assemble
 from replaycheck.programs import ISAS, USUAL
 
 BOOT = ["boot.elf", "--input=boot.input"]

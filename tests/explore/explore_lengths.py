@@ -12,9 +12,9 @@ import stat
 import sys
 
 sys.dont_write_bytecode = True
-sys.path[:0] = (os.path.realpath(f"{__file__}/../../../{it}") for it in ("tests/support", "tools/lib"))
+sys.path[:0] = (os.path.realpath(f"{__file__}/../../../{it}") for it in ("tests/support", "build", "cli/python"))
 from explore_cases import ERROR, SUM, changed  # noqa: E402
-from replaycheck.guest_files import ENTRY, elf  # noqa: E402
+from guest_files import ENTRY, elf  # noqa: E402
 
 ISA = "--isa=rv32imc"
 C_NOP, NOP = 0x0001, 0x00000013

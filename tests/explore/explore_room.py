@@ -6,11 +6,12 @@ import shlex
 import shutil
 import subprocess
 
-from replaycheck.guest_files import ENTRY, TOP, elf
+from checkout import TOP
+from guest_files import ENTRY, elf
 from rows import without_progress
 from tool_rows import HALF, atomic_file
 
-EXPLORE = str(TOP / "tools/bin/replaycheck-explore")
+EXPLORE = str(TOP / "cli/bin/replaycheck-explore")
 EXAMPLES = TOP / "examples"
 MOST_SECONDS = 120
 PACKET = ["packet.elf", "--input=packet.input", "--values=flips", "--step=4096"]

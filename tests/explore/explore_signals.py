@@ -12,9 +12,9 @@ import sys
 import time
 from unittest import mock
 
+from checkout import TOP
 from explore_room import EXPLORE, MOST_SECONDS, PACKET
 from replaycheck.exploring import progress
-from replaycheck.guest_files import TOP
 from rows import SIGNALS, default_signals
 
 SIGNALLED = str(TOP / "tests/support/signalled.py")
@@ -101,7 +101,7 @@ def test_signals(tests):
 
 # The tool that says how far it is after each interval of some seconds.
 HASTY = f"""import runpy, sys
-sys.path.insert(0, {str(TOP / "tools/lib")!r})
+sys.path.insert(0, {str(TOP / "cli/python")!r})
 from replaycheck.exploring import progress
 progress.INTERVAL = float(sys.argv[1])
 sys.argv = [{EXPLORE!r}, *sys.argv[2:]]

@@ -2,8 +2,8 @@
 import shlex
 import shutil
 
-from replaycheck.assembly import assemble
-from replaycheck.guest_files import ENTRY, elf
+from guest_files import ENTRY, elf
+from replaycheck.guest.assembly import assemble
 
 LIMIT, USUAL, LEAST = 4194304, 1048576, 10000
 WORDS = f"--words=0x{ENTRY:x}..0x{ENTRY + 16:x}"

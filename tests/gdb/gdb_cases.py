@@ -7,9 +7,9 @@ import json
 from dataclasses import dataclass, field
 from typing import List, Tuple
 
+from guest_files import ENTRY
 from random_programs import DATA
-from replaycheck.assembly import assemble
-from replaycheck.guest_files import ENTRY
+from replaycheck.guest.assembly import assemble
 
 UNIT = "*(char *) 0x7fffffc7"
 TO_SHOW = ["break show", "continue"]

@@ -11,7 +11,7 @@ from typing import Any
 
 import lanes
 from lanes import GATE, TOP, GateCheck
-from replaycheck.packaging.source import PROGRAM
+from packaging.source import PROGRAM
 from rows import SIGNALS, Rows
 
 LISTED = str(PROGRAM.relative_to(TOP))
@@ -97,7 +97,7 @@ class Room:
         self.rt = self.room / "bin" / "rt"
         for path in ("tests/gate", "tests/lanes.py", "tests/support/proving.py"):
             self.copied(path)
-        for path in (TOP / "tools/lib/replaycheck").glob("**/*.py"):
+        for path in (*(TOP / "cli/python/replaycheck").glob("**/*.py"), *(TOP / "build").glob("**/*.py")):
             self.copied(str(path.relative_to(TOP)))
         for path in {self.rt, *(self.top / path_of(it) for it in GATE)}:
             path.parent.mkdir(parents=True, exist_ok=True)

@@ -6,8 +6,9 @@ import subprocess
 import sys
 
 sys.dont_write_bytecode = True
-sys.path[:0] = (os.path.realpath(f"{__file__}/../../../{it}") for it in ("tests/support", "tools/lib"))
-from replaycheck.guest_files import TOP, answered  # noqa: E402
+sys.path[:0] = (os.path.realpath(f"{__file__}/../../../{it}") for it in ("tests/support", "build", "cli/python"))
+from checkout import TOP  # noqa: E402
+from guest_files import answered  # noqa: E402
 
 EXAMPLES = {it["name"]: it for it in json.loads((TOP / "page" / "examples.json").read_text())}
 ALTERING = {"set", "write", "flip", "skip"}

@@ -8,10 +8,10 @@ import tempfile
 
 from board_files import READ_RUN, board, function, segment
 from page_bench import expect, same
-from replaycheck.adopting.elf import Elf
 from replaycheck.adopting.findings import Findings
 from replaycheck.adopting.regions import fitting
-from replaycheck.regions import USUAL_REGIONS, Regions
+from replaycheck.guest.elf import Elf
+from replaycheck.guest.regions import USUAL_REGIONS, Regions
 
 PLACE, NAME = 0x10000, "board.elf"
 # Regions that are chosen before such a file is opened.

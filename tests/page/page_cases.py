@@ -6,7 +6,8 @@ import tempfile
 
 from page_bench import EXAMPLES, SWEPT, expect, same, words_of
 import page_modules
-from replaycheck.guest_files import DATA, TOP, Worked
+from guest_files import DATA, Worked
+from checkout import TOP
 
 STATION = words_of("station")
 SUPPRESSED = "Cond fun:show fun:main fun:_start"

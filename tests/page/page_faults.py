@@ -7,8 +7,9 @@ import subprocess
 import tempfile
 import time
 
+from checkout import TOP
+from guest_files import elf
 from page_bench import EXAMPLES, SWEPT, Wrong, expect, same, words_of
-from replaycheck.guest_files import TOP, elf
 
 STATION = words_of("station")
 LARGEST_MODULE = 1_500_000  # bytes

@@ -4,10 +4,10 @@ import json
 import math
 import subprocess
 
+from guest_files import elf
 from page_bench import SWEPT, expect, same, sweep_flips, table_in, words_of
-from replaycheck.assembly import assemble
 from replaycheck.exploring.outcomes import BADNESS, Outcome
-from replaycheck.guest_files import elf
+from replaycheck.guest.assembly import assemble
 
 STATION, PACKET = words_of("station"), words_of("packet")
 COUNTED = "document.getElementById('counted').textContent"

@@ -8,7 +8,7 @@ import firefox
 from page_bench import EXAMPLES, SWEPT, expect, same, words_of
 from page_firsts import broken
 from page_pictures import place_of
-from replaycheck.guest_files import TOP
+from checkout import TOP
 
 STATION = words_of("station")
 CONTROL = 2  # of a key that is pressed

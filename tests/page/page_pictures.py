@@ -5,8 +5,8 @@ import re
 import struct
 import tempfile
 
+from checkout import TOP
 from page_bench import SWEPT, expect, same, words_of
-from replaycheck.guest_files import TOP
 
 STATION = words_of("station")
 

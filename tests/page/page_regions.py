@@ -1,11 +1,12 @@
 """The cases of test-page about where heap and stack are: chosen, undone, kept and sent, and runs with others beside the program's."""
 import json
 
+from checkout import TOP
+from guest_files import elf
 from page_bench import expect, same, words_of
 from page_hands import STORED
 from page_pictures import swept
 from page_state import Program, same_panes
-from replaycheck.guest_files import TOP, elf
 
 SOME = {"heap": "0x90000000", "stack": "0x3fc81000..0x3fca0000"}
 OPTIONS = ["--heap-region", SOME["heap"], "--stack-region", SOME["stack"]]

@@ -7,7 +7,7 @@ import page_modules
 from page_bench import expect, same, words_of
 from page_looks import CONTRASTS
 from page_variables import LOST, facts_of, in_node
-from replaycheck.guest_files import TOP
+from checkout import TOP
 
 FIRMWARE = TOP / "examples/firmware"
 STATION = words_of("station")

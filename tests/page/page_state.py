@@ -8,9 +8,9 @@ import tempfile
 import firefox
 from page_bench import expect, same, words_of
 from page_hands import touch
-from replaycheck.adopting.elf import Elf
-from replaycheck.assembly import assemble
-from replaycheck.guest_files import ENTRY, elf
+from replaycheck.guest.elf import Elf
+from replaycheck.guest.assembly import assemble
+from guest_files import ENTRY, elf
 
 STATION = words_of("station")
 STEPS = 40  # of each program

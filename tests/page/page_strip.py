@@ -8,11 +8,11 @@ import struct
 import subprocess
 import tempfile
 
+from guest_files import ENTRY, elf
 from page_bench import expect, same, words_of
 from page_firsts import contrast_of
 from page_hands import touch
-from replaycheck.assembly import assemble
-from replaycheck.guest_files import ENTRY, elf
+from replaycheck.guest.assembly import assemble
 
 DONE = ("replaycheck.strip.runs.length === {} && !replaycheck.strip.next && replaycheck.strip.runs.every((it) => it.isDone)"
         " && !replaycheck.strip.isStale")

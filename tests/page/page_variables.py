@@ -12,7 +12,7 @@ import tempfile
 import gdb_values
 import page_modules
 from page_bench import Wrong, expect, same, words_of
-from replaycheck.guest_files import TOP
+from checkout import TOP
 
 FIRMWARE, OWN = TOP / "examples/firmware", pathlib.Path(__file__).resolve().parent
 GCC, GDB = "riscv64-unknown-elf-gcc", "gdb-multiarch"
@@ -134,7 +134,7 @@ def in_gdb(folder, program, words, asked):
     files["ASKED"].write_text(json.dumps(asked))
     script = folder / "asks.py"
     script.write_text("".join(f"{name} = {str(path)!r}\n" for name, path in files.items()) + GDB_SCRIPT)
-    tool = [str(TOP / "tools/bin/replaycheck-gdb"), *map(str, words)]
+    tool = [str(TOP / "cli/bin/replaycheck-gdb"), *map(str, words)]
     typed = [*GDB_SETTINGS, f"target remote | {' '.join(tool)}", f"source {script}"]
     ran = subprocess.run([GDB, "-nx", "-batch", *(word for line in typed for word in ("-ex", line)), words[0]], capture_output=True,
                          text=True, env={**os.environ, "REPLAYCHECK": str(program)})

@@ -1,10 +1,11 @@
 """The cases that tests/program/try-hostile tries, a generator for each class."""
 import struct
 
-from replaycheck.assembly import CONTROLS, EBREAK, ECALL, FIRST_CONSTANT, addi, control, jump, load_number
-from replaycheck.guest_files import ENTRY, TOP, elf
+from checkout import TOP
+from guest_files import ENTRY, elf
+from replaycheck.guest.assembly import CONTROLS, EBREAK, ECALL, FIRST_CONSTANT, addi, control, jump, load_number
+from replaycheck.guest.regions import USUAL_REGIONS, Regions
 from replaycheck.programs import SHORT, USUAL, isa_words
-from replaycheck.regions import USUAL_REGIONS, Regions
 
 LONGEST, MILLION = 4194304, 1048576
 NUMBERS = [0, 1, 0x7FFFFFFF, 0x80000000, 0xFFFFFFFF]

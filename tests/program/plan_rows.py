@@ -2,7 +2,7 @@
 import dataclasses
 import random
 
-from replaycheck.guest_files import TOP
+from checkout import TOP
 
 FIRMWARE = TOP / "examples/firmware"
 EDGES = (0, 1, 127, 128, 255)

@@ -4,8 +4,8 @@ from __future__ import annotations
 from typing import Callable
 
 import replaycheck
-from replaycheck.assembly import assemble
-from replaycheck.guest_files import elf
+from replaycheck.guest.assembly import assemble
+from guest_files import elf
 from rows import Rows
 
 # It uses nothing that is uninitialised, and goes on for long enough.

@@ -5,7 +5,7 @@ import random
 from typing import Callable
 
 import replaycheck
-from replaycheck.guest_files import ENTRY, elf
+from guest_files import ENTRY, elf
 from replaycheck.scripting.scenarios import Scenario
 from rows import Rows
 from tool_rows import COUNTED, KEPT, atomic_file, placed_file

@@ -1,7 +1,7 @@
 """Rows of test-adopt: files that meet the regions of heap and stack, and those whose start file has a stack of its own."""
 from adopt_rows import EXIT, code, lacking, status
 from board_files import NO_TYPE, OBJECT, READ_RUN, board, function, segment
-from replaycheck.assembly import assemble
+from replaycheck.guest.assembly import assemble
 
 FLASH, MEMORY, TOP = 0x42000000, 0x3FC80000, 0x3FCA0000
 START = f"lui sp, 0x3fca0; addi sp, sp, -16; lw a0, 0(sp); beq a0, zero, .+8; nop; li a0, 0; {EXIT}"

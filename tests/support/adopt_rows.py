@@ -4,10 +4,10 @@ import subprocess
 import tempfile
 
 from board_files import READ_RUN, board, function, segment, words
-from replaycheck.assembly import assemble
-from replaycheck.guest_files import TOP
+from checkout import TOP
+from replaycheck.guest.assembly import assemble
 
-ADOPT = str(TOP / "tools/bin/replaycheck-adopt")
+ADOPT = str(TOP / "cli/bin/replaycheck-adopt")
 AT = 0x10000
 EXIT = "li a7, 93; ecall"
 GCC = "riscv64-unknown-elf-gcc"

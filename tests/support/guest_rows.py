@@ -3,8 +3,9 @@ import os
 import re
 import subprocess
 
-from replaycheck.assembly import assemble, number_of
-from replaycheck.guest_files import ENTRY, TOP, answered, elf
+from checkout import TOP
+from guest_files import ENTRY, answered, elf
+from replaycheck.guest.assembly import assemble, number_of
 from replaycheck.programs import USUAL, isa_words
 from replaycheck.reports import LEAK_KINDS
 

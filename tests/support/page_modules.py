@@ -7,7 +7,7 @@ import subprocess
 import tempfile
 from typing import Any
 
-from replaycheck.paging.folder import modules_of
+from paging.folder import modules_of
 
 NODE = "node"
 

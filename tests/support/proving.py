@@ -12,7 +12,7 @@ import tempfile
 import threading
 import time
 
-from replaycheck.guest_files import TOP
+from checkout import TOP
 
 OUT = TOP / "out"
 # Bears the time at which the last `rt ci` of the gate began that passed.

@@ -9,10 +9,10 @@ import random
 import struct
 
 from halves import Insn, by_text, disassembled
-from replaycheck.assembly import (CONTROL_IMMEDIATES, CONTROL_NUMBERS, CONTROLS, ECALL, FENCE_I, FIRST_CONSTANT, LOAD_RESERVED, LOADS,
+from replaycheck.guest.assembly import (CONTROL_IMMEDIATES, CONTROL_NUMBERS, CONTROLS, ECALL, FENCE_I, FIRST_CONSTANT, LOAD_RESERVED, LOADS,
                                   STORE_CONDITIONAL, STORES, UPDATES, WFI, addi, atomic, branch, control, jump, load, load_number,
                                   of_immediate, of_registers, store)
-from replaycheck.guest_files import ENTRY
+from guest_files import ENTRY
 
 CODE = 0x8000
 DATA = ENTRY + CODE

@@ -2,12 +2,12 @@
 import random
 from typing import NamedTuple
 
-from replaycheck.assembly import (CONTROL_IMMEDIATES, CONTROL_NUMBERS, CONTROLS, EBREAK, ECALL, FENCE, FENCE_I, FIRST_CONSTANT,
+from replaycheck.guest.assembly import (CONTROL_IMMEDIATES, CONTROL_NUMBERS, CONTROLS, EBREAK, ECALL, FENCE, FENCE_I, FIRST_CONSTANT,
                                   LOAD_RESERVED, LOADS, STORE_CONDITIONAL, STORES, UPDATES, WFI, addi, atomic, branch, control, jump, load,
                                   load_number, of_immediate, of_registers, store)
-from replaycheck.guest_files import ENTRY
+from guest_files import ENTRY
+from replaycheck.guest.regions import HEAP_STEP, LEAST_STACK, STACK_STEP, USUAL_REGIONS, Regions
 from replaycheck.programs import ATOMIC, USUAL
-from replaycheck.regions import HEAP_STEP, LEAST_STACK, STACK_STEP, USUAL_REGIONS, Regions
 
 MEMORY, DATA = 0x10000, 0x8000
 SP, KEPT, A0, A7, SCRATCH = 2, 8, 10, 17, 31  # x8 is where the data lies

@@ -12,7 +12,7 @@ import signal
 import sys
 
 sys.dont_write_bytecode = True
-sys.path.insert(0, str(pathlib.Path(__file__).resolve().parents[2] / "tools" / "lib"))
+sys.path.insert(0, str(pathlib.Path(__file__).resolve().parents[2] / "cli" / "python"))
 
 
 class Signals:

@@ -2,7 +2,7 @@
 import subprocess
 from collections.abc import Iterator
 
-from replaycheck.guest_files import TOP
+from checkout import TOP
 
 
 def sources(*places: str) -> Iterator[tuple[str, str]]:

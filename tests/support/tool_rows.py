@@ -2,8 +2,8 @@
 from dataclasses import dataclass, field
 from typing import Dict, List, Optional
 
-from replaycheck.assembly import assemble
-from replaycheck.guest_files import ENTRY, elf
+from guest_files import ENTRY, elf
+from replaycheck.guest.assembly import assemble
 
 FORMATS = ("json", "sarif", "valgrind-xml", "junit", "gcc", "github")
 EXPECTED = (4, 17, 18)  # the cases of kinds.elf whose outputs stand in tests/golden/firmware

@@ -2,7 +2,7 @@
 import subprocess
 import sys
 
-from replaycheck.guest_files import TOP
+from checkout import TOP
 
 TWIN = TOP / "tests" / "twin"
 

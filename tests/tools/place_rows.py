@@ -6,8 +6,8 @@ import shutil
 import subprocess
 
 from adopt_rows import GCC
-from replaycheck.adopting.elf import Elf
-from replaycheck.guest_files import TOP
+from checkout import TOP
+from replaycheck.guest.elf import Elf
 from replaycheck.line_table import LineTable
 from replaycheck.places import Paths, Places
 
