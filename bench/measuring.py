@@ -1,13 +1,13 @@
-"""What the scripts that measure have in common. Importing it makes the modules of tools/lib and tools/test known."""
+"""What the scripts that measure have in common. Importing it makes the modules of the tools and of the tests known."""
 import os
 import subprocess
 import sys
 
-for folder in ("lib", "test"):
-    sys.path.insert(0, os.path.realpath(f"{__file__}/../../tools/{folder}"))
+for folder in ("tests/program", "tests/page", "tests/support", "build", "cli/python"):
+    sys.path.insert(0, os.path.realpath(f"{__file__}/../../{folder}"))
 
-from replaycheck.assembly import ECALL, addi, branch, load, load_number, of_registers  # noqa: E402
-from replaycheck.guest_files import ENTRY, elf  # noqa: E402
+from guest_files import ENTRY, elf  # noqa: E402
+from replaycheck.guest.assembly import ECALL, addi, branch, load, load_number, of_registers  # noqa: E402
 
 READ = 63
 T0, S1, A0, A1, A2, A7 = 5, 9, 10, 11, 12, 17

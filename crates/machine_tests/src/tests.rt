@@ -1,5 +1,5 @@
 //! The public calls of the machine, once each with ample memory, and a few short programs. Other behaviour of programs is tested from
-//! outside (`tools/test/test-guests`).
+//! outside (`tests/program/test-guests`).
 use crate::trials::{COUNT, NO_STREAMS, Row, Trial, are_hooks, assert_so, assert_so_for, is_count};
 use guest_elf::Isa;
 use guest_machine::{Input, Status, Stop};

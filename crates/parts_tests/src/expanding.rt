@@ -123,7 +123,7 @@ const NO_HALVES: [u16; 21] = [
     0x9C61, 0x2000, 0x6000, 0xA000, 0xE000, 0x2002, 0x6002, 0x0003, 0xFFFF,
 ];
 
-/// What `tools/test/test-halves` folds from binutils' disassembly of all halves.
+/// What `tests/instructions/test-halves` folds from binutils' disassembly of all halves.
 const ALL_HALVES: u32 = 0x1DCF_C360;
 
 /// Returns whether a row's half stands for its other fields.

@@ -1,4 +1,4 @@
-//! Files by hand, and their images. `tools/test/test-files` tests with which number a cut or changed file is rejected.
+//! Files by hand, and their images. `tests/program/test-files` tests with which number a cut or changed file is rejected.
 use crate::{comes, holds};
 use byteorder::{ByteOrder, LittleEndian};
 use guest_elf::{Isa, Profile, Segment, StreamLimits, read, read_for};

@@ -1,0 +1,1 @@
+"""What builds the page for a browser."""

@@ -1,0 +1,115 @@
+"""The page as a folder to serve and as one file, from its sources, the program's module and the examples."""
+import base64
+import gzip
+import hashlib
+import json
+import re
+
+from checkout import TOP
+from replaycheck import allocators, file_heaps
+from replaycheck.adopting import heap_names, outside
+from replaycheck.adopting.regions import HEAPS, MOST_STACK, STACK_ENDS
+from replaycheck.endings import Fault
+from replaycheck.exploring import outcomes
+from replaycheck.guest import regions
+from replaycheck.options import LAST_STEP
+from replaycheck.programs import ISAS
+from replaycheck.refusals import WORDS
+from replaycheck.reports import LEAK_KINDS, TEXTS
+
+from .scripts import one_script
+
+SOURCES, EXAMPLES = TOP / "page", TOP / "examples"
+MAIN, WORKER, RESOURCES, ONE_FILE = "main.js", "worker.js", "resources.js", "one-file.js"
+POLICY = re.compile(r'(<meta http-equiv="Content-Security-Policy" content=")[^"]*(">)')
+STYLE = '<link rel="stylesheet" href="page.css">'
+SCRIPT = f'<script type="module" src="{MAIN}"></script>'
+# Where the first block of a heap begins, from the region's begin on. Its first byte becomes accessible by the first call for a block.
+BEFORE_BLOCKS = 16
+# Which regions heap and stack may have, and how that is said.
+REGION_RULES = ("HEAP_SIZE", "HEAP_STEP", "LEAST_HEAP", "GREATEST_HEAP", "HEAP_WANTED", "STACK_STEP", "LEAST_STACK", "STACK_WANTED")
+
+
+def constant(name, value):
+    return f"export const {name} = {json.dumps(value, ensure_ascii=True)};\n"
+
+
+def facts(module):
+    """What the page has in common with the tools."""
+    return "".join(constant(name, value) for name, value in (
+        ("LAST_STEP", LAST_STEP), ("ISAS", ISAS), ("REFUSALS", WORDS), ("LEAK_KINDS", LEAK_KINDS),
+        ("ERROR_KINDS", [(pattern.pattern, name) for pattern, name in TEXTS]),
+        ("BADNESS", outcomes.BADNESS), ("FRAMES_TOLD", outcomes.FRAMES_TOLD), ("RUNNING", outcomes.RUNNING),
+        ("HEAP_NAMES", allocators.HEAP), ("OTHER_HEAPS", sorted(heap_names.OTHERS)),
+        *((name, getattr(regions, name)) for name in REGION_RULES),
+        ("USUAL_HEAP", regions.USUAL_REGIONS.heap), ("USUAL_STACK", regions.USUAL_REGIONS.stack),
+        ("HEAPS", HEAPS), ("MOST_STACK", MOST_STACK), ("STACK_ENDS", STACK_ENDS), ("DEVICES", outside.DEVICES),
+        ("HEAP_CHOICES", file_heaps.CHOICES), ("BEFORE_BLOCKS", BEFORE_BLOCKS),
+        ("MODULE_SUM", hashlib.sha256(module).hexdigest())))
+
+
+def encoded(path):
+    return base64.b64encode(path.read_bytes()).decode()
+
+
+def examples():
+    """The examples that the page offers, with their files, and the text of their sources."""
+    made, sources = [], {}
+    for it in json.loads((SOURCES / "examples.json").read_text()):
+        optional = {role: it[role] for role in ("goal", "isa", "sources") if role in it}
+        example = {"name": it["name"], "about": " ".join(it["about"]), **optional}
+        for role in ("program", "input"):
+            if role in it:
+                path = EXAMPLES / it[role]
+                example[role], example[f"{role}Bytes"] = path.name, encoded(path)
+        made.append(example)
+        sources.update((path, (EXAMPLES / path).read_text()) for path in it.get("sources", ()))
+    return constant("EXAMPLES", made) + constant("SOURCES", sources)
+
+
+def modules_of(module):
+    """The modules of the page: those of its folder, and those that are made."""
+    found = {path.name: path.read_text() for path in sorted(SOURCES.glob("*.js"))}
+    return {**found, "facts.js": facts(module), "examples.js": examples()}
+
+
+def write_folder(folder, module):
+    """The folder to serve."""
+    modules = modules_of(module)
+    modules.pop(ONE_FILE)
+    files = {name: text.encode() for name, text in modules.items()}
+    for name in ("index.html", "page.css"):
+        files[name] = (SOURCES / name).read_bytes()
+    files["replaycheck.wasm"] = module
+    folder.mkdir(parents=True, exist_ok=True)
+    for name, content in files.items():
+        (folder / name).write_bytes(content)
+
+
+def source_of(text):
+    """What a policy names an inline text by."""
+    return "'sha256-" + base64.b64encode(hashlib.sha256(text.encode()).digest()).decode() + "'"
+
+
+def replaced(page, old, new):
+    if page.count(old) != 1:
+        raise Fault(f"page/index.html: the line isn't there exactly once: {old}")
+    return page.replace(old, new)
+
+
+def one_file(module):
+    """The page with all in it."""
+    modules = modules_of(module)
+    worker = one_script(WORKER, modules)
+    packed = base64.b64encode(gzip.compress(module, 9, mtime=0)).decode()
+    modules["inlined.js"] = constant("MODULE", packed) + constant("WORKER", worker)
+    modules[RESOURCES] = modules.pop(ONE_FILE)
+    script = one_script(MAIN, modules).replace("</script", "<\\/script").replace("<!--", "<\\!--")
+    style = (SOURCES / "page.css").read_text()
+    policy = (f"default-src 'none'; script-src {source_of(script)} 'wasm-unsafe-eval' blob:; style-src {source_of(style)}; "
+              "worker-src blob:; img-src data:; base-uri 'none'; form-action 'none'")
+    page, count = POLICY.subn(lambda it: it[1] + policy + it[2], (SOURCES / "index.html").read_text())
+    if count != 1:
+        raise Fault("page/index.html: not exactly one policy")
+    page = replaced(page, STYLE, f"<style>{style}</style>")
+    return replaced(page, SCRIPT, f"<script>{script}</script>").encode()

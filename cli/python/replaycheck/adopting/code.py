@@ -1,0 +1,253 @@
+"""Which words of a file are code, as its symbols and its jumps tell, and what of it a run can't do."""
+import bisect
+import collections
+
+from replaycheck import programs
+from replaycheck.guest import instructions as isa
+from replaycheck.guest.code import joined, without
+from replaycheck.guest.elf import HAS_CODE
+from replaycheck.guest.encodings import Instruction, read
+
+Found = collections.namedtuple("Found", "address word")
+# How many words the walk through the start file takes, and the one back from mret.
+FURTHEST, NEAR = 256, 32
+# An instruction, the word that takes its place, and that one's text.
+Replaced = collections.namedtuple("Replaced", "address word new text")
+
+
+class Stretch:
+    """Addresses that may have code, in one piece of the file: the first that is a multiple of 4, or of another unit, the end, where they
+    stand, and which words have been looked at, or which units."""
+
+    def __init__(self, elf, start, end, unit):
+        self.start, self.end = start + -start % unit, end
+        self.place = elf.place(self.start, 0)
+        self.seen = bytearray(max(end - self.start, 0) // unit)
+
+
+class Code:
+    """The words that are code: all of a function whose size is known, but for what a mapping symbol `$d` calls data;
+    and what is reached from the entry, from functions without a size and from mapping symbols `$x`, by each next word,
+    branch and jump. What follows a function of known size isn't reached from it. Closed ranges are never run."""
+
+    unit, least = 4, programs.USUAL
+
+    def __init__(self, elf, closed=()):
+        self.elf = elf
+        sections = joined((it.addr, it.addr + it.size) for it in elf.sections if it.flags & HAS_CODE)
+        closed = joined([*closed, *(without([[0, 1 << 32]], sections) if sections else ())])
+        self.stretches = [Stretch(elf, start, end, self.unit) for it in elf.contents
+                          for start, end in without([[it.vaddr, it.vaddr + it.filesz]], closed)]
+        self.starts = [it.start for it in self.stretches]
+        self.sized = joined((it.value, it.value + it.size) for it in elf.functions if it.size)
+        self.ends = {it.value + it.size for it in elf.functions if it.size}
+        self.control, self.atomic, self.floating, self.compressed, self.unknown = [], [], [], [], []
+
+    def stretch_at(self, address):
+        """The stretch that has the word at an address, or None."""
+        index = bisect.bisect_right(self.starts, address) - 1
+        if index < 0 or address % self.unit or address + self.unit > self.stretches[index].end:
+            return None
+        return self.stretches[index]
+
+    def instruction(self, address):
+        """The instruction at an address that may have code, or None."""
+        stretch = self.stretch_at(address)
+        found = stretch and read(self.elf.data, stretch.place + address - stretch.start, stretch.end - address, self.unit)
+        return Instruction(address, *found) if found else None
+
+    def before(self, address):
+        """The instructions before an address, the nearest first, as far as an address tells where they begin."""
+        return [self.instruction(it) for it in range(address - 4, address - 4 * NEAR, -4)]
+
+    def seen(self):
+        """The instructions that were looked at, and None between those of which one doesn't follow the other."""
+        for stretch in self.stretches:
+            index = 0
+            while (index := stretch.seen.find(1, index)) >= 0:
+                yield None
+                while index < len(stretch.seen) and stretch.seen[index]:
+                    it = self.instruction(stretch.start + self.unit * index)
+                    if it is None:
+                        index += 1
+                        break
+                    yield it
+                    index += it.length // self.unit
+
+    def data(self):
+        """What mapping symbols call data: from each up to the next one or the next function."""
+        marks = {it.value: True for it in self.elf.functions}
+        for symbol in self.elf.symbols:
+            name = self.elf.strings[symbol.name:symbol.name + 2]
+            if name in (b"$d", b"$x"):
+                marks[symbol.value] = name == b"$x"
+        places = sorted(marks)
+        return joined((start, end) for start, end in zip(places, [*places[1:], 1 << 32]) if not marks[start])
+
+    def seeds(self):
+        """Addresses from which code is followed; of a function's words those that weren't reached before."""
+        yield self.elf.entry
+        for start, end in without(self.sized, self.data()):
+            index = max(bisect.bisect_right(self.starts, start) - 1, 0)
+            while index < len(self.starts) and self.starts[index] < end:
+                yield from unseen(self.stretches[index], start, end, self.unit)
+                index += 1
+        yield from (it.value for it in self.elf.functions if not it.size)
+        yield from (it.value for it in self.elf.symbols if self.elf.strings[it.name:it.name + 2] == b"$x")
+
+    def follow(self):
+        """Looks at each word of code once."""
+        for seed in self.seeds():
+            waiting = [seed]
+            while waiting:
+                waiting += self.line(waiting.pop())
+        for found in (self.control, self.atomic, self.floating, self.compressed, self.unknown):
+            found.sort()
+
+    def line(self, address):
+        """Follows code from an address as long as it goes on to the next word, and returns where else it goes."""
+        stretch, elsewhere, before = self.stretch_at(address), [], 0
+        if stretch is None:
+            return elsewhere
+        seen, data, away = stretch.seen, self.elf.data, stretch.place - stretch.start
+        while address + 4 <= stretch.end and not seen[(address - stretch.start) // 4]:
+            seen[(address - stretch.start) // 4] = 1
+            word = int.from_bytes(data[address + away:address + away + 4], "little")
+            if not isa.is_of_rv32im(word) and not self.is_instruction(address, word):
+                return elsewhere
+            if isa.may_jump(word):
+                elsewhere += targets(address, before, word)
+            address, before = address + 4, word
+            if isa.ends(word) or address in self.ends:
+                return elsewhere
+        return elsewhere
+
+    def is_instruction(self, address, word):
+        """Notes a word that isn't RV32IM's. Is it an instruction at all?"""
+        found = Found(address, word)
+        if word in (0, isa.UNIMP):
+            return False
+        if isa.control(word):
+            self.control.append(found)
+        elif isa.opcode(word) == isa.ATOMIC:
+            self.atomic.append(found)
+        elif isa.opcode(word) in isa.FLOAT:
+            self.floating.append(found)
+        else:
+            (self.compressed if isa.is_compressed(word) else self.unknown).append(found)
+            return False
+        return True
+
+    def returns(self):
+        """Those of the instructions for control registers and the like that no instruction set of the program has."""
+        return [it for it in self.control if not isa.is_control(it.word)]
+
+    def least_set(self):
+        """The least of the program's instruction sets that has all that was found, but for what is cured, and for returns from traps and
+        the like, which no run here reaches by a trap; None if none has."""
+        if self.floating or self.compressed or self.unknown or not all(isa.is_atomic(it.word) for it in self.atomic):
+            return None
+        return programs.ATOMIC if self.atomic else self.least
+
+
+class CodeOfHalves(Code):
+    """The same of a file that has instructions of 16 bits too. `compressed` has those that stand for none of RV32IM."""
+
+    unit, least = 2, programs.SHORT
+
+    def before(self, address):
+        """Instructions have no one length: they are counted from the begin of the function, if there is one."""
+        symbol, found = self.elf.function_places.before(address), []
+        at = symbol.value if symbol else address
+        while at < address and (it := self.instruction(at)):
+            found.append(it)
+            at = it.next
+        return found[:-NEAR:-1] if at == address else []
+
+    def line(self, address):
+        stretch, elsewhere, before = self.stretch_at(address), [], 0
+        if stretch is None:
+            return elsewhere
+        while address + 2 <= stretch.end and not stretch.seen[(address - stretch.start) // 2]:
+            found = read(self.elf.data, stretch.place + address - stretch.start, stretch.end - address, 2)
+            if found is None:
+                return elsewhere
+            length, word = found
+            stretch.seen[(address - stretch.start) // 2] = 1
+            stretch.seen[(address - stretch.start + length) // 2 - 1] = 1
+            if not isa.is_of_rv32im(word) and not self.is_instruction(address, word):
+                return elsewhere
+            if isa.may_jump(word):
+                elsewhere += targets(address, before, word)
+            address, before = address + length, word
+            if isa.ends(word) or address in self.ends:
+                return elsewhere
+        return elsewhere
+
+
+def unseen(stretch, start, end, unit):
+    """The words of a stretch from start to end, or the units, that haven't been looked at when it is their turn."""
+    index, last = max(start + unit - 1 - stretch.start, 0) // unit, (end - stretch.start) // unit
+    while 0 <= (index := stretch.seen.find(0, index, last)):
+        yield stretch.start + unit * index
+        index += 1
+
+
+def targets(address, before, word):
+    """Where an instruction goes beside the next word, as far as it and the one before it tell."""
+    code = isa.opcode(word)
+    if code in (isa.JAL, isa.BRANCH):
+        return [address + isa.distance(word) & 0xFFFFFFFF]
+    if code == isa.JALR and isa.opcode(before) in (isa.AUIPC, isa.LUI) and isa.rd(before) == isa.rs1(word):
+        base = isa.upper(before) + (address - 4 if isa.opcode(before) == isa.AUIPC else 0)
+        return [base + isa.immediate(word) & 0xFFFFFFFE]
+    return []
+
+
+def stack_words(code, entry):
+    """The instructions of the start file that give the stack pointer another place, up to the first call: a run has a stack,
+    so each can be left out. What moves the pointer from where it is, `addi sp,sp,-16` or `andi sp,sp,-16`, stays."""
+    found, address, walked = [], entry, set()
+    before = 0
+    while address not in walked and len(walked) < FURTHEST:
+        walked.add(address)
+        it = code.instruction(address)
+        if it is None or isa.opcode(it.word) == isa.JALR or isa.opcode(it.word) == isa.JAL and isa.rd(it.word) != isa.ZERO:
+            break
+        if places_stack(it.word, before, bool(found)):
+            found.append(it)
+        before = it.word
+        address += isa.distance(it.word) if isa.opcode(it.word) == isa.JAL else it.length
+    return found
+
+
+def places_stack(word, before, has_placed):
+    """Whether a word gives the stack pointer a place, after the word before it and after others that have."""
+    code = isa.opcode(word)
+    if isa.written(word) != isa.SP or not isa.is_of_rv32im(word):
+        return False
+    if code == isa.IMMEDIATE and isa.rs1(word) == isa.SP:
+        return isa.rd(before) == isa.SP and isa.opcode(before) in (isa.AUIPC, isa.LUI)
+    of_itself = code == isa.REGISTERS and isa.SP in (isa.rs1(word), word >> 20 & 31)
+    return has_placed or not of_itself
+
+
+def replaced(code, found):
+    """What takes the place of an instruction for control registers and the like: mret jumps by the register that was
+    written for it, where that can be told; the others do nothing."""
+    source = return_register(code, found.address) if isa.control(found.word) == "mret" else None
+    if source is None:
+        return Replaced(*found, *isa.harmless(found.word))
+    return Replaced(*found, isa.jump_register(source), f"jr {isa.NAMES[source]}")
+
+
+def return_register(code, address):
+    """The register whose value mret jumps to and which still has it, if no jump or call stands before; else None."""
+    changed = set()
+    for it in code.before(address):
+        if it is None or isa.may_jump(it.word) or it.word in (isa.ECALL, isa.EBREAK):
+            return None
+        if isa.sets_return(it.word):
+            return isa.rs1(it.word) if isa.rs1(it.word) not in changed else None
+        changed.add(isa.written(it.word))
+    return None

@@ -1,0 +1,98 @@
+"""Loads and stores at addresses that the code itself has and where no memory is: registers of devices, as a rule."""
+import bisect
+import collections
+
+from replaycheck.guest import instructions as isa
+from replaycheck.guest.code import joined
+from replaycheck.stand_ins import ACCESSES
+
+# What a device is called, by its first address and by how many it has.
+DEVICES = [(0x100000, 0x1000, "the test device of QEMU's virt"), (0x2000000, 0x10000, "a clock, the CLINT"),
+           (0xC000000, 0x4000000, "a controller of interrupts, the PLIC"), (0x10000000, 0x100, "the UART of QEMU's virt"),
+           (0x10013000, 0x1000, "SiFive's UART")]
+HOSTS = ("tohost", "fromhost")
+PAGE = 0x1000
+# Registers that a call may change: ra, t0 to t2, a0 to a7, t3 to t6.
+CHANGED_BY_CALLS = {1, 5, 6, 7, *range(10, 18), *range(28, 32)}
+# Those of one page: the first and the last address, what the device is called or None, and the instructions.
+Reached = collections.namedtuple("Reached", "first last name places")
+
+
+def memory_of(elf, copied):
+    """Where a run has memory; the first page, to which a null pointer leads; and what follows a segment, where an empty
+    table of the linker script may begin and end."""
+    regions = [(low, high) for _, low, high in elf.regions.ranges]
+    return joined([(0, PAGE), *regions, *((it.vaddr, it.vaddr + it.memsz + PAGE) for it in elf.loads),
+                   *((it.paddr, it.paddr + it.filesz) for it in copied)])
+
+
+class Constants:
+    """What registers have, as far as the words since the last jump say. Of the stack pointer nothing is known, nor of
+    what auipc makes: these are the linker's own addresses, such as the ends of a table that may be empty."""
+
+    def __init__(self):
+        self.known = {isa.ZERO: 0}
+
+    def target(self, word):
+        """The address of a load or a store, or None."""
+        code = isa.opcode(word)
+        base = self.known.get(isa.rs1(word)) if code in (isa.LOAD, isa.STORE) else None
+        if base is None:
+            return None
+        return base + (isa.immediate(word) if code == isa.LOAD else isa.store_offset(word)) & 0xFFFFFFFF
+
+    def after(self, word):
+        """Takes in what an instruction does."""
+        code, to = isa.opcode(word), isa.written(word)
+        value = None
+        if code == isa.LUI:
+            value = isa.upper(word)
+        elif code == isa.IMMEDIATE and isa.funct3(word) == 0 and isa.rs1(word) in self.known:
+            value = self.known[isa.rs1(word)] + isa.immediate(word) & 0xFFFFFFFF
+        if code in (isa.JAL, isa.JALR):
+            gone = self.known.keys() - {isa.ZERO} if to == isa.ZERO else self.known.keys() & CHANGED_BY_CALLS
+            for register in list(gone):
+                del self.known[register]
+        elif to != isa.ZERO:
+            self.known.pop(to, None)
+            if value is not None and to != isa.SP:
+                self.known[to] = value
+
+
+def accesses(elf, code):
+    """Each load and store whose address is known: its place and where it goes."""
+    begins, constants = {it.value for it in elf.functions}, Constants()
+    for it in code.seen():
+        if it is None or it.address in begins:
+            constants = Constants()
+        if it is not None:
+            target = constants.target(it.word)
+            if target is not None:
+                yield it.address, target
+            constants.after(it.word)
+
+
+def device_at(address):
+    return next((name for first, size, name in DEVICES if first <= address < first + size), None)
+
+
+def reached(elf, code, copied):
+    """What loads and stores reach where no memory is, page by page, and the words by which a host is asked."""
+    memory, pages = memory_of(elf, copied), {}
+    for address, target in accesses(elf, code):
+        before = memory[bisect.bisect_right(memory, [target, 1 << 32]) - 1]  # the first begins at 0
+        if target >= before[1]:
+            pages.setdefault(target // PAGE, []).append((target, address))
+    found = []
+    for page in sorted(pages):
+        targets = [target for target, _ in pages[page]]
+        found.append(Reached(min(targets), max(targets), device_at(min(targets)), sorted(at for _, at in pages[page])))
+    names = {elf.name(it): it.value for it in elf.symbols if elf.name(it) in (*HOSTS, ACCESSES.range)}
+    hosts = [] if ACCESSES.range in names else [it for it in HOSTS if it in names]  # or else answered for
+    return found + [Reached(names[it], names[it], it, []) for it in hosts]
+
+
+def left(found, sites):
+    """What is reached by other instructions than some sites; of a word of a host nothing is left."""
+    others = [it._replace(places=[at for at in it.places if at not in sites]) for it in found]
+    return [it for it in others if it.places]

@@ -1,0 +1,89 @@
+"""`replaycheck page` in a release, which has the page: opens it, or copies it."""
+import os
+import pathlib
+import shutil
+
+from replaycheck.endings import Fault, flush, naming, write
+from replaycheck.options import Reader
+from replaycheck.programs import BUILT_FROM, TOP
+
+# Where a release has the page, beside the launcher's folder.
+PLACE = pathlib.Path(TOP).parents[1] / "share" / "replaycheck"
+FILE, FOLDER = "replaycheck.html", "page"
+BROWSERS = ("xdg-open", "sensible-browser", "x-www-browser")
+# A browser that ends sooner has failed, if its status says so.
+SECONDS = 3
+PAGE = """\
+Opens the page on which the program runs in a browser: a report that changes as
+you edit.
+
+usage: replaycheck page [--output DIR]
+
+The package has the page: it was built with the package, from the intermediate
+text of the proved program. Nothing has to be installed besides a browser with
+64-bit WebAssembly memory, such as a current Chromium. Your browser reads your
+files itself: nothing leaves the page.
+
+Printed is the file that is opened. Without a desktop nothing is opened: open or
+copy that file yourself.
+
+Options:
+  --output DIR  write DIR/replaycheck.html, one file with everything in it that
+                opens from disk, and DIR/page, a folder to serve; open nothing
+
+Exit status:
+  0  the page was opened or written
+  2  it failed: a line on standard error says what, and why
+
+Environment:
+  DISPLAY, WAYLAND_DISPLAY  there is a desktop if one of these is set
+  BROWSER                   the browser that xdg-open starts
+"""
+
+
+def is_made():
+    """Whether this is a release, which has the page."""
+    return os.path.exists(BUILT_FROM)
+
+
+def options_of():
+    reader = Reader(PAGE)
+    reader.option("--output")
+    return reader.read()
+
+
+def show(options):
+    if not (PLACE / FILE).is_file():
+        raise Fault(f"{PLACE / FILE}: no such file: this release is not whole")
+    if options.output is None:
+        return open_file(PLACE / FILE)
+    return copy(pathlib.Path(options.output))
+
+
+def copy(out):
+    """Writes the file and the folder."""
+    (out / FOLDER).mkdir(parents=True, exist_ok=True)
+    for path in (PLACE / FILE, *sorted((PLACE / FOLDER).iterdir())):
+        to = out / path.relative_to(PLACE)
+        with naming(str(to)):
+            shutil.copyfile(path, to)
+    write(f"{out / FILE}: {(out / FILE).stat().st_size} bytes, to open\n{out / FOLDER}: to serve\n")
+    return 0
+
+
+def open_file(path):
+    """Has the desktop open the file, if there is one."""
+    import subprocess
+    write(f"{path}\n")
+    flush()
+    opener = next(filter(None, map(shutil.which, BROWSERS)), None)
+    if not opener or not (os.environ.get("DISPLAY") or os.environ.get("WAYLAND_DISPLAY")):
+        return 0
+    child = subprocess.Popen([opener, str(path)], stdin=subprocess.DEVNULL, start_new_session=True)
+    try:
+        status = child.wait(SECONDS)
+    except subprocess.TimeoutExpired:
+        return 0
+    if status:
+        raise Fault(f"cannot open {path}: {os.path.basename(opener)} ended with status {status}")
+    return 0

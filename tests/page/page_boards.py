@@ -1,0 +1,123 @@
+"""The cases of test-page about a board's file: what the page says of it, and the command that it names, beside what `replaycheck adopt`
+finds. They need the assembler."""
+import base64
+import json
+import pathlib
+import subprocess
+import tempfile
+
+from board_files import READ_RUN, board, function, segment
+from page_bench import expect, same
+from replaycheck.adopting.findings import Findings
+from replaycheck.adopting.regions import fitting
+from replaycheck.guest.elf import Elf
+from replaycheck.guest.regions import USUAL_REGIONS, Regions
+
+PLACE, NAME = 0x10000, "board.elf"
+# Regions that are chosen before such a file is opened.
+CHOSEN = (USUAL_REGIONS, Regions(0xA0000000, USUAL_REGIONS.stack), Regions(0x40000000, (0x3FC81000, 0x3FCA0000)),
+          Regions(0x90000000, (0x3FC81000, 0x3FCA0000)), Regions(0x30000000, (0x8F000000, 0x90000000)),
+          Regions(0xB0000000, (0x42000000, 0x43000000)), Regions(0x10000000, (0x90000000, 0x90010000)))
+SHORT, ATOMIC = "rv32imc", "rv32imac"
+
+
+def file_of(text, flags=0):
+    from adopt_rows import code
+    return board([segment(PLACE, code(text), flags=READ_RUN)], [function("_start", PLACE, 4)], PLACE, flags)
+
+
+# A file's code, its flags, what is said of it, the sets that are offered, and the command.
+FOUND = [
+    ("a program that runs", "li a0, 0; li a7, 93; ecall", 0, None, [], ""),
+    ("instructions of 16 bits", ".word 0x00010001", 1, "has instructions of 16 bits", [SHORT, ATOMIC], "replaycheck adopt board.elf"),
+    ("one of 16 bits without the flag", "nop; .word 0x00010001", 0, "at an instruction of 16 bits", [SHORT, ATOMIC],
+     "replaycheck adopt board.elf"),
+    ("an atomic one", ".word 0x00b6252f", 0, "at an atomic instruction", [ATOMIC], "replaycheck adopt board.elf"),
+    ("a control register", ".word 0x30002573", 0, "for control registers", [SHORT, ATOMIC], "replaycheck adopt board.elf -o adopted.elf"),
+    ("a return from a trap", ".word 0x30200073", 0,
+     "a return from a trap, which RV32IM doesn’t have. This command writes a file in which it is replaced:", [],
+     "replaycheck adopt board.elf -o adopted.elf"),
+    ("floating point", ".word 0x00052007", 0, "for floating point, which RV32IM doesn’t have. Compile it with -march=rv32im", [],
+     "replaycheck adopt board.elf"),
+    ("no instruction", ".word 0xffffffff", 0, "a word that is no instruction", [], "replaycheck adopt board.elf"),
+    ("a call of a host", "ebreak", 0, "calls a host by semihosting", [], "replaycheck adopt board.elf -o adopted.elf"),
+    ("a device", "lui a0, 0x10013; lw a1, 0(a0); li a7, 93; ecall", 0, "where a board has a device (SiFive's UART)", [],
+     "replaycheck adopt board.elf --devices INPUT -o adopted.elf"),
+]
+
+
+def board_files(bench):
+    """What is said of a board's file: sets that would do, each of which opens it again, and a command that adopts it."""
+    with bench.page() as page:
+        for label, text, flags, told, sets, command in FOUND:
+            page.run("replaycheck.opening.again({ isa: 'rv32im' })")
+            bench.give(page, {"program": file_of(text, flags)}, name=NAME)
+            bench.settle(page)
+            same(f"{label}: whether anything is said", not page.run("document.getElementById('board-told').hidden"), told is not None)
+            expect((told or "") in page.text("board-text"), f"{label}: it says {page.text('board-text')!r}")
+            same(f"{label}: sets", page.run("[...document.querySelectorAll('#board-sets button')].map((it) => it.textContent)"), sets)
+            same(f"{label}: command", page.text("board-command"), command)
+            for isa in sets[:1]:
+                page.click_on("#board-sets button")
+                page.until(f"replaycheck.opened?.isa === '{isa}'", 20)
+                bench.settle(page)
+                expect(isa not in page.run("replaycheck.opened.board?.sets ?? []"), f"{label}: {isa} is offered for itself")
+        hostile = "<img src=x onerror=globalThis.hacked=1>.elf"
+        page.run("replaycheck.opening.again({ isa: 'rv32im' })")
+        bench.give(page, {"program": file_of("ebreak")}, name=hostile)
+        bench.settle(page)
+        same("a name with markup", page.text("board-command"), f"replaycheck adopt '{hostile}' -o adopted.elf")
+        same("elements of it", page.run("document.querySelectorAll('#board-told img').length"), 0)
+        names = page.run("""import('./boards.js').then(({ typed }) => ['a.elf', "it's", '-o', '$(reboot).elf'].map(typed))""")
+        same("names as a shell takes them", names, ["a.elf", "'it'\\''s'", "'./-o'", "'$(reboot).elf'"])
+
+
+def region_files(bench):
+    """A file that meets the region of heap or stack: the options that the page names are those of `adopt`, unless it knows the start
+    file's own stack; and the program takes the file with them."""
+    from adopt_region_rows import TOLD
+    count = 0
+    with tempfile.TemporaryDirectory() as folder:
+        path = pathlib.Path(folder, NAME)
+        for label, data, options, *_ in TOLD:
+            found = Findings(data, [], frozenset())
+            if options or not any(it.by_option for it in found.obstacles) or found.isa_option:
+                continue
+            count += 1
+            with bench.page() as page:
+                region_file(bench, page, label, data, path, found)
+    expect(count > 3, f"{count} files alone were tried")
+    with bench.page() as page:
+        for label, data in {it[0]: it[1] for it in TOLD}.items():
+            want = [fitting(Elf(data, it), None) for it in CHOSEN]
+            same(f"{label}: where the regions can be", fitting_on(page, data), [it and [it.heap, *it.stack] for it in want])
+
+
+def fitting_on(page, data):
+    """Where the page would have heap and stack for a file, for each of some regions that are chosen."""
+    text, chosen = base64.b64encode(data).decode(), [{"isa": "rv32im", "heap": it.heap, "stack": it.stack} for it in CHOSEN]
+    return page.run(f"""(async () => {{
+      const [{{ Elf }}, {{ fitting }}] = await Promise.all([import('./elf.js'), import('./boards.js')]);
+      const elf = new Elf(Uint8Array.from(atob('{text}'), (it) => it.charCodeAt(0)));
+      return {json.dumps(chosen)}.map((it) => fitting(elf, it)).map((it) => it && [it.heap, ...it.stack]); }})()""")
+
+
+def region_file(bench, page, label, data, path, found):
+    """What is said of one, and the button that puts the regions there."""
+    bench.give(page, {"program": data}, name=NAME)
+    told, buttons = page.text("notice"), page.run("document.querySelectorAll('#notice button').length")
+    same(f"{label}: buttons", buttons, int(not found.hopeless()))
+    if found.hopeless():
+        expect(" --" not in told, f"{label}: it says {told!r}")
+        return
+    expect(f"`replaycheck run {NAME} --" in told and f"`replaycheck adopt {NAME}`" in told, f"{label}: it says {told!r}")
+    named = told.split(f"`replaycheck run {NAME} ")[1].split("`")[0]
+    if not found.own:
+        same(label, named, found.regions.told)
+    path.write_bytes(data)
+    ran = subprocess.run([bench.program, "run", *named.split(), "--step", "100", path], capture_output=True, text=True)
+    same(f"{label}: {named}", ran.stderr, "")
+    page.click_on("#notice button")
+    page.until("replaycheck.shown")
+    same(f"{label}: the lines", page.run("document.getElementById('lines').value"), f"# --isa rv32im {named}\n")
+    bench.same_report(page, [path, *named.split()], f"{label}: the report")

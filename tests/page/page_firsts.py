@@ -1,0 +1,312 @@
+"""The cases of test-page about what one sees first: the example that a page begins with, the sentence that counts the edits that break a
+run, the line on uninitialised memory, and the colours."""
+import json
+import math
+import subprocess
+
+from guest_files import elf
+from page_bench import SWEPT, expect, same, sweep_flips, table_in, words_of
+from replaycheck.exploring.outcomes import BADNESS, Outcome
+from replaycheck.guest.assembly import assemble
+
+STATION, PACKET = words_of("station"), words_of("packet")
+COUNTED = "document.getElementById('counted').textContent"
+LONG, EXIT = 1 << 18, "li a7, 93; ecall"
+STALE = "document.getElementById('picture-parts').classList.contains('stale')"
+
+# ---- the first screen
+
+
+def first_screen(bench):
+    """A page with nothing in its address begins with an example, an edit of it, its picture, and both runs in the line at the top."""
+    with bench.page() as page:
+        page.run("localStorage.clear()")
+    with bench.browser.page(bench.address) as page:
+        page.until("replaycheck.shown")
+        bench.settle(page)
+        bench.same_report(page, STATION, "the first screen")
+        same("its edit", page.run("replaycheck.scenario.lines"), ["input 1 8"])
+        page.until(f"{SWEPT} && document.getElementById('before').textContent.includes('break it')", 120)
+        total, new = broken(bench, STATION, [], page.run("replaycheck.step"))
+        same("the unedited run", page.text("before"), f"unedited: exited with 0 · no errors · {new} of {total:,} one-byte edits break it")
+        same("examples", page.run("[...document.querySelectorAll('#examples button')].map((it) => it.getAttribute('aria-pressed'))"),
+             ["true"] + ["false"] * 5)
+        same("complaints", page.complaints(), [])
+
+
+# ---- the sentence that counts
+
+
+def broken(bench, words, edits, step, option="--values=all", goal=None):
+    """How many edits the program's table of an edited run has, and how many of them have something new; with a goal, how many reach it,
+    too."""
+    given = open(words[2], "rb").read()
+    for line in edits:
+        _, at, value = line.split(" ")
+        given = given[:int(at)] + bytes([int(value)]) + given[int(at) + 1:]
+    own, table = table_of(bench, words, given, option, step)
+    unedited, texts = Outcome(0, own.encode()), list(table.values())
+    is_new = {text: bool(Outcome(0, text.encode()).news(unedited)) for text in {*texts}}
+    counts = [len(texts), sum(is_new[it] for it in texts)]
+    return counts if goal is None else [*counts, sum(any(it.startswith(goal) for it in text.split("\n")) for text in texts)]
+
+
+KNOWN = {}
+
+
+def table_of(bench, words, given, option, step):
+    """The program's table of a run with this input."""
+    key = (words[0], given, option, step)
+    if key not in KNOWN:
+        asked = [bench.program, "sweep", words[0], "--input", "/dev/stdin", option, f"--step={step}"]
+        KNOWN[key] = table_in(subprocess.run(asked, input=given, capture_output=True, check=True).stdout.decode())
+    return KNOWN[key]
+
+
+def phrase(count, all_edits, called, verbs):
+    return f"{f'{count:,}' if count else 'none'} of {all_edits:,} {called} {verbs[count > 1]}"
+
+
+BREAK, ADD = ("breaks it", "break it"), ("adds an error, a leak or a stop", "add an error, a leak or a stop")
+# What is edited, the values, a goal, and how the sentence calls the edits and what some of them do.
+COUNTS = [
+    ("the unedited run", [], "all", "", "one-byte edits", BREAK),
+    ("a run with an error", ["input 1 8"], "all", "", "one-byte edits", ADD),
+    ("a run that ends in another way", ["input 0 0"], "flips", "", "one-bit edits", BREAK),
+    ("one bit turned", [], "flips", "", "one-bit edits", BREAK),
+    ("edge values", [], "edges", "", "edge-value edits", BREAK),
+    ("a goal", [], "flips", "exited 1", "one-bit edits", BREAK),
+    ("a goal that nothing reaches", [], "edges", "exited 99", "edge-value edits", BREAK),
+]
+
+
+def counts(bench):
+    """The sentence at the top counts what the program's table of the run that is shown has."""
+    with bench.open() as page:
+        for label, edits, values, goal, called, verbs in COUNTS:
+            page.run(f"replaycheck.use({json.dumps(chr(10).join(edits))})")
+            bench.settle(page)
+            page.set("goal", goal, "input")
+            page.set("sweep-values", values)
+            page.click_on("#sweep")
+            page.until(f"{SWEPT} && !replaycheck.sweeps.isStale", 120)
+            total, new, *reached = broken(bench, STATION, edits, page.run("replaycheck.step"), f"--values={values}", goal or None)
+            want = phrase(new, total, called, verbs)
+            if goal:
+                reach = phrase(reached[0], total, called, (f"reaches “{goal}”", f"reach “{goal}”"))
+                want = f"{reach}, and {new or 'none'} {verbs[new > 1]}"
+            page.until(f"!{COUNTED}.includes('so far')", 5)
+            same(label, page.run(COUNTED), want)
+        page.run("replaycheck.opening.choose('kinds')")
+        bench.settle(page)
+        page.set("sweep-values", "all")
+        page.click_on("#sweep")
+        page.until(SWEPT, 120)
+        total, new = broken(bench, words_of("kinds"), [], page.run("replaycheck.step"))
+        same("errors of each kind, leaks and stops", page.run(COUNTED), phrase(new, total, "one-byte edits", BREAK))
+
+
+RECORD = """(() => { globalThis.seen = [];
+  const note = () => { const { swept } = replaycheck.sweeps.picture;
+    seen.push([document.getElementById('counted').textContent, replaycheck.scenario.lines.join(), replaycheck.sweeps.isStale,
+      swept ? [swept.edits, [...swept.tallies], [...swept.outcomes]] : null]); };
+  new MutationObserver(note).observe(document.getElementById('counted'), { childList: true, characterData: true, subtree: true }); })()"""
+
+
+def recounted(swept):
+    """How many edits of a table that isn't whole have something new."""
+    _, tallies, outcomes = swept
+    unedited = Outcome(0, outcomes[0].encode())
+    return sum(count for count, text in zip(tallies, outcomes) if Outcome(0, text.encode()).news(unedited))
+
+
+def counts_on_the_way(bench):
+    """While a sweep goes on, after an edit, an undo and a stop, each sentence is true of what the table had then, and says of which run it
+    is."""
+    with bench.open(words="?workers=2") as page:
+        page.run(RECORD)
+        page.until(SWEPT, 120)
+        page.run("replaycheck.use('input 1 8')")
+        bench.settle(page)
+        expect(page.run(COUNTED).startswith("Of the unedited run: "), f"after an edit it says {page.run(COUNTED)!r}")
+        page.until(f"{SWEPT} && !{STALE}", 120)
+        page.click_on("#undo")
+        bench.settle(page)
+        expect(page.run(COUNTED).startswith("Of the run with 1 edit: "), f"after an undo it says {page.run(COUNTED)!r}")
+        page.until(f"replaycheck.sweeps.sweep?.swept.edits > 0 && !{STALE}", 60)
+        page.click_on("#stop")
+        page.until("document.getElementById('stop').disabled", 10)
+        stopped = page.run(COUNTED)
+        seen = page.run("globalThis.seen")
+        page.run("replaycheck.use('mark 55 0x20011 2 undefined')")
+        bench.settle(page)
+        page.set("sweep-values", "edges")
+        page.click_on("#sweep")
+        page.until(f"{SWEPT} && !{STALE}", 120)
+        expect(page.run(COUNTED).startswith("Of this run, without marks: "), f"with a mark it says {page.run(COUNTED)!r}")
+    expect(" tried before the stop " in stopped, f"after a stop it says {stopped!r}")
+    going = [it for it in seen if "so far" in it[0]]
+    expect(len(going) > 3, f"{len(going)} sentences alone were told on the way")
+    for text, lines, is_stale, swept in seen:
+        if swept and text:
+            new, said = recounted(swept), text.split(": ")[-1]
+            expect(said.startswith(f"{f'{new:,}' if new else 'none'} of ") and f" {swept[0]:,} one-byte edit" in said,
+                   f"{text!r} of {swept[0]} edits, {new} of them new")
+            expect(text.startswith("Of ") == is_stale, f"{text!r} with the lines {lines!r}, of another run: {is_stale}")
+
+
+# ---- uninitialised memory
+
+CERTIFIED = [
+    ("the unedited run", [], True), ("an invalid write", ["input 1 8"], True), ("a use", ["input 37 5"], False),
+    ("the step of a use", ["goto 684", "input 37 5"], True), ("a step after it", ["goto 685", "input 37 5"], False),
+    ("a mark in the way", ["mark 1 0x7fffffe0 4 defined"], None),
+]
+
+
+def certified(bench):
+    """What is said of uninitialised memory is what `look certify` says of what is shown."""
+    with bench.open() as page:
+        for label, lines, is_clean in CERTIFIED:
+            page.run(f"replaycheck.use({json.dumps(chr(10).join(lines))})")
+            bench.settle(page)
+            line = f"look certify {page.run('replaycheck.step')}"
+            asked = [*page.run("replaycheck.scenario.lines"), f"goto {page.run('replaycheck.step')}", "look certify"]
+            text = "".join(f"{it}\n" for it in asked)
+            want = subprocess.run([bench.program, "look", *STATION], input=text, capture_output=True, text=True).stdout.splitlines()[-1]
+            page.until(f"document.getElementById('certified').title === {json.dumps(want)}", 10)
+            same(f"{label}: what the program says", want.startswith(("clean to step", "clean up to step")), is_clean is True)
+            told = page.text("certified") if not page.run("document.getElementById('certified').hidden") else None
+            same(f"{label}: {line}", told and ("no influence" in told), is_clean)
+            same(f"{label}: whether it goes on", "the run goes on" in (told or ""), want.endswith("the run goes on"))
+        page.run("replaycheck.use('input 37 5')")
+        bench.settle(page)
+        page.until("document.getElementById('certified').title.includes('first use')", 10)
+        page.click_on("#certified")
+        bench.settle(page)
+        same("the step of the first use", page.run("replaycheck.step"), 684)
+    certified_when_asked(bench)
+
+
+def certified_when_asked(bench):
+    """Of a long run it is said only once somebody asks."""
+    with bench.page() as page:
+        bench.give(page, {"program": elf(assemble(f"lui t0, {LONG >> 12}; addi t0, t0, -1; bne t0, zero, .-4; {EXIT}"))})
+        bench.settle(page)
+        page.until("document.getElementById('certified').textContent.endsWith('matter?')", 10)
+        page.click_on("#certified")
+        page.until("document.getElementById('certified').title.startsWith('clean to step')", 60)
+        same("of a long run", page.text("certified"), "uninitialised memory has no influence on it")
+
+
+# ---- colours
+
+# How the colour-blind see the parts of light: Machado, Oliveira and Fernandes 2009, severity 1; and OKLab, in which they are compared.
+SIGHTS = {
+    "normal": ((1, 0, 0), (0, 1, 0), (0, 0, 1)),
+    "deuteranopia": ((0.367322, 0.860646, -0.227968), (0.280085, 0.672501, 0.047413), (-0.011820, 0.042940, 0.968881)),
+    "protanopia": ((0.152286, 1.052583, -0.204868), (0.114503, 0.786281, 0.099216), (-0.003882, -0.048116, 1.051998)),
+}
+CONES = ((0.4122214708, 0.5363325363, 0.0514459929), (0.2119034982, 0.6806995451, 0.1073969566),
+         (0.0883024619, 0.2817188376, 0.6299787005))
+LAB = ((0.2104542553, 0.7936177850, -0.0040720468), (1.9779984951, -2.4285922050, 0.4505937099),
+       (0.0259040371, 0.7827717662, -0.8086757660))
+LEAST_APART = 0.06  # three times what one can just tell apart
+HARMLESS = ("unedited", "ending", "running")
+LEAST_CONTRAST = 3
+
+
+def times(matrix, parts):
+    return [sum(a * b for a, b in zip(row, parts)) for row in matrix]
+
+
+def light_of(colour):
+    parts = [int(colour[at:at + 2], 16) / 255 for at in (1, 3, 5)]
+    return [it / 12.92 if it <= 0.04045 else ((it + 0.055) / 1.055) ** 2.4 for it in parts]
+
+
+def seen_as(colour, sight):
+    parts = [min(1, max(0, it)) for it in times(SIGHTS[sight], light_of(colour))]
+    return times(LAB, [it ** (1 / 3) for it in times(CONES, parts)])
+
+
+def apart(one, other):
+    """How far two colours are apart for those who tell them apart the least."""
+    return min(math.dist(seen_as(one, it), seen_as(other, it)) for it in SIGHTS)
+
+
+def contrast_of(one, other):
+    high, low = sorted((sum(a * b for a, b in zip(light_of(it), (0.2126, 0.7152, 0.0722))) for it in (one, other)), reverse=True)
+    return (high + 0.05) / (low + 0.05)
+
+
+# Two colours and whether the measure calls them apart, so that it can fail.
+MEASURED = [("black and white", "#000000", "#ffffff", True), ("a red and a green alike to many", "#a05a00", "#6b7a00", False),
+            ("a blue and a violet alike to many", "#6f7fd0", "#8f7fd0", False), ("a colour and itself", "#d95614", "#d95614", False)]
+
+
+def colours(bench):
+    """Each kind of error has a colour of its own, which the colour-blind tell from each other one, and which stands out from harmless
+    ones by 3 to 1."""
+    for label, one, other, are in MEASURED:
+        same(label, apart(one, other) >= LEAST_APART, are)
+    with bench.page() as page:
+        told, kinds = page.run("import('./colours.js').then(({ COLOURS, KINDS }) => [COLOURS, KINDS])")
+    same("kinds", set(kinds), {begin for begin, _ in BADNESS})
+    expect(set(kinds.values()) <= set(told), f"no colour of {set(kinds.values()) - set(told)}")
+    for dark in (0, 1):
+        ground, near = [], []
+        for name, pair in told.items():
+            near += [(name, other) for other in told if other < name and apart(pair[dark], told[other][dark]) < LEAST_APART]
+            if name not in HARMLESS:
+                ground += [(name, it) for it in HARMLESS[:2] if contrast_of(pair[dark], told[it][dark]) < LEAST_CONTRAST]
+        same(f"colours that are alike, {'dark' if dark else 'light'}", near, [])
+        same(f"colours that don't stand out, {'dark' if dark else 'light'}", ground, [])
+        far = contrast_of(told["running"][dark], told["unedited"][dark])
+        expect(far >= LEAST_CONTRAST, f"a run that goes on stands out by {far} to 1")
+
+
+# ---- the picture and its legend
+
+
+def below_the_bytes(bench):
+    """Each column of the picture is below its byte where all bytes are in one row, and begins and ends with the rows else."""
+    for width, is_one_row in ((360, False), (1280, True), (2560, True)):
+        with bench.open(width=width) as page:
+            sweep_flips(page)
+            same(f"one row at {width}", page.run("replaycheck.bytes.isOneRow"), is_one_row)
+            far = page.run("""(() => { const { picture } = replaycheck.sweeps, { left } = picture.canvas.getBoundingClientRect();
+              return [...document.querySelectorAll('#bytes [role=gridcell]')].map((it, at) => {
+                const [x, , wide] = picture.box(at * picture.rows), box = it.getBoundingClientRect();
+                return Math.max(Math.abs(left + x - box.left), Math.abs(left + x + wide - box.right)); }); })()""")
+            expect(not is_one_row or max(far) < 1, f"a column is {max(far)} pixels from its byte at {width}")
+            begin = page.run("""(() => { const { picture } = replaycheck.sweeps;
+              return picture.canvas.getBoundingClientRect().left + picture.box(0)[0]
+                - document.querySelector('#bytes [role=gridcell]').getBoundingClientRect().left; })()""")
+            expect(abs(begin) < 1, f"the picture begins {begin} pixels from the first byte at {width}")
+
+
+def legend(bench):
+    """The legend has a line an outcome; runs that differ in their exit status alone are one line, which opens; of one that is
+    pointed at the picture shows no other."""
+    with bench.open("packet", words="") as page:
+        page.until(SWEPT, 120)
+        own, table = table_of(bench, PACKET, open(PACKET[2], "rb").read(), "--values=all", page.run("replaycheck.step"))
+        statuses = {it for it in table.values() if it.startswith("exited") and it != own and "\n" not in it}
+        rows = "[...document.querySelectorAll('#legend-rows tr')]"
+        told = page.run(f"{rows}.map((it) => it.querySelector('summary').textContent)")
+        expect(f"exited with one of {len(statuses)} statuses" in told, f"the legend says {told}")
+        expect(len(told) < 6, f"the legend has {len(told)} rows")
+        same("edits", page.run(f"{rows}.map((it) => Number(it.querySelector('.number').textContent.replace(',', '')))"
+                               ".reduce((a, b) => a + b)"), len(table))
+        index = told.index(f"exited with one of {len(statuses)} statuses")
+        page.click_on(f"#legend-rows tr:nth-child({index + 1}) summary")
+        listed = page.run(f"{rows}[{index}].querySelectorAll('details div').length")
+        expect(listed > 30, f"{listed} lines are listed")
+        tall = page.run(f"{rows}.map((it) => it.querySelector('summary').getBoundingClientRect().height)")
+        expect(all(it < 30 for it in tall[:index]), f"summaries are {tall} pixels high")
+        page.run(f"{rows}[0].querySelector('input').focus()")
+        page.press("ArrowDown", "ArrowRight")
+        same("what is below and beside the first box", page.run("document.activeElement.textContent"), told[1])
+        page.run(f"{rows}[0].dispatchEvent(new PointerEvent('pointerover', {{ bubbles: true }}))")
+        same("what is pointed at", page.run("replaycheck.sweeps.picture.legend.pointed.length"), 1)

@@ -1,0 +1,213 @@
+"""The cases of test-page about every edit at once: the page's sweeps beside the program's table, and their picture."""
+import json
+import pathlib
+import re
+import struct
+import tempfile
+
+from checkout import TOP
+from page_bench import SWEPT, expect, same, words_of
+
+STATION = words_of("station")
+
+
+def swept(bench, page, words, options, want_edits):
+    """Whether the page's sweep comes to the program's table, edit by edit."""
+    page.until(SWEPT, 120)
+    told = page.run("""(() => { const { places, outcomes } = replaycheck.sweeps.sweep.swept;
+      return [...places].flatMap(([at, it]) => it.values.map((value, index) => [at, value, outcomes[it.outcomes[index]]])); })()""")
+    want = bench.table(words, *options)
+    same("edits", len(told), want_edits)
+    same("outcomes", {(at, value): text for at, value, text in told}, want)
+
+
+def place_of(page, at, value):
+    """Where the picture has an edit of a byte, in pixels of the page: a whole one, as a pointer has it, where a row has one."""
+    return page.run(f"""(() => {{ const {{ picture }} = replaycheck.sweeps, it = picture.canvas.getBoundingClientRect();
+      const [left, top, wide] = picture.box({at} * picture.rows + {value});
+      return [it.left + left + wide / 2, Math.ceil(it.top + top)]; }})()""")
+
+
+def picture_of_bytes(bench):
+    """Every edit of a byte: the program's own table, its counts in the legend, and a click that makes an edit."""
+    with bench.open(words="") as page:
+        step = page.run("replaycheck.step")
+        swept(bench, page, STATION, [f"--step={step}"], 10455)
+        page.until("document.getElementById('sweep-told').textContent.includes('287 of them')")
+        counts = page.run("[...document.querySelectorAll('#legend-rows .number')].map((it) => it.textContent)")
+        same("counts in the legend", counts, ["10", "2", "1", "1", "261", "12", "2,636", "7,532"])
+        page.run("document.getElementById('picture').scrollIntoView({ block: 'center' })")
+        for at, value in ((1, 8), (37, 250), (15, 255)):
+            page.run("replaycheck.use('')")
+            bench.settle(page)
+            page.click(*place_of(page, at, value))
+            bench.same_report(page, STATION, "a click on the picture")
+            same("the edit of the click", page.run("replaycheck.scenario.lines"), [f"input {at} {value}"])
+        expect(re.search(r"255 other values", page.run("replaycheck.byteTold(1)")), "nothing is told of a byte's values")
+
+
+def picture_least(bench):
+    """In the picture a new error is at least three pixels high, and the legend takes an outcome out."""
+    with bench.open(words="") as page:
+        page.until(SWEPT, 120)
+        page.run("replaycheck.sweeps.picture.draw()")
+        count = """(() => {
+          const { picture } = replaycheck.sweeps, on = picture.canvas.getContext('2d'), index = 27 * picture.rows + 2;
+          const [x, y, wide, tall] = picture.box(index), want = picture.looks[picture.cells[index].number].colour;
+          const inked = (at) => '#' + [...on.getImageData(Math.floor(x + wide / 2), at, 1, 1).data].slice(0, 3)
+            .map((it) => it.toString(16).padStart(2, '0')).join('') === want;
+          let count = 0;
+          for (let at = Math.max(0, Math.floor(y) - 4); at < y + tall + 4; at++) count += inked(at);
+          return [tall, count]; })()"""
+        cell, tall = page.run(count)
+        expect(cell < 3 <= tall, f"a cell of {cell} pixels is drawn with {tall}")
+        page.click_on("#legend-rows tr:nth-child(3) input")
+        expect(page.run(count)[1] == 0, "an outcome that is taken out is drawn")
+
+
+def picture_of_words(bench):
+    """Every bit of a function's words: the program's table."""
+    with bench.open("boot") as page:
+        begin, size = page.run("""(() => { const it = replaycheck.opened.program.elf.functions.find((it) => it.name === 'verify');
+          replaycheck.code.visit(it.address); return [it.address, it.size]; })()""")
+        page.set("sweep-what", "words", "change")
+        page.set("sweep-values", "flips")
+        page.click_on("#sweep")
+        options = [f"--words={begin}..{begin + size - 4}", "--words-values=flips", f"--step={page.run('replaycheck.step')}"]
+        swept(bench, page, words_of("boot"), options, 32 * size // 4)
+
+
+def picture_of_edits(bench):
+    """The sweep of an edited run is the program's table of the files that the edits make, and what they can't have is told."""
+    lines = ["patch 0x10368 0x00800493", "input 27 2", "input append 7", "supp add Cond fun:show fun:main fun:_start",
+             "supp add Leak match-leak-kinds:definite fun:malloc fun:add_limits"]
+    with bench.open() as page, tempfile.TemporaryDirectory() as folder:
+        page.run(f"replaycheck.use({json.dumps(chr(10).join(lines))})")
+        bench.same_report(page, STATION, "the edited run")
+        program = bytearray((TOP / "examples/firmware/station.elf").read_bytes())
+        offset, at = struct.unpack_from("<II", program, struct.unpack_from("<I", program, 28)[0] + 4)
+        struct.pack_into("<I", program, offset + 0x10368 - at, 0x00800493)
+        given = bytearray((TOP / "examples/firmware/station.input").read_bytes() + b"\7")
+        given[27] = 2
+        supp = (b"{\nknown\nMemcheck:Cond\nfun:show\nfun:main\nfun:_start\n}\n"
+                b"{\nother\nMemcheck:Leak\nmatch-leak-kinds: definite\nfun:malloc\nfun:add_limits\n}\n")
+        paths = [pathlib.Path(folder, it) for it in ("program", "input", "supp")]
+        for path, content in zip(paths, (program, given, supp)):
+            path.write_bytes(content)
+        page.set("sweep-values", "edges")
+        page.click_on("#sweep")
+        words = [str(paths[0]), "--input", str(paths[1]), "--supp", str(paths[2])]
+        options = ["--values=edges", f"--step={page.run('replaycheck.step')}"]
+        swept(bench, page, words, options, len(bench.table(words, *options)))
+        expect("of the run with 5 edits" in page.text("sweep-told"), f"it says {page.text('sweep-told')!r}")
+        page.run("replaycheck.use('mark 55 0x20011 2 undefined\\noption queue 0')")
+        bench.settle(page)
+        page.click_on("#sweep")
+        page.until("document.getElementById('sweep-told').textContent.includes('Left out: marks, options of the heap.')", 120)
+
+
+def picture_of_the_run(bench):
+    """After an edit the picture and what is said of a byte are of the run that is shown: greyed, and named as another's, until
+    they are made anew. What a sweep can't have of a run is named too."""
+    with bench.open(words="") as page, tempfile.TemporaryDirectory() as folder:
+        page.until(SWEPT, 120)
+        same("a byte of the unedited run", page.run("replaycheck.byteTold(2)"),
+             "byte 2: 0x68. None of 255 other values changes anything.")
+        page.run("replaycheck.use('input 0 0')")
+        bench.settle(page)
+        stale = "document.getElementById('picture-parts').classList.contains('stale')"
+        expect(page.run(stale), "the picture of another run isn't greyed")
+        expect("Of the unedited run: " in page.run("replaycheck.byteTold(2)"), "a byte's sentence doesn't say of which run it is")
+        page.until(f"{SWEPT} && !{stale}", 120)
+        given = pathlib.Path(folder, "input")
+        given.write_bytes(b"\0" + (TOP / "examples/firmware/station.input").read_bytes()[1:])
+        words, step = [STATION[0], "--input", str(given)], page.run("replaycheck.step")
+        swept(bench, page, words, [f"--step={step}"], 10455)
+        table = bench.table(words, "--bytes=2", f"--step={step}")
+        alike = sum(text == "exited 1" for text in table.values())
+        told = page.run("replaycheck.byteTold(2)")
+        expect(f"Of 255 other values, {alike} change" in told, f"it says {told!r}, and {alike} values change nothing")
+        expect("of the run with 1 edit" in page.text("sweep-told"), f"it says {page.text('sweep-told')!r}")
+        page.run("replaycheck.go(500)")
+        bench.settle(page)
+        expect("Of the run with 1 edit" in page.run("replaycheck.sweeps.otherRun"), "another step isn't another run")
+        page.until(f"{SWEPT} && !{stale}", 120)
+        page.run("replaycheck.use('mark 55 0x20011 2 undefined')")
+        page.until(f"{SWEPT} && replaycheck.sweeps.of.left.length && !{stale}", 120)
+        same("what is left out", page.run("replaycheck.sweeps.otherRun"), "Of this run, without marks: ")
+
+
+def goal(bench):
+    """The edits that reach a goal are counted, stand first in the legend and are drawn large, as `explore --goal` finds them."""
+    with bench.open("boot", words="") as page:
+        page.until(SWEPT, 120)
+        table = bench.table(words_of("boot"), f"--step={page.run('replaycheck.step')}")
+        reached = [edit for edit, text in table.items() if text.startswith("exited 0")]
+        same("the goal of the example", page.run("document.getElementById('goal').value"), "exited 0")
+        want = f"{len(reached)} of them reaches the goal “exited 0”. "
+        page.until("document.getElementById('sweep-told').textContent.includes('edits of the')")
+        expect(len(reached) == 1 and want in page.text("sweep-told"), f"it says {page.text('sweep-told')!r}, not {want!r}")
+        same("the first row of the legend", page.run("document.querySelector('#legend-rows .first').textContent"),
+             "input {} {}".format(*reached[0]))
+        page.set("goal", "exited 7", "input")
+        expect("0 of them reach" in page.text("sweep-told"), f"it says {page.text('sweep-told')!r}")
+        page.set("goal", "", "input")
+        expect("goal" not in page.text("sweep-told"), f"it says {page.text('sweep-told')!r}")
+        page.set("goal", "exited 0", "input")
+        goal_of_words(bench, page)
+
+
+def goal_of_words(bench, page):
+    """The same of the words of a function, in a run with an edit."""
+    page.run("replaycheck.use('input 4 0x61')")
+    bench.settle(page)
+    begin, size = page.run("""(() => { const it = replaycheck.opened.program.elf.functions.find((it) => it.name === 'verify');
+      replaycheck.code.visit(it.address); return [it.address, it.size]; })()""")
+    page.set("sweep-what", "words", "change")
+    page.set("sweep-values", "skip")
+    page.click_on("#sweep")
+    page.until(f"{SWEPT} && !replaycheck.sweeps.isStale && replaycheck.sweeps.of.asked.kind === 'words'", 120)
+    given = (TOP / "examples/firmware/boot.input").read_bytes()
+    with tempfile.NamedTemporaryFile() as file:
+        file.write(given[:4] + b"a" + given[5:])
+        file.flush()
+        table = bench.table([words_of("boot")[0], "--input", file.name], f"--words={begin}..{begin + size - 4}", "--words-values=skip",
+                            f"--step={page.run('replaycheck.step')}")
+    reached = [at for (at, _), text in table.items() if text.startswith("exited 0")]
+    expect(reached, "no word whose skip reaches the goal")
+    page.until("document.getElementById('sweep-told').textContent.includes('of the run with 1 edit')", 10)
+    told = f"{len(reached)} of them reach{'es' if len(reached) == 1 else ''} the goal “exited 0”. "
+    expect(told in page.text("sweep-told"), f"it says {page.text('sweep-told')!r}, not {told!r}")
+    same("the first row of the legend", page.run("document.querySelector('#legend-rows .first').textContent"),
+         f"patch 0x{min(reached):08x} 0x00000013")
+    told = f"{len(reached)} of {len(table)} skipped instructions of verify reach"
+    expect(page.text("counted").startswith(told), f"it says {page.text('counted')!r}, not {told!r}")
+
+
+def picture_stopped(bench):
+    """A long sweep stops when it is told to, and the page answers."""
+    with bench.page() as page:
+        bench.give(page, {"program": (TOP / "examples/firmware/station.elf").read_bytes(), "input": bytes(4000)})
+        bench.settle(page)
+        page.click_on("#sweep")
+        page.until("replaycheck.sweeps.sweep?.swept.edits > 0")
+        page.click_on("#stop")
+        page.until("document.getElementById('stop').disabled", 3)
+        edits = page.run("replaycheck.sweeps.sweep.swept.edits")
+        expect(0 < edits < 4000 * 255 and "stopped after" in page.text("sweep-told"), f"{edits} edits: {page.text('sweep-told')}")
+        page.run("replaycheck.use('input 1 8')")
+        bench.settle(page)
+        same("edits after the stop", page.run("replaycheck.sweeps.sweep.swept.edits"), edits)
+
+
+def too_many(bench):
+    """More edits than the page holds, and a sweep of nothing, are refused in words."""
+    with bench.page() as page:
+        bench.give(page, {"program": (TOP / "examples/firmware/station.elf").read_bytes(), "input": bytes(20000)})
+        bench.settle(page)
+        page.click_on("#sweep")
+        expect("5,100,000 edits" in page.text("notice"), f"it says {page.text('notice')!r}")
+        bench.give(page, {"program": (TOP / "examples/use-after-free.elf").read_bytes()})
+        bench.settle(page)
+        page.click_on("#sweep")
+        expect("nothing to sweep" in page.text("notice"), f"it says {page.text('notice')!r}")
