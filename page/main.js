@@ -1,33 +1,33 @@
 // The page: holds the scenario and the step, asks sessions for reports, and has the parts of the page show them.
-import { inBatches } from './batches.js';
-import { regionAdvice } from './boards.js';
-import { Bytes } from './bytes.js';
-import { Code } from './code.js';
-import { $, element, say } from './dom.js';
-import { Edits } from './edits.js';
-import { Elf } from './elf.js';
+import { $, element, say } from './common/dom.js';
+import { grouped, hexByte, hexWord, many } from './common/numbers.js';
+import { Roving } from './common/roving.js';
+import { Elf } from './debuginfo/elf.js';
+import { inBatches } from './engine/batches.js';
+import { History } from './engine/history.js';
+import { parseMemory } from './engine/looks.js';
+import { parseReport } from './engine/report.js';
+import { loadModule, makeWorker } from './engine/resources.js';
+import { NoEdit } from './engine/scenario.js';
+import { meetsRegion, notLoaded, sentence } from './engine/sentences.js';
+import { Refused } from './engine/sessions.js';
+import { isSameTarget, targetIn, targetLines } from './engine/targets.js';
 import { ERROR_KINDS, LAST_STEP, LEAK_KINDS, MODULE_SUM } from './facts.js';
-import { History } from './history.js';
-import { unitOf } from './isa.js';
-import { parseMemory } from './looks.js';
-import { Machine } from './machine.js';
-import { grouped, hexByte, hexWord, many } from './numbers.js';
-import { Opened } from './opened.js';
-import { Opening } from './opening.js';
-import { loadModule, makeWorker } from './resources.js';
-import { parseReport } from './report.js';
-import { Reports } from './reports.js';
-import { Roving } from './roving.js';
-import { NoEdit } from './scenario.js';
-import { meetsRegion, notLoaded, sentence } from './sentences.js';
-import { Refused } from './sessions.js';
-import { Source } from './source.js';
-import { Search, Steps } from './steps.js';
-import { Strip } from './strip.js';
-import { SweepPart } from './sweep-part.js';
-import { isSameTarget, targetIn, targetLines } from './targets.js';
-import { Stale, VariablesPart } from './variables-part.js';
-import { Verdict } from './verdict.js';
+import { regionAdvice } from './files/boards.js';
+import { Opened } from './files/opened.js';
+import { Opening } from './files/opening.js';
+import { Bytes } from './panels/bytes.js';
+import { Code } from './panels/code.js';
+import { Edits } from './panels/edits.js';
+import { Machine } from './panels/machine.js';
+import { ReportPanel } from './panels/report-panel.js';
+import { SourcePanel } from './panels/source-panel.js';
+import { Stale, VariablesPanel } from './panels/variables-panel.js';
+import { Verdict } from './panels/verdict.js';
+import { unitOf } from './riscv/isa.js';
+import { Search, Steps } from './run/steps.js';
+import { Strip } from './run/strip.js';
+import { SweepPanel } from './sweep/sweep-panel.js';
 
 const words = new URLSearchParams(location.search);
 const LIMIT = Number(words.get('memory')) || 1 << 30;  // bytes that a session may take
@@ -53,18 +53,18 @@ class App {
   /** @type {?Opened} */ opened = null;
   /** @type {?History} */ history = null;
   sources = new Map();
-  /** @type {Source} */ source;
+  /** @type {SourcePanel} */ source;
   /** @type {Opening} */ opening;
   /** @type {Bytes} */ bytes;
   /** @type {Code} */ code;
   /** @type {Machine} */ machine;
-  /** @type {VariablesPart} */ variables;
-  /** @type {Reports} */ reports;
+  /** @type {VariablesPanel} */ variables;
+  /** @type {ReportPanel} */ reports;
   /** @type {Verdict} */ verdict;
   /** @type {Steps} */ steps;
   /** @type {Strip} */ strip;
   /** @type {Edits} */ edits;
-  /** @type {SweepPart} */ sweeps;
+  /** @type {SweepPanel} */ sweeps;
   wanted;
   /** @type {?Opened} */ judged;
   scenario;
@@ -80,7 +80,7 @@ class App {
     const edit = (scenario, series) => this.edit(scenario, series);
     const refuse = (text, how) => this.notice(text, how);
     const make = (...edit) => this.make(...edit);
-    this.source = new Source({ visit: (address) => this.code.visit(address), refuse });
+    this.source = new SourcePanel({ visit: (address) => this.code.visit(address), refuse });
     this.opening = new Opening({ open: (files, how) => this.open(files, how), refuse, source: this.source });
     this.bytes = new Bytes({ edit, tell: (at) => this.byteTold(at), moved: () => this.sweeps?.picture.draw() });
     const alter = (line) => this.edit(this.scenario.after(line));
@@ -90,8 +90,8 @@ class App {
       go: (step) => this.go(step), showPc: (pc, step) => this.showPlace(pc, step), visit: (address) => this.code.visit(address),
       functionAt: (address) => this.opened.elf.functionAt(address), lineOf: (address) => this.opened.lineOf(address),
       rests: () => this.showVariables() });
-    this.variables = new VariablesPart({ show: (address) => this.machine.choose(address, address), fail: (fault) => this.unread(fault) });
-    this.reports = new Reports({ lineOf: (address) => this.opened.lineOf(address), visit: (address) => this.code.visit(address),
+    this.variables = new VariablesPanel({ show: (address) => this.machine.choose(address, address), fail: (fault) => this.unread(fault) });
+    this.reports = new ReportPanel({ lineOf: (address) => this.opened.lineOf(address), visit: (address) => this.code.visit(address),
       suppress: (text) => this.edit(this.scenario.withSuppression(text)), kinds: { errors: ERROR_KINDS, leaks: LEAK_KINDS } });
     const showPicture = () => { $('picture').scrollIntoView({ block: 'center' }); $('picture').focus({ preventScroll: true }); };
     this.verdict = new Verdict({ lineOf: (address) => this.opened.lineOf(address), isa: () => this.opened.isa, go: (step) => this.go(step),
@@ -105,7 +105,7 @@ class App {
     const state = () => ({ program: this.opened.program, lineOf: this.opened.lineOf, scenario: this.scenario, step: this.step,
       plain: this.opened.plain, range: this.code.range, name: this.code.shown?.name,
       instructionsIn: (...ends) => this.code.instructionsIn(...ends), isEnd: this.step === this.opened.follow });
-    this.sweeps = new SweepPart({ state, make, refuse, fail: (fault) => this.notice(sentence(fault, LIMIT)),
+    this.sweeps = new SweepPanel({ state, make, refuse, fail: (fault) => this.notice(sentence(fault, LIMIT)),
       told: () => this.showCounts(), makeWorker, workers: WORKERS, ends: (count) => this.bytes.ends(count),
       pointed: (at) => this.bytes.point(at) });
     for (const it of ROVING) new Roving(...it);

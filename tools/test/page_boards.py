@@ -68,7 +68,7 @@ def board_files(bench):
         bench.settle(page)
         same("a name with markup", page.text("board-command"), f"replaycheck adopt '{hostile}' -o adopted.elf")
         same("elements of it", page.run("document.querySelectorAll('#board-told img').length"), 0)
-        names = page.run("""import('./boards.js').then(({ typed }) => ['a.elf', "it's", '-o', '$(reboot).elf'].map(typed))""")
+        names = page.run("""import('./files/boards.js').then(({ typed }) => ['a.elf', "it's", '-o', '$(reboot).elf'].map(typed))""")
         same("names as a shell takes them", names, ["a.elf", "'it'\\''s'", "'./-o'", "'$(reboot).elf'"])
 
 
@@ -97,7 +97,7 @@ def fitting_on(page, data):
     """Where the page would have heap and stack for a file, for each of some regions that are chosen."""
     text, chosen = base64.b64encode(data).decode(), [{"isa": "rv32im", "heap": it.heap, "stack": it.stack} for it in CHOSEN]
     return page.run(f"""(async () => {{
-      const [{{ Elf }}, {{ fitting }}] = await Promise.all([import('./elf.js'), import('./boards.js')]);
+      const [{{ Elf }}, {{ fitting }}] = await Promise.all([import('./debuginfo/elf.js'), import('./files/boards.js')]);
       const elf = new Elf(Uint8Array.from(atob('{text}'), (it) => it.charCodeAt(0)));
       return {json.dumps(chosen)}.map((it) => fitting(elf, it)).map((it) => it && [it.heap, ...it.stack]); }})()""")
 

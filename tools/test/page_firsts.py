@@ -251,7 +251,7 @@ def colours(bench):
     for label, one, other, are in MEASURED:
         same(label, apart(one, other) >= LEAST_APART, are)
     with bench.page() as page:
-        told, kinds = page.run("import('./colours.js').then(({ COLOURS, KINDS }) => [COLOURS, KINDS])")
+        told, kinds = page.run("import('./sweep/colours.js').then(({ COLOURS, KINDS }) => [COLOURS, KINDS])")
     same("kinds", set(kinds), {begin for begin, _ in BADNESS})
     expect(set(kinds.values()) <= set(told), f"no colour of {set(kinds.values()) - set(told)}")
     for dark in (0, 1):

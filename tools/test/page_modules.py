@@ -21,6 +21,7 @@ def answered(script: str) -> Any:
     with tempfile.TemporaryDirectory() as name:
         folder = pathlib.Path(name)
         for module, text in {**modules_of(b""), "asked.js": script, "package.json": '{"type": "module"}'}.items():
+            (folder / module).parent.mkdir(parents=True, exist_ok=True)
             (folder / module).write_text(text)
         done = subprocess.run([NODE, "asked.js"], cwd=folder, capture_output=True, text=True)
     if done.returncode:

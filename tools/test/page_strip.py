@@ -391,7 +391,7 @@ def strip_by_pointer(bench):
     """A click goes to the step of what is there, a drag moves, Ctrl and the wheel zoom at the pointer; two fingers zoom, one moves."""
     with bench.open() as page:
         left, top, wide = placed(page)
-        place = page.run("import('./strip-drawing.js').then(({ LANE, ROW }) => [LANE, ROW])")
+        place = page.run("import('./run/strip-drawing.js').then(({ LANE, ROW }) => [LANE, ROW])")
 
         def at(step, row):
             begin, end = page.run(VIEW)
@@ -448,7 +448,7 @@ def strip_by_pointer(bench):
 def strip_looks(bench):
     """Names are read on each tone in light and in dark; a function has one tone; the strip is as wide as the page and no wider."""
     with bench.page() as page:
-        tones = page.run("import('./colours.js').then(({ TONES }) => TONES)")
+        tones = page.run("import('./sweep/colours.js').then(({ TONES }) => TONES)")
         ink = [page.run("getComputedStyle(document.body).getPropertyValue('--ink')")]
     with bench.page(dark=True) as page:
         ink.append(page.run("getComputedStyle(document.body).getPropertyValue('--ink')"))
@@ -459,9 +459,9 @@ def strip_looks(bench):
         with bench.open(width=width, dark=dark) as page:
             edited(bench, page, ["goto 300", "input 1 8"], 2)
             same(f"the width at {width}", page.run("document.documentElement.scrollWidth"), width)
-            inked = page.run("""import('./colours.js').then(async ({ toneOf }) => {
+            inked = page.run("""import('./sweep/colours.js').then(async ({ toneOf }) => {
               replaycheck.strip.renew();
-              const { strip } = replaycheck, { topOf, LANE, ROW } = await import('./strip-drawing.js'), { on, scale } = strip.drawing;
+              const { strip } = replaycheck, { topOf, LANE, ROW } = await import('./run/strip-drawing.js'), { on, scale } = strip.drawing;
               const below = (index) => scale * (topOf(index, strip.rows) + LANE + 1.5 * ROW + 6);
               const at = (index) => [...on.getImageData(strip.canvas.width / 4, below(index), 1, 1).data];
               return [toneOf('main', matchMedia('(prefers-color-scheme: dark)').matches), at(0).slice(0, 3), at(1).slice(0, 3)]; })""")

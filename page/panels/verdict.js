@@ -1,0 +1,99 @@
+// The line at the top: how the run ends, how many edits break it, whether uninitialised memory has an influence, and the unedited run.
+import { $, say } from '../common/dom.js';
+import { grouped, hexWord, many, milliseconds } from '../common/numbers.js';
+import { stateOf } from '../engine/report.js';
+import { hasAtomics, nameOf, unitOf } from '../riscv/isa.js';
+
+const STATES = {
+  jump: () => 'jumped to where no memory is', break: () => 'met an EBREAK', illegal: (isa) => `met no instruction of ${nameOf(isa)}`,
+  misaligned: (isa, address) => (hasAtomics(isa) && address % unitOf(isa) === 0
+    ? 'met an atomic instruction whose address is no multiple of 4' : `jumped to an address that is no multiple of ${unitOf(isa)}`),
+};
+const CLEAN = /^clean (up )?to step \d+: /, FIRST_USE = /^not clean: first use at step (\d+): /;
+
+function stateWords({ name, rest, address }, isa) {
+  if (name === 'exited') return `exited with ${rest}`;
+  if (name === 'running') return `running at ${rest}`;
+  return `stopped: ${STATES[rest.split(' ')[0]]?.(isa, address) ?? rest}, at ${hexWord(address)}`;
+}
+
+export class Verdict {
+  lineOf;
+  isa;
+  use = null;
+  before;
+
+  // `lineOf` tells the source line of an address; `isa` for which instruction set the run is; `showPicture` and `go` go to the picture
+  // and to a step; `certify` has the program asked whether uninitialised memory has an influence.
+  constructor({ lineOf, isa, showPicture, go, certify }) {
+    this.lineOf = lineOf;
+    this.isa = isa;
+    $('counted').addEventListener('click', showPicture);
+    $('certified').addEventListener('click', () => (this.use === null ? certify() : go(this.use)));
+  }
+
+  // Shows how a run stands beside the unedited one; `fresh` are the errors and leaks that only it has, `isLast` says whether nothing
+  // comes after.
+  show(report, unedited, { fresh, time, isLast }) {
+    const [now, before] = [report, unedited].map((it) => this.inShort(it));
+    this.before = before === now ? '' : `unedited: ${before}`;
+    const told = fresh.length === 1 ? `new: ${fresh[0].group.text}` : fresh.length ? `${grouped(fresh.length)} new` : '';
+    say('verdict', [now, told].filter(Boolean).join(' · '));
+    $('verdict').className = this.howGood(report, unedited, isLast);
+    $('verdict').title = `answered in ${milliseconds(time)}`;
+  }
+
+  // Shows how many edits break the run, and the same of the unedited one.
+  count(now, before) {
+    say('counted', now);
+    $('counted').hidden = !now;
+    say('before', [this.before, this.before && before].filter(Boolean).join(' · '));
+  }
+
+  // Shows whether memory that isn't initialised has an influence, by the program's line about it, which is empty until it is there.
+  certify(line) {
+    const [, step] = FIRST_USE.exec(line) ?? [];
+    this.use = step === undefined ? null : Number(step);
+    const [isClean, goesOn] = CLEAN.exec(line) ?? [];
+    const told = isClean ? `uninitialised memory has no influence on it${goesOn ? ' up to here; the run goes on' : ''}`
+      : this.use === null ? '' : `from step ${grouped(this.use)} on, what uninitialised or freed memory holds may change it`;
+    this.sayCertified(told, this.use !== null, line);
+  }
+
+  // Offers to ask for that, where it isn't asked by itself, and says that it is being asked.
+  offer() { this.sayCertified('does uninitialised memory matter?', true, 'asks the program, which may need some seconds'); }
+  wait() { this.sayCertified('asking whether uninitialised memory matters', false, ''); }
+
+  sayCertified(told, isButton, title) {
+    say('certified', told);
+    Object.assign($('certified'), { hidden: !told, disabled: !isButton, title });
+  }
+
+  // Shows that there is no report.
+  clear(text) {
+    say('verdict', text);
+    Object.assign($('verdict'), { className: '', title: '' });
+    this.before = '';
+    this.count('', '');
+    this.certify('');
+  }
+
+  // A run that goes on where it should have ended is no good one, whatever it has reported so far.
+  howGood(report, unedited, isLast) {
+    const [now, before] = [report, unedited].map((it) => stateOf(it).name);
+    if (report.errors || report.sums['definitely lost'].bytes || now === 'stopped') return 'bad';
+    return now === 'running' && (isLast || before !== 'running') ? 'open' : 'good';
+  }
+
+  // How the run stands, in one line.
+  inShort(report) {
+    const state = stateOf(report), line = state.address === null ? null : this.lineOf(state.address);
+    const lost = report.sums['definitely lost'].bytes;
+    const words = [
+      stateWords(state, this.isa()) + (line ? ` (${line})` : ''),
+      report.errors ? `${many(report.errors, 'error')} in ${many(report.contexts, 'place')}` : 'no errors',
+      lost ? `${many(lost, 'byte')} lost` : '',
+    ];
+    return words.filter(Boolean).join(' · ');
+  }
+}
