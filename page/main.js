@@ -1,5 +1,5 @@
 // The page: holds the scenario and the step, asks sessions for reports, and has the parts of the page show them.
-import { $, element, say } from './common/dom.js';
+import { $, $button, $input, element, say } from './common/dom.js';
 import { grouped, hexByte, hexWord, many } from './common/numbers.js';
 import { Roving } from './common/roving.js';
 import { Elf } from './debuginfo/elf.js';
@@ -42,6 +42,9 @@ const ROVING = [['examples', 'nav'], ['landmarks', 'div'], ['legend-rows'], ['ch
   ['block-rows']];
 const CHANGES_NOTHING = /^(?:#.*|report|worked|)$/;  // lines of a text that are no edits
 const BEYOND_STEPS = 5;  // the number with which a session refuses a step
+
+// Whether text is typed into an element, which has undo of its own.
+const isText = (it) => it instanceof HTMLTextAreaElement || (it instanceof HTMLInputElement && !/^(?:range|checkbox)$/.test(it.type));
 
 // The program's module can't be loaded, in words.
 class NotLoaded extends Error {}
@@ -121,9 +124,8 @@ class App {
     addEventListener('hashchange', () => this.opening.follow(location.hash));
     addEventListener('pagehide', () => this.keep());
     addEventListener('keydown', (event) => {
-      const isText = /^(?:INPUT|TEXTAREA)$/.test(event.target.tagName) && !/^(?:range|checkbox)$/.test(event.target.type);
       const key = event.key.toLowerCase();
-      if (!(event.ctrlKey || event.metaKey) || isText || (key !== 'z' && key !== 'y')) return;
+      if (!(event.ctrlKey || event.metaKey) || isText(event.target) || (key !== 'z' && key !== 'y')) return;
       this.travel(key === 'y' || event.shiftKey ? 1 : -1);
       event.preventDefault();
     });
@@ -172,7 +174,7 @@ class App {
     } catch (fault) {
       if (wanted !== this.wanted) return null;
       if (fault instanceof NotLoaded) this.unusable(fault.message);
-      else this.unusable(sentence(fault, LIMIT), meetsRegion(fault) ? this.elsewhere(files, how) : {});
+      else this.unusable(sentence(fault, LIMIT), meetsRegion(fault) ? this.elsewhere(files, how) : undefined);
     }
     return null;
   }
@@ -185,7 +187,7 @@ class App {
     return { more: text, offered: [...(button ? [button, ' '] : []), more] };
   }
 
-  unusable(text, { more = '', offered } = {}) {
+  unusable(text, { more, offered } = { more: '', offered: [] }) {
     this.judged?.close();
     this.judged = null;
     if (!this.opened) this.failed();
@@ -263,7 +265,7 @@ class App {
     this.step = follow;
     this.left = 0;
     say('example-told', this.opening.example?.about ?? '');
-    if (this.opening.example) $('goal').value = this.opening.example.goal ?? '';
+    if (this.opening.example) $input('goal').value = this.opening.example.goal ?? '';
     say('heap-told', opened.heap);
     this.showBoard();
     this.showParts(true);
@@ -334,8 +336,8 @@ class App {
   }
 
   showTravel() {
-    $('undo').disabled = !this.history?.canUndo;
-    $('redo').disabled = !this.history?.canRedo;
+    $button('undo').disabled = !this.history?.canUndo;
+    $button('redo').disabled = !this.history?.canRedo;
   }
 
   // Goes back or on in the history, in which other files may have been open.

@@ -6,7 +6,7 @@ const ALONG = { ArrowLeft: -1, ArrowRight: 1 }, ACROSS = { ArrowUp: -1, ArrowDow
 const isText = (it) => it.tagName === 'INPUT' && it.type !== 'checkbox';
 
 export class Roving {
-  part;
+  /** @type {HTMLElement} */ part;
   row;
   place = 0;
   held = null;
@@ -21,7 +21,7 @@ export class Roving {
     this.renew();
   }
 
-  get things() { return [...this.part.querySelectorAll(THINGS)]; }
+  get things() { return [.../** @type {NodeListOf<HTMLElement>} */ (this.part.querySelectorAll(THINGS))]; }
 
   // The stop among things that were made anew, or that can be used now: what has the focus, or had it, or is where it was.
   renew() {

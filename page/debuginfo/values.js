@@ -132,8 +132,9 @@ export class Values {
     else await this.dimension(counts, { element, size }, content, { offset, depth, nested });
   }
 
-  async dimension([count, ...more], it, content, where) {
-    const { element, size } = it, { offset, depth, nested } = where, isInner = !more.length, target = plain(element);
+  async dimension(counts, it, content, where) {
+    const [count, ...more] = counts, { element, size } = it, { offset, depth, nested } = where;
+    const isInner = !more.length, target = plain(element);
     const letters = isInner && isLetter(target) ? await content.bytes(offset, Math.min(count, MOST_ELEMENTS + 1)) : [];
     if (letters.length && !letters.some((it) => it.isLost)) {
       this.letters(letters);

@@ -214,6 +214,9 @@ function allIn(entries) {
   return found;
 }
 
+// Where a value needs neither registers nor memory.
+const NO_MACHINE = { registers: [], read: null };
+
 const originOf = (entry) => entry.unit.reference(entry, AT.origin);
 
 function isVariable(entry) {
@@ -224,7 +227,10 @@ function isVariable(entry) {
 function constantOf({ unit, field }, type, elf) {
   const size = sizeOf(type);
   if (!size || size > 8) throw new Elsewhere();
-  if (isBlock(field)) return new Content(elf, [{ kind: 'bytes', begin: field.value.at, size: field.value.length, length: Infinity }], {});
+  if (isBlock(field)) {
+    const { at, length } = field.value;
+    return new Content(elf, [{ kind: 'bytes', begin: at, size: length, length: Infinity }], NO_MACHINE);
+  }
   const value = typeof field.value === 'number' && Number.isSafeInteger(field.value) ? BigInt.asUintN(64, BigInt(field.value)) : null;
   if (value === null) throw new Elsewhere();
   const bytes = Array.from({ length: 8 }, (_, i) => ({ value: Number(value >> BigInt(8 * i) & 255n), undef: 0 }));

@@ -16,8 +16,8 @@ export class Run {
   opened = [];
   given = null;
   said = '';
-  exports;
-  start;
+  /** @type {{ memory: WebAssembly.Memory, allow: (bytes: number) => void, run: () => number }} */ exports;
+  /** @type {() => any} */ start;
 
   // `ask` gives the next bytes of standard input, null at its end, or a promise of either where `waits`; `tell` takes what is
   // written to standard output, and must copy what it keeps.
@@ -28,12 +28,12 @@ export class Run {
     this.tell = tell;
     const read = (file, at, most) => this.read(file, at, most);
     const page = {
-      read: waits ? new WebAssembly.Suspending(read) : read,
+      read: waits ? /** @type {any} */ (new WebAssembly.Suspending(read)) : read,
       write: (file, at, length) => this.write(file, at, length),
       open: (path) => this.open(path),
       word: (index, at, most) => this.word(index, at, most),
     };
-    this.exports = new WebAssembly.Instance(module, { page }).exports;
+    this.exports = /** @type {any} */ (new WebAssembly.Instance(module, { page })).exports;
     this.exports.allow(limit);
     this.start = waits ? WebAssembly.promising(this.exports.run) : this.exports.run;
   }

@@ -120,7 +120,7 @@ export class Scenario {
 
   // The same edits over another input, over other suppressions where these aren't the same, for an instruction set whose instructions
   // are at multiples of a unit, and where other memory is loaded: those that fit, and how many don't.
-  over(base, areSame, unit = HALF, loaded = () => 0) {
+  over(base, areSame, unit = HALF, loaded = (_at, _length) => 0) {
     const changes = new Map([...this.changes].filter(([at, value]) => at < base.length - this.cut && value !== base[at]));
     const beyond = [...this.changes.keys()].filter((at) => at >= base.length - this.cut).length;
     const cut = Math.min(this.cut, base.length), switched = areSame ? this.switched : new Map();

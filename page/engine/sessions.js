@@ -21,7 +21,7 @@ export class Ended extends Error {
   status;
   said;
 
-  constructor({ status, said, text }) {
+  constructor({ status = undefined, said = undefined, text }) {
     super(said || text);
     this.status = status;
     this.said = said;

@@ -13,9 +13,20 @@ const PARTS = { isa: 'isa', 'heap-region': 'heap', 'stack-region': 'stack' };
 const LINE = /^#(?: --(?:isa|heap-region|stack-region) \S+)+$/m;
 
 export const heapOf = ({ heap }) => [heap, heap + HEAP_SIZE];
+
+/**
+ * Whether two ranges of addresses, each its begin and its end, have one in common.
+ * @param {number[]} one
+ * @param {number[]} other
+ */
 export const meets = ([begin, end], [low, high]) => Math.max(begin, low) < Math.min(end, high);
+
 export const stackText = (stack) => stack.map(hexWord).join('..');
-// The addresses of a region in a sentence.
+
+/**
+ * The addresses of a region in a sentence.
+ * @param {number[]} region
+ */
 const inWords = ([begin, end]) => `${hexWord(begin)} to ${hexWord(end - 1)}`;
 export const regionsInWords = (target) => `The heap has ${inWords(heapOf(target))}, and the stack ${inWords(target.stack)}.`;
 
@@ -60,8 +71,11 @@ export function targetOf({ isa = USUAL, heap = '', stack = '' }) {
 
 // The same of a text of a scenario, null where it doesn't say for which target it is.
 export function targetIn(text) {
-  const [line] = LINE.exec(text) ?? [], options = line?.split(' --').slice(1).map((it) => it.split(' '));
-  return options ? targetBy(new Map(options)) : null;
+  const [line] = LINE.exec(text) ?? [];
+  if (!line) return null;
+  const options = new Map();
+  for (const it of line.split(' --').slice(1)) options.set(it.split(' ')[0], it.split(' ')[1]);
+  return targetBy(options);
 }
 
 // The same of options by their names; those that are left out are the usual ones.

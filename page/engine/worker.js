@@ -125,7 +125,7 @@ function sweep({ id, module, files, target, limit, words }) {
   let last = performance.now();
   const post = () => {
     const part = table.take();
-    postMessage({ id, part }, [part.edits.buffer]);
+    postMessage({ id, part }, { transfer: [part.edits.buffer] });
     last = performance.now();
   };
   const tell = (bytes) => {

@@ -12,6 +12,8 @@ const PLAIN = /^[\w+.][\w+.-]*$/;
 // The low seven bits of instructions: atomic ones, those of control registers and the like, fences, floating point.
 const ATOMIC = 0x2f, SYSTEM = 0x73, FENCE = 0x0f, FLOATING = [0x07, 0x27, 0x43, 0x47, 0x4b, 0x4f, 0x53];
 const RETURNS = [0x30200073, 0x10200073];  // mret, sret
+// What is known of devices: their addresses, and their names.
+const KNOWN_DEVICES = DEVICES.map(([first, size, name]) => ({ begin: Number(first), end: Number(first) + Number(size), name: `${name}` }));
 const NOTE = /^Address (0x[0-9a-f]{8}) is not stack'd/;
 
 // A file's name as a shell takes it.
@@ -48,8 +50,8 @@ function ofIllegal(elf, target, name, address) {
 function deviceOf(report) {
   for (const { note } of report.groups) {
     const address = Number(NOTE.exec(note ?? '')?.[1] ?? NaN);
-    const found = DEVICES.find(([first, size]) => first <= address && address < first + size);
-    if (found) return { address, name: found[2] };
+    const found = KNOWN_DEVICES.find(({ begin, end }) => begin <= address && address < end);
+    if (found) return { address, name: found.name };
   }
   return null;
 }
@@ -82,7 +84,7 @@ export function boardAdvice({ elf, target, name }, report) {
 export function fitting(elf, target) {
   const loads = elf.segments.filter((it) => it.size), rangeOf = (it) => [it.address, it.address + it.size];
   const taken = [...loads.map(rangeOf), ...elf.segments.filter((it) => it.inFile).map((it) => [it.physical, it.physical + it.inFile]),
-    ...DEVICES.map(([first, size]) => [first, first + size])];
+    ...KNOWN_DEVICES.map(({ begin, end }) => [begin, end])];
   const isFree = (range, others) => !others.some((it) => meets(range, it));
   const isUsual = stackText(target.stack) === stackText(USUAL_TARGET.stack);
   const isStackMet = loads.some((it) => meets(rangeOf(it), target.stack) && (isUsual || !hasRoom(it, target.stack)));

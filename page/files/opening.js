@@ -175,7 +175,7 @@ export class Opening {
     return !told;
   }
 
-  async begin(files, { lines, example = null, target }) {
+  async begin(files, { lines = undefined, example = null, target = undefined }) {
     if (example) this.wanted = null;
     const isWanted = this.wanted && files[this.wanted.last];
     const used = lines ?? (isWanted ? this.wanted.lines : undefined);
@@ -198,7 +198,7 @@ export class Opening {
     this.target = target;
     this.isForgotten = false;
     this.targetPanel.show(target);
-    for (const it of $('examples').children) it.setAttribute('aria-pressed', it.textContent === example?.name);
+    for (const it of $('examples').children) it.setAttribute('aria-pressed', `${it.textContent === example?.name}`);
   }
 
   // ---- links

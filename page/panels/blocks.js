@@ -1,5 +1,5 @@
 // The blocks of the heap at the step that is shown: a map of them in the order of their addresses, one of them in words, and a list.
-import { $, element, say } from '../common/dom.js';
+import { $, $canvas, $details, element, focusHeld, heldName, isTouch, say } from '../common/dom.js';
 import { grouped, hexWord, many } from '../common/numbers.js';
 import { BlockMap, TALL } from './blockmap.js';
 
@@ -45,7 +45,7 @@ export function changedBlocks(before, now) {
 export class Blocks {
   callerOf;
   showMemory;
-  canvas = $('blocks');
+  canvas = $canvas('blocks');
   blocks = [];
   isWhole = true;
   changed = new Map();
@@ -61,7 +61,7 @@ export class Blocks {
     this.canvas.addEventListener('pointermove', (event) => this.point(event));
     this.canvas.addEventListener('click', (event) => {
       this.point(event);
-      if (event.pointerType !== 'touch') this.choose();
+      if (!isTouch(event)) this.choose();
     });
     this.canvas.addEventListener('keydown', (event) => this.key(event));
     for (const it of ['focus', 'blur']) this.canvas.addEventListener(it, () => this.draw());
@@ -224,11 +224,11 @@ export class Blocks {
   // Lists the blocks around the one that is picked, if the list is open.
   list() {
     const { blocks, picked } = this;
-    if (!$('block-list').open) return;
+    if (!$details('block-list').open) return;
     const first = Math.max(0, Math.min(picked - LISTED / 2, blocks.length - LISTED)), listed = blocks.slice(first, first + LISTED);
-    const focused = document.activeElement?.dataset?.held;
+    const held = heldName();
     $('block-rows').replaceChildren(...listed.map((it, i) => this.row(it, first + i)));
-    if (focused) $('block-rows').querySelector(`[data-held="${focused}"]`)?.focus();
+    focusHeld($('block-rows'), held);
     const told = `${many(listed.length, 'block')} of ${grouped(blocks.length)}, those around the one that is picked`;
     say('block-listed', blocks.length > listed.length ? told : '');
   }

@@ -1,5 +1,5 @@
 // The input as bytes that are edited in place. Only the rows in view are elements, so that long inputs scroll.
-import { $, element, say } from '../common/dom.js';
+import { $, $button, $input, element, say } from '../common/dom.js';
 import { grouped, hexByte, letter, many } from '../common/numbers.js';
 
 const BESIDE = 8;  // rows that are made above and below the view
@@ -38,7 +38,7 @@ export class Bytes {
     this.grid.addEventListener('pointerdown', (event) => this.touch(event, true));
     this.grid.addEventListener('pointermove', (event) => this.touch(event, false));
     this.grid.addEventListener('pointerleave', () => this.tellOf(this.here));
-    $('value').addEventListener('input', () => this.set(Number($('value').value)));
+    $('value').addEventListener('input', () => this.set(Number($input('value').value)));
     $('value').addEventListener('change', () => this.beginSeries());
     new ResizeObserver(() => this.fit()).observe(this.grid);
     this.beginSeries();
@@ -100,7 +100,7 @@ export class Bytes {
     this.render();
     this.fit();
     this.tellOf(this.here);
-    $('cut').disabled = !has;
+    $button('cut').disabled = !has;
     say('input-told', `${grouped(read)} of ${many(scenario.length, 'byte')} read`);
   }
 
@@ -112,7 +112,7 @@ export class Bytes {
     this.rows.style.height = `${count * tall}px`;
     this.rows.style.paddingTop = `${first * tall}px`;
     this.rows.replaceChildren(...Array.from({ length: Math.max(0, last - first) }, (_, i) => this.row(first + i)));
-    this.grid.setAttribute('aria-rowcount', count);
+    this.grid.setAttribute('aria-rowcount', `${count}`);
     if (scenario.length) this.grid.setAttribute('aria-activedescendant', `byte-${this.here}`);
     else this.grid.removeAttribute('aria-activedescendant');
   }
@@ -164,7 +164,7 @@ export class Bytes {
     }
     say('byte-told', this.tell(at));
     const value = this.scenario.byte(this.here);
-    $('value').value = value;
+    $input('value').value = `${value}`;
     say('value-label', `byte ${this.here}`);
     say('value-told', `${hexByte(value)} ${value} ‘${letter(value)}’`);
   }

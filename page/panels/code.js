@@ -1,5 +1,5 @@
 // A function's instructions, of which each can be skipped or made another word, or another half if it has 16 bits.
-import { $, element } from '../common/dom.js';
+import { $, $input, $select, element, focusHeld, focused, heldName } from '../common/dom.js';
 import { grouped, hexWord, hexadecimal, numberOf } from '../common/numbers.js';
 import { setLine, skipLine } from '../engine/scenario.js';
 import { disassembledHalf } from '../riscv/halves.js';
@@ -21,7 +21,7 @@ export class Code {
   writing = null;
   pc = null;
   step = 0;
-  rows = new Map();
+  /** @type {Map<number, HTMLTableRowElement>} */ rows = new Map();
   frame = null;
   elf;
   lineOf;
@@ -35,7 +35,7 @@ export class Code {
     this.alter = alter;
     this.refuse = refuse;
     this.shows = shows;
-    $('function').addEventListener('change', () => this.visit(Number($('function').value)));
+    $('function').addEventListener('change', () => this.visit(Number($select('function').value)));
   }
 
   // Shows `main` of a program for an instruction set, or its first function.
@@ -62,7 +62,7 @@ export class Code {
       return;
     }
     if (scrolls) $('code-part').scrollIntoView({ block: 'nearest' });
-    const row = $('code-rows').querySelector('.at');
+    const row = [...this.rows.values()].find((it) => it.classList.contains('at'));
     if (row) $('code').scrollTop = row.offsetTop - $('code').clientHeight / 2;
     this.shows(address);
   }
@@ -74,7 +74,7 @@ export class Code {
     this.at = at;
     this.writing = null;
     this.shown = found;
-    $('function').value = found.address;
+    $select('function').value = `${found.address}`;
     this.render();
     return true;
   }
@@ -115,7 +115,7 @@ export class Code {
 
   // Where the run is before a step, null where it has ended. Another step leads to the function that it is in, unless one works here.
   showPc(pc, step) {
-    const before = this.pc, isStep = step !== this.step, follows = pc !== null && isStep && $('code-follows').checked && !this.isHeld;
+    const before = this.pc, isStep = step !== this.step, follows = pc !== null && isStep && $input('code-follows').checked && !this.isHeld;
     this.pc = pc;
     this.step = step;
     const leaves = follows && !this.rows.has(pc) && this.elf.functionAt(pc)?.address !== this.shown?.address;
@@ -137,21 +137,25 @@ export class Code {
 
   render() {
     const { starts, lengths } = this.range;
-    const held = document.activeElement?.dataset?.held;
+    const held = heldName();
     this.lengths = lengths;
-    this.rows = new Map(starts.map((at) => [at, this.row(at, lengths?.get(at) ?? WORD)]).filter(([, row]) => row));
+    this.rows = new Map();
+    for (const at of starts) {
+      const row = this.row(at, lengths?.get(at) ?? WORD);
+      if (row) this.rows.set(at, row);
+    }
     $('code-rows').replaceChildren(...this.rows.values());
-    if (held) $('code-rows').querySelector(`[data-held="${held}"]`)?.focus();
+    focusHeld($('code-rows'), held);
   }
 
   // Makes the row at an address anew, if it is shown.
   renderRow(address) {
-    const row = this.rows.get(address), held = row?.contains(document.activeElement) && document.activeElement.dataset.held;
+    const row = this.rows.get(address), held = row?.contains(focused()) ? heldName() : undefined;
     if (!row) return;
     const made = this.row(address, this.lengths?.get(address) ?? WORD);
     this.rows.set(address, made);
     row.replaceWith(made);
-    if (held) made.querySelector(`[data-held="${held}"]`)?.focus();
+    focusHeld(made, held);
   }
 
   row(address, length) {
@@ -200,7 +204,7 @@ export class Code {
   write(address) {
     this.writing = address;
     this.render();
-    $('new-word')?.select();
+    if (address !== null) $input('new-word').select();
   }
 
   field(address, length) {

@@ -1,10 +1,13 @@
 // The edits that stand, as chips and as lines, and the forms that make some.
-import { $, element, say } from '../common/dom.js';
+import { $, $area, $button, $details, $input, $select, element, focused, say } from '../common/dom.js';
 import { many, numberOf } from '../common/numbers.js';
 import { OPTIONS, editsOf } from '../engine/scenario.js';
 
 const SHOWN = ['definite', 'indirect', 'possible', 'reachable'];
 const MOST_CHIPS = 200;
+
+// The boxes that choose which leaks are listed.
+const leakBoxes = () => [...$('option-form').querySelectorAll('input')].filter((it) => it.name === 'show');
 
 export class Edits {
   edit;
@@ -29,8 +32,8 @@ export class Edits {
     $('option-form').addEventListener('submit', (event) => this.submit(event, () => this.options()));
     $('append-form').addEventListener('submit', (event) => this.submit(event, () => this.append()));
     $('cut').addEventListener('click', () => this.edit(this.scenario.withCut()));
-    $('use-lines').addEventListener('click', () => this.use($('lines').value));
-    $('copy-lines').addEventListener('click', () => this.copy($('lines').value, 'The lines are copied.'));
+    $('use-lines').addEventListener('click', () => this.use($area('lines').value));
+    $('copy-lines').addEventListener('click', () => this.copy($area('lines').value, 'The lines are copied.'));
     $('copy-link').addEventListener('click', async () => this.copy(await this.link(), 'The link is copied.'));
     $('save-lines').addEventListener('click', () => this.save());
   }
@@ -41,14 +44,14 @@ export class Edits {
   }
 
   show(scenario, step) {
-    if (document.activeElement !== $('lines')) $('lines').value = this.text();
-    if (!$('mark-form').contains(document.activeElement)) $('mark-step').value = step;
+    if (document.activeElement !== $('lines')) $area('lines').value = this.text();
+    if (!$('mark-form').contains(document.activeElement)) $input('mark-step').value = `${step}`;
     if (scenario === this.scenario) return;
     this.scenario = scenario;
     const edits = editsOf(scenario);
     say('edits-told', edits.length ? many(edits.length, 'edit') : 'none');
-    $('none').disabled = !edits.length;
-    const held = [...$('chips').querySelectorAll('button')].indexOf(document.activeElement);
+    $button('none').disabled = !edits.length;
+    const held = [...$('chips').querySelectorAll('button')].findIndex((it) => it === focused());
     $('chips').replaceChildren(...edits.slice(0, MOST_CHIPS).map((it) => this.chip(it)));
     if (held >= 0) ($('chips').querySelectorAll('button')[Math.min(held, edits.length - 1)] ?? $('bytes')).focus();
     if (!$('option-form').contains(document.activeElement)) this.showOptions();
@@ -62,29 +65,29 @@ export class Edits {
 
   showOptions() {
     const value = (name) => this.scenario.options.get(name) ?? OPTIONS[name];
-    for (const name of ['redzone', 'queue', 'callers']) $(`option-${name}`).value = value(name);
+    for (const name of ['redzone', 'queue', 'callers']) $input(`option-${name}`).value = value(name);
     const kinds = value('show').split(',');
-    for (const it of $('option-form').elements.show) it.checked = kinds.includes(it.value) || kinds.includes('all');
+    for (const it of leakBoxes()) it.checked = kinds.includes(it.value) || kinds.includes('all');
   }
 
   options() {
     let scenario = this.scenario;
     for (const name of ['redzone', 'queue', 'callers']) {
-      scenario = scenario.withOption(name, $(`option-${name}`).value || OPTIONS[name]);
+      scenario = scenario.withOption(name, $input(`option-${name}`).value || OPTIONS[name]);
     }
-    const kinds = SHOWN.filter((kind) => [...$('option-form').elements.show].find((it) => it.value === kind).checked);
+    const kinds = SHOWN.filter((kind) => leakBoxes().some((it) => it.value === kind && it.checked));
     this.edit(scenario.withOption('show', kinds.length ? kinds.join(',') : 'none'));
   }
 
   mark() {
-    const text = $('mark-at').value.trim(), at = numberOf(text);
+    const text = $input('mark-at').value.trim(), at = numberOf(text);
     if (at === null) return this.refuse(`An address is a number such as 0x7fffffc7, and not “${text}”.`);
-    const [step, length] = ['mark-step', 'mark-length'].map((it) => Number($(it).value));
-    return this.edit(this.scenario.withMark({ step, at, length, kind: $('mark-kind').value }));
+    const [step, length] = ['mark-step', 'mark-length'].map((it) => Number($input(it).value));
+    return this.edit(this.scenario.withMark({ step, at, length, kind: $select('mark-kind').value }));
   }
 
   append() {
-    const text = $('append-value').value.trim(), value = numberOf(text);
+    const text = $input('append-value').value.trim(), value = numberOf(text);
     if (value === null || value > 255) return this.refuse(`A byte is a number from 0 to 255, such as 0x41, and not “${text}”.`);
     return this.edit(this.scenario.withAppended(value));
   }
@@ -94,15 +97,15 @@ export class Edits {
       await navigator.clipboard.writeText(text);
       this.tell(told);
     } catch {
-      $('lines-part').open = true;
-      $('lines').value = text;
-      $('lines').select();
+      $details('lines-part').open = true;
+      $area('lines').value = text;
+      $area('lines').select();
       this.refuse('The browser doesn’t let this page copy: the text is selected in the field, so copy it from there.');
     }
   }
 
   save() {
-    const address = URL.createObjectURL(new Blob([$('lines').value], { type: 'text/plain' }));
+    const address = URL.createObjectURL(new Blob([$area('lines').value], { type: 'text/plain' }));
     element('a', { href: address, download: 'scenario.session' }).click();
     setTimeout(() => URL.revokeObjectURL(address), 1000);
   }

@@ -124,7 +124,7 @@ export class Machine {
     if (seen.runs) say('pc', hexWord(seen.pc));
     this.registers.show(seen, step);
     this.memory.show({ at, bytes, step, runs: seen.runs });
-    $('memory-stack').setAttribute('aria-pressed', this.chosen === null);
+    $('memory-stack').setAttribute('aria-pressed', `${this.chosen === null}`);
     this.stack.show(frames);
     const { blocks: first, next } = parseBlocks(blocks);
     if (next === null) this.blocks.show({ blocks: first, isWhole: true }, step);

@@ -1,5 +1,5 @@
 // Some bytes of memory at the step that is shown, with their letters. One is picked: another one is typed over it, and it is asked for.
-import { $, element, say } from '../common/dom.js';
+import { $, $input, element, say } from '../common/dom.js';
 import { grouped, hexByte, hexWord, letter, numberOf } from '../common/numbers.js';
 import { writeLine } from '../engine/scenario.js';
 
@@ -36,7 +36,7 @@ export class Memory {
     this.choose = choose;
     $('memory-form').addEventListener('submit', (event) => {
       event.preventDefault();
-      this.goTo($('memory-at').value.trim());
+      this.goTo($input('memory-at').value.trim());
     });
     $('memory-stack').addEventListener('click', () => choose(null));
     for (const it of ['wrote', 'since']) $(`byte-${it}`).addEventListener('click', () => ask(it, { byte: this.picked }));
@@ -76,7 +76,7 @@ export class Memory {
     this.step = step;
     this.runs = runs;
     this.changed = new Set();
-    if (document.activeElement !== $('memory-at')) $('memory-at').value = hexWord(at);
+    if (document.activeElement !== $('memory-at')) $input('memory-at').value = hexWord(at);
     if ($('memory-rows').childElementCount) this.render();
     else this.build();
     this.tellPicked();

@@ -1,5 +1,5 @@
 // The registers at the step that is shown. One is picked: it is set, its bits are turned, and it is asked for.
-import { $, element, say } from '../common/dom.js';
+import { $, $button, $input, element, focused, say } from '../common/dom.js';
 import { grouped, hexWord, numberOf } from '../common/numbers.js';
 import { flipLine, setLine } from '../engine/scenario.js';
 import { REGISTERS } from '../riscv/instructions.js';
@@ -76,18 +76,19 @@ export class Registers {
     for (const it of [before, number]) this.update(it);
     this.renderPicked();
     $('register-value').focus();
-    $('register-value').select();
+    $input('register-value').select();
   }
 
   renderPicked() {
     const { runs, registers } = this.seen, { value, undef } = registers[this.picked];
     say('register-name', REGISTERS[this.picked]);
     for (const [id, number] of [['register-value', value], ['register-undef', 0]]) {
-      if (document.activeElement !== $(id)) $(id).value = hexWord(number);
+      if (document.activeElement !== $(id)) $input(id).value = hexWord(number);
     }
-    for (const it of $('register-form').elements) it.disabled = !runs;
-    $('register-wrote').disabled = false;
-    $('register-since').disabled = !undef;
+    for (const it of $('register-form').querySelectorAll('input')) it.disabled = !runs;
+    for (const it of $('register-form').querySelectorAll('button')) it.disabled = !runs;
+    $button('register-wrote').disabled = false;
+    $button('register-since').disabled = !undef;
     const groups = Array.from({ length: WORD / GROUP }, (_, i) => WORD - GROUP * (i + 1));
     if (!$('bits').childElementCount) {
       $('bits').replaceChildren(...groups.map((low) => element('span', {},
@@ -111,13 +112,13 @@ export class Registers {
   }
 
   set() {
-    const [value, undef] = ['register-value', 'register-undef'].map((it) => $(it).value.trim());
+    const [value, undef] = ['register-value', 'register-undef'].map((it) => $input(it).value.trim());
     const wrong = [value, undef].find((it) => numberOf(it) === null);
     if (wrong !== undefined) {
       this.refuse(`A register has a number such as 0x00000005, and not “${wrong}”.`);
       return;
     }
-    document.activeElement?.blur();
+    focused()?.blur();
     this.alter(setLine(this.step, `x${this.picked}`, numberOf(value), numberOf(undef)));
   }
 }

@@ -1,6 +1,6 @@
 // The source beside the code: the lines of the function where the run is, or of the one that is looked at. Its text comes from an example
 // or from files that the user gives; nothing is fetched.
-import { $, element, say } from '../common/dom.js';
+import { $, $input, element, say } from '../common/dom.js';
 import { hexWord, listed, many } from '../common/numbers.js';
 import { Elf } from '../debuginfo/elf.js';
 import { Lines, nameIn } from '../debuginfo/lines.js';
@@ -27,9 +27,10 @@ export class SourcePanel {
     this.visitCode = visit;
     this.refuse = refuse;
     for (const id of ['open-sources', 'open-folder']) {
-      $(id).addEventListener('change', async ({ target }) => {
-        const files = [...target.files];
-        target.value = '';
+      const field = $input(id);
+      field.addEventListener('change', async () => {
+        const files = [...field.files];
+        field.value = '';
         await this.choose(files);
       });
     }
@@ -165,7 +166,7 @@ export class SourcePanel {
 
   // Marks the line where the run is, and the one that is looked at, which comes into view.
   mark(place) {
-    const now = this.pc === null ? null : this.opened.lines.placeAt(this.pc), rows = [...$('source-rows').children];
+    const now = this.pc === null ? null : this.opened.lines.placeAt(this.pc), rows = [...$('source-rows').querySelectorAll('tr')];
     for (const [i, row] of rows.entries()) {
       const line = this.begin + i, isNow = now?.path === place.path && now.line === line;
       row.className = isNow ? 'now' : line === place.line ? 'at' : '';

@@ -46,14 +46,14 @@ export class Stack {
 
   // Brings rows in line with the frames: those that are as they were stay, so that none loses the focus.
   render(most) {
-    const rows = [...$('calls').children], shown = this.frames.slice(0, most);
+    const rows = [...$('calls').querySelectorAll('li')], shown = this.frames.slice(0, most);
     shown.forEach((address, index) => {
       const told = this.told(address, index), row = rows[index];
       if (row?.dataset.told === told && index) return;
       const made = this.row(address, told), hasFocus = row?.contains(document.activeElement);
       if (row) row.replaceWith(made);
       else $('calls').append(made);
-      if (hasFocus) made.firstElementChild.focus();
+      if (hasFocus) made.querySelector('button').focus();
     });
     for (const it of rows.slice(shown.length)) it.remove();
   }

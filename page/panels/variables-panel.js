@@ -1,5 +1,5 @@
 // The part of the page that shows the variables in scope where the run is, with those of the file where one asks for them.
-import { $, element, say } from '../common/dom.js';
+import { $, $details, element, say } from '../common/dom.js';
 import { hexWord } from '../common/numbers.js';
 
 const HOW = { undefined: 'undefined', inaccessible: 'inaccessible', lost: 'quiet', elsewhere: 'quiet', '': '' };
@@ -42,7 +42,7 @@ export class VariablesPanel {
     const { pc, registers, read } = this.at, isEnd = pc === null;
     try {
       const rows = isEnd ? [] : await all.at(pc, registers, read);
-      const globals = isEnd || !$('globals').open ? [] : await all.globals(pc, registers, read);
+      const globals = isEnd || !$details('globals').open ? [] : await all.globals(pc, registers, read);
       if (asked !== this.asked) return;
       this.render('variable-rows', rows);
       this.render('global-rows', globals);

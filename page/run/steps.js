@@ -1,6 +1,6 @@
 // The step slider, with the landmarks of the run: the first step at which a report has read more, has other blocks, has one
 // more error, has ended.
-import { $, element, say } from '../common/dom.js';
+import { $, $button, $input, element, say } from '../common/dom.js';
 import { grouped, many } from '../common/numbers.js';
 import { parseReport } from '../engine/report.js';
 
@@ -98,8 +98,8 @@ export class Steps {
   constructor({ go, most }) {
     this.go = go;
     this.most = most;
-    $('step').addEventListener('input', () => this.choose(Number($('step').value)));
-    $('step-number').addEventListener('change', () => this.choose(Number($('step-number').value)));
+    $('step').addEventListener('input', () => this.choose(Number($input('step').value)));
+    $('step-number').addEventListener('change', () => this.choose(Number($input('step-number').value)));
     $('step-back').addEventListener('click', () => this.choose(this.shown - 1));
     $('step-on').addEventListener('click', () => this.choose(this.shown + 1));
     $('landmark-back').addEventListener('click', () => this.jump((it) => it.step < this.shown, -1));
@@ -111,8 +111,8 @@ export class Steps {
     this.follow = follow;
     this.goesOn = false;
     this.landmarks = [];
-    $('step').max = last;
-    $('step-number').max = this.most;
+    $input('step').max = `${last}`;
+    $input('step-number').max = `${this.most}`;
     this.show(follow);
     this.draw();
   }
@@ -121,7 +121,7 @@ export class Steps {
   showEnd({ last, goesOn }) {
     this.last = last;
     this.goesOn = goesOn;
-    $('step').max = last;
+    $input('step').max = `${last}`;
     this.show(this.step);
     this.draw();
   }
@@ -140,8 +140,8 @@ export class Steps {
 
   show(step) {
     this.step = step;
-    $('step').value = this.shown;
-    if (document.activeElement !== $('step-number')) $('step-number').value = step === this.follow ? this.last : step;
+    $input('step').value = `${this.shown}`;
+    if (document.activeElement !== $('step-number')) $input('step-number').value = `${step === this.follow ? this.last : step}`;
     const end = this.goesOn ? ', still running' : ', the end';
     say('step-told', `of ${many(this.last, 'step')}${this.step === this.follow ? end : ''}`);
     $('step').setAttribute('aria-valuetext', `step ${grouped(this.shown)} of ${grouped(this.last)}`);
@@ -175,6 +175,6 @@ export class Steps {
     const counts = Object.entries(NAMES).map(([kind, name]) => [kind, name, marks.filter((it) => it.kind === kind).length]);
     $('landmark-key').replaceChildren(...counts.filter(([, , count]) => count).map(([kind, name, count]) => element('li', {},
       element('span', { className: `landmark ${kind}` }), `${name}${count > 1 ? ` (${count})` : ''}`)));
-    for (const it of ['landmark-back', 'landmark-on']) $(it).disabled = !marks.length;
+    for (const it of ['landmark-back', 'landmark-on']) $button(it).disabled = !marks.length;
   }
 }

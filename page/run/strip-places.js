@@ -28,8 +28,9 @@ export class Place {
   }
 
   // What is at the steps of a pixel: a cell, first one that begins there, or the nearest mark, if it isn't far, first one of this lane.
-  static at(run, index, row, lane, [begin, end]) {
-    const first = Math.max(0, Math.floor(begin)), last = Math.max(first + 1, Math.ceil(end)) - 1, far = REACH * (end - begin);
+  static at(run, index, row, lane, steps) {
+    const [begin, end] = steps, far = REACH * (end - begin);
+    const first = Math.max(0, Math.floor(begin)), last = Math.max(first + 1, Math.ceil(end)) - 1;
     if (row >= 0) return Place.inRow(run, index, row, [first, last]);
     const all = marksOf(run, begin - far, end + far), inLane = all.filter((it) => LANES[it.what] === lane);
     const near = inLane.length ? inLane : all, mark = nearest(near, first);

@@ -1,6 +1,6 @@
 // The run in time: a row for each depth of calls, a cell from a call to its return, marks of what happens. Beside an edited run there is
 // the unedited one, on the same steps.
-import { $, element, say } from '../common/dom.js';
+import { $, $canvas, element, say } from '../common/dom.js';
 import { many } from '../common/numbers.js';
 import { Session } from '../engine/sessions.js';
 import { Names } from './calls.js';
@@ -24,7 +24,7 @@ const DARK = matchMedia('(prefers-color-scheme: dark)');
 export class Strip {
   choose;
   explain;
-  canvas = $('strip');
+  canvas = $canvas('strip');
   view = new View();
   sessions = [];
   top = 0;

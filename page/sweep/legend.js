@@ -1,5 +1,5 @@
 // The legend of a picture: a line for each outcome, which opens to its traces, is taken out of the picture, and whose first edit is made.
-import { $, element } from '../common/dom.js';
+import { $, element, focusHeld, heldName } from '../common/dom.js';
 import { grouped } from '../common/numbers.js';
 import { editLine } from '../engine/scenario.js';
 import { inkOn } from './colours.js';
@@ -19,9 +19,9 @@ export class Legend {
   constructor({ make, changed }) {
     this.make = make;
     this.changed = changed;
-    for (const [event, is] of [['pointerover', true], ['focusin', true], ['pointerleave', false], ['focusout', false]]) {
-      $('legend-rows').addEventListener(event, ({ target }) => this.pointAt(is ? target.closest('tr')?.dataset.number : null));
-    }
+    const numberOf = (target) => (target instanceof Element ? target.closest('tr')?.dataset.number : undefined);
+    for (const it of ['pointerover', 'focusin']) $('legend-rows').addEventListener(it, ({ target }) => this.pointAt(numberOf(target)));
+    for (const it of ['pointerleave', 'focusout']) $('legend-rows').addEventListener(it, () => this.pointAt());
   }
 
   clear() {
@@ -41,12 +41,12 @@ export class Legend {
   }
 
   show(outcomes, looks) {
-    const held = document.activeElement?.dataset?.held;
+    const held = heldName();
     this.rows = outcomes.rows;
     const rows = this.rows.slice(0, MOST).map((row) => this.row(outcomes, row, looks[row.numbers[0]]));
     $('legend-rows').replaceChildren(...rows);
     $('legend').hidden = false;
-    if (held) $('legend-rows').querySelector(`[data-held="${held}"]`)?.focus();
+    focusHeld($('legend-rows'), held);
   }
 
   row(outcomes, row, look) {

@@ -1,6 +1,6 @@
 // A magnifier for a finger on the picture, whose cells are smaller than it: while it is held there, the cells around it are drawn large
 // above it. A finger makes no edit by itself, since it can't be aimed: a button makes the edit that it was lifted from.
-import { $ } from '../common/dom.js';
+import { $, $canvas, isTouch } from '../common/dom.js';
 import { COLOURS } from './colours.js';
 
 const HELD = 150;  // milliseconds after which a finger isn't about to scroll
@@ -11,7 +11,7 @@ const SLACK = 10;  // pixels that a finger moves while it is held
 
 export class Lens {
   picture;
-  canvas = $('lens');
+  canvas = $canvas('lens');
   timer = null;
   begun = null;
 
@@ -27,11 +27,10 @@ export class Lens {
 
   get isShown() { return !this.canvas.hidden; }
 
-  isTouched({ pointerType }) { return pointerType === 'touch'; }
 
   begin(event) {
-    $('picture-make').hidden = !this.isTouched(event);
-    if (!this.isTouched(event)) return;
+    $('picture-make').hidden = !isTouch(event);
+    if (!isTouch(event)) return;
     this.begun = { x: event.clientX, y: event.clientY };
     this.timer = setTimeout(() => this.show(event), HELD);
   }

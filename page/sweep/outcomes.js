@@ -22,7 +22,7 @@ function partOf(text, trace, lineOf) {
 }
 
 const foundIn = (text) => BADNESS.find(([begin]) => text.startsWith(begin));
-const badnessOf = (text) => foundIn(text)?.[1] ?? 0;
+const badnessOf = (text) => Number(foundIn(text)?.[1] ?? 0);
 
 class Outcome {
   state;
@@ -133,7 +133,7 @@ export class Outcomes {
     }
     return [...rows.values()].sort((a, b) => {
       const [one, other] = [a, b].map((it) => it.numbers[0]);
-      return (one === 0) - (other === 0) || this.badness(other) - this.badness(one) || b.edits - a.edits;
+      return Number(one === 0) - Number(other === 0) || this.badness(other) - this.badness(one) || b.edits - a.edits;
     });
   }
 

@@ -1,6 +1,6 @@
 // The picture of a sweep: a column for each place, or for several where they are many, a row for each value, a colour for each kind of
 // outcome. Its columns are below the bytes, if these are in one row.
-import { $, say } from '../common/dom.js';
+import { $, $canvas, isTouch, say } from '../common/dom.js';
 import { hexByte, hexWord, hexadecimal, many } from '../common/numbers.js';
 import { editLine } from '../engine/scenario.js';
 import { hatch, inkOn } from './colours.js';
@@ -27,7 +27,7 @@ export class Picture {
   otherRun;
   ends;
   pointed;
-  canvas = $('picture');
+  canvas = $canvas('picture');
   /** @type {Legend} */ legend;
   /** @type {Lens} */ lens;
   swept;
@@ -55,7 +55,7 @@ export class Picture {
     this.canvas.addEventListener('pointermove', (event) => this.point(event));
     this.canvas.addEventListener('click', (event) => {
       this.point(event);
-      if (!this.lens.isTouched(event)) this.choose();
+      if (!isTouch(event)) this.choose();
     });
     this.lens = new Lens(this);
     $('picture-make').addEventListener('click', () => this.choose());
@@ -192,8 +192,8 @@ export class Picture {
     on.textBaseline = 'middle';
     on.textAlign = 'right';
     for (const [row, name] of this.rowNames()) {
-      const y = (row + .5) * tall / this.rows;
-      on.fillText(name, left - 5 * scale, Math.max(7 * scale, Math.min(tall - 5 * scale, y)), left - 6 * scale);
+      const y = (Number(row) + .5) * tall / this.rows;
+      on.fillText(`${name}`, left - 5 * scale, Math.max(7 * scale, Math.min(tall - 5 * scale, y)), left - 6 * scale);
     }
     if (this.isOfBytes) on.fillText('byte', left - 5 * scale, tall + (BELOW + 2) * scale / 2, left - 6 * scale);
     on.textAlign = 'center';

@@ -1,5 +1,5 @@
 // The part of the page that tries every edit: what is asked for, how far it is, and the outcome.
-import { $, element, say } from '../common/dom.js';
+import { $, $button, $input, $progress, $select, element, say } from '../common/dom.js';
 import { grouped, hexWord, many, milliseconds, size } from '../common/numbers.js';
 import { editsOf } from '../engine/scenario.js';
 import { HALF } from '../riscv/isa.js';
@@ -74,7 +74,7 @@ export class SweepPanel {
   }
 
   offer() {
-    const options = Object.entries(VALUES[$('sweep-what').value]);
+    const options = Object.entries(VALUES[$select('sweep-what').value]);
     $('sweep-values').replaceChildren(...options.map(([value, told]) => element('option', { value }, told)));
   }
 
@@ -93,14 +93,14 @@ export class SweepPanel {
   }
 
   show(isBusy) {
-    $('stop').disabled = !isBusy;
+    $button('stop').disabled = !isBusy;
     $('sweep-done').hidden = !isBusy;
-    $('sweep-done').value = 0;
+    $progress('sweep-done').value = 0;
   }
 
   // What is asked for, null where there is nothing of that kind.
   get asked() {
-    const kind = $('sweep-what').value, values = $('sweep-values').value, { scenario, step, range, name } = this.state();
+    const kind = $select('sweep-what').value, values = $select('sweep-values').value, { scenario, step, range, name } = this.state();
     if (kind === 'bytes') return scenario.length ? { kind, values, step, first: 0, last: scenario.length - 1 } : null;
     return range && range.starts.length ? { kind, values, step, name, ...placesIn(range) } : null;
   }
@@ -109,8 +109,10 @@ export class SweepPanel {
 
   // Whether the picture is of another run than the one that is shown, or of another step of it.
   get isStale() {
-    const { of } = this, { scenario, step } = of ? this.state() : {};
-    return Boolean(of) && (of.step !== step || (of.scenario !== scenario && !isSameRun(of.scenario, scenario)));
+    const { of } = this;
+    if (!of) return false;
+    const { scenario, step } = this.state();
+    return of.step !== step || (of.scenario !== scenario && !isSameRun(of.scenario, scenario));
   }
 
   // Which run the picture is of, where that isn't just the one that is shown, as the beginning of a sentence.
@@ -177,7 +179,7 @@ export class SweepPanel {
   countedBefore(step) {
     if (this.plain?.step !== step) return '';
     const { swept, lineOf } = this.plain;
-    return counted(swept, new Outcomes(swept, lineOf, $('goal').value), { isGoing: false });
+    return counted(swept, new Outcomes(swept, lineOf, $input('goal').value), { isGoing: false });
   }
 
   get askedNow() {
@@ -204,7 +206,7 @@ export class SweepPanel {
     const sweep = this.sweep = new Sweep(program, files, asked, this.idle, () => this.goesOn(sweep));
     const word = (at) => scenario.valueAt(at, lengthAt(asked, at), program.loaded) ?? 0;
     this.of = { asked, scenario, step, isEnd, left };
-    this.picture.begin(sweep.swept, asked.kind === 'bytes' ? (at) => scenario.byte(at) : word, lineOf, $('goal').value);
+    this.picture.begin(sweep.swept, asked.kind === 'bytes' ? (at) => scenario.byte(at) : word, lineOf, $input('goal').value);
     this.showOf();
     this.show(true);
     this.told();
@@ -221,7 +223,7 @@ export class SweepPanel {
   goesOn(sweep) {
     if (sweep !== this.sweep) return;
     this.picture.more();
-    $('sweep-done').value = sweep.swept.edits / this.most;
+    $progress('sweep-done').value = sweep.swept.edits / this.most;
     if (!sweep.isStopped) say('sweep-told', `${grouped(sweep.swept.edits)} of ${many(this.most, 'edit')}`);
     this.told();
   }
@@ -255,7 +257,7 @@ export class SweepPanel {
   // Another goal: the edits that are made stay, and what is said of them changes.
   showGoal() {
     if (!this.of) return;
-    this.picture.seek($('goal').value);
+    this.picture.seek($input('goal').value);
     if (this.ended?.swept === this.picture.swept) this.tellEnd();
     this.told();
   }

@@ -16,7 +16,7 @@ export const mostEditsOf = (asked) => (asked.code && asked.values === 'flips'
 const stride = ({ kind }) => (kind === 'bytes' ? 1 : WORD);
 export const indexOf = (asked, at) => (asked.code ? asked.code.get(at)?.index ?? 0 : (at - asked.first) / stride(asked));
 export const placeAt = (asked, index) => asked.starts?.[index] ?? asked.first + stride(asked) * index;
-export const lengthAt = ({ code }, at) => code?.get(at)?.length ?? WORD;
+export const lengthAt = (asked, at) => asked.code?.get(at)?.length ?? WORD;
 
 const partsOf = (places, workers) => (workers === 1 ? 1 : Math.max(1, Math.min(places, workers * PARTS_EACH, MOST_PARTS)));
 

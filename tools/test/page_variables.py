@@ -201,6 +201,11 @@ UNDEFINED = [
 ]
 
 
+def debuginfo_tests(_):
+    """The tests that are beside the modules which read debugging information."""
+    same("tests of page/debuginfo", page_modules.debuginfo_faults(), [])
+
+
 def undefined_bits(program):
     """Whether a value has an undefined bit is what the program says of its bytes, and where it is."""
     for label, edits, step, name, text, is_undefined, address in UNDEFINED:

@@ -74,6 +74,11 @@ def modules_of(module):
     return {**found, "facts.js": facts(module), "examples.js": examples()}
 
 
+def inlined(packed, worker):
+    """What the page of one file has in the place of files beside it."""
+    return constant("MODULE", packed) + constant("WORKER", worker)
+
+
 def write_folder(folder, module):
     """The folder to serve."""
     modules = modules_of(module)
@@ -103,7 +108,7 @@ def one_file(module):
     modules = modules_of(module)
     worker = one_script(WORKER, modules)
     packed = base64.b64encode(gzip.compress(module, 9, mtime=0)).decode()
-    modules[INLINED] = constant("MODULE", packed) + constant("WORKER", worker)
+    modules[INLINED] = inlined(packed, worker)
     modules[RESOURCES] = modules.pop(ONE_FILE)
     script = one_script(MAIN, modules).replace("</script", "<\\/script").replace("<!--", "<\\!--")
     style = (SOURCES / "page.css").read_text()
