@@ -6,7 +6,7 @@ import { Elf } from './debuginfo/elf.js';
 import { inBatches } from './engine/batches.js';
 import { History } from './engine/history.js';
 import { parseMemory } from './engine/looks.js';
-import { parseReport } from './engine/report.js';
+import { compared, parseReport } from './engine/report.js';
 import { loadModule, makeWorker } from './engine/resources.js';
 import { NoEdit } from './engine/scenario.js';
 import { meetsRegion, notLoaded, sentence } from './engine/sentences.js';
@@ -14,7 +14,7 @@ import { Refused } from './engine/sessions.js';
 import { isSameTarget, targetIn, targetLines } from './engine/targets.js';
 import { ERROR_KINDS, LAST_STEP, LEAK_KINDS, MODULE_SUM } from './facts.js';
 import { regionAdvice } from './files/boards.js';
-import { Opened } from './files/opened.js';
+import { Opened, isRunning } from './files/opened.js';
 import { Opening } from './files/opening.js';
 import { Bytes } from './panels/bytes.js';
 import { Code } from './panels/code.js';
@@ -76,6 +76,7 @@ class App {
   step;
   isWanted;
   isBusy;
+  ended = null;
   timer;
   lookedAt;
 
@@ -225,6 +226,7 @@ class App {
     this.history = null;
     this.shown = null;
     this.marked = null;
+    this.ended = null;
     this.notice('');
     this.showTravel();
     $('main').inert = true;
@@ -461,17 +463,49 @@ class App {
 
   display() {
     const { step, report, unedited, time } = this.shown;
-    const isLast = step === this.opened.follow, runsOn = report.state.startsWith('running');
+    const isLast = step === this.opened.follow, runsOn = isRunning(report);
     const at = `at step ${grouped(report.step)}`, where = isLast ? (runsOn ? `${at}, still running` : 'at the end of the run') : at;
     this.reports.show(report, unedited, where);
-    this.verdict.show(report, unedited, { fresh: this.reports.groups.filter((it) => it.how === 'new'), time, isLast });
     this.verdict.certify('');
+    this.showVerdict();
     this.strip.at(this.steps.shown);
     this.showScenario();
     this.lookAtNew();
     this.showMachine();
     clearTimeout(this.timer);
     this.timer = setTimeout(() => this.settle(), QUIET);
+  }
+
+  // The line at the top is of the run up to its end, whichever step is looked at.
+  async showVerdict() {
+    const { shown, opened } = this, { scenario, step, report, unedited, time } = shown;
+    const tell = (end, before, at) => {
+      const fresh = compared(end, before).filter((it) => it.how === 'new');
+      this.verdict.show(end, before, { fresh, time, at });
+      this.showCounts();
+    };
+    if (step === opened.follow || !isRunning(report)) {
+      this.ended = { scenario, report };
+      tell(report, unedited, null);
+      return;
+    }
+    if (this.ended?.scenario !== scenario) this.verdict.showSoFar(report);
+    try {
+      const [end, before] = await Promise.all([this.reportAtEnd(scenario), opened.reportBefore(opened.follow)]);
+      if (shown === this.shown && shown.scenario === this.scenario) tell(end, before, report);
+    } catch {
+      // Memory that runs out before the end, or a run that is no longer wanted: then the line is of the step.
+    }
+  }
+
+  // The report of a scenario where its run ends, or is looked at no further.
+  async reportAtEnd(scenario) {
+    const { opened } = this;
+    if (scenario === opened.plain) return opened.reportBefore(opened.follow);
+    if (this.ended?.scenario !== scenario) {
+      this.ended = { scenario, report: parseReport(await opened.search.report(scenario, opened.follow)) };
+    }
+    return this.ended.report;
   }
 
   // Shows registers and memory at the step of what is shown.

@@ -3,7 +3,7 @@
 import { hexWord } from '../common/numbers.js';
 import { hasRoom } from '../debuginfo/elf.js';
 import { stateOf } from '../engine/report.js';
-import { USUAL_TARGET, heapOf, isSameTarget, meets, regionsInWords, stackText, typedOptions, typedRegions } from '../engine/targets.js';
+import { USUAL_TARGET, heapOf, isSameTarget, meets, regionsInWords, stackText, typedOptions } from '../engine/targets.js';
 import { DEVICES, HEAPS, ISAS, MOST_STACK, STACK_ENDS } from '../facts.js';
 import { hasAtomics, hasControls, hasHalves, nameOf } from '../riscv/isa.js';
 
@@ -43,7 +43,7 @@ function ofIllegal(elf, target, name, address) {
   const stops = `The run stops at ${hexWord(address)}, at ${it.what}, which ${nameOf(isa)} doesn’t have.`;
   const cure = it.isCured ? 'This command writes a file in which it is replaced:' : it.else;
   return { text: [stops, it.sets.length ? 'Run it for another instruction set:' : cure].join(' '), sets: it.sets,
-    command: adopted(name, ...typedRegions(target), ...(it.isCured ? ['-o adopted.elf'] : [])) };
+    command: adopted(name, ...typedOptions(target), ...(it.isCured ? ['-o adopted.elf'] : [])) };
 }
 
 // The device at whose address an error is, if there is one.
@@ -57,24 +57,24 @@ function deviceOf(report) {
 }
 
 // What to say of a file whose run ended or stood as a report says, null if nothing is to be said: a sentence, the instruction sets
-// that are offered, and a command.
-export function boardAdvice({ elf, target, name }, report) {
-  const { isa } = target, regions = typedRegions(target);
+// that are offered, and a command. `input` is the name of the file with the input, if there is one.
+export function boardAdvice({ elf, target, name, input }, report) {
+  const { isa } = target, options = typedOptions(target);
   const { name: state, rest, address } = stateOf(report), stop = state === 'stopped' ? rest.split(' ')[0] : '';
   if (elf.flags & COMPRESSED && !hasHalves(isa)) {
     return { text: `This file has instructions of 16 bits, which ${nameOf(isa)} doesn’t have. Run it for another instruction set:`,
-      sets: needing(hasHalves, isa), command: adopted(name, ...regions) };
+      sets: needing(hasHalves, isa), command: adopted(name, ...options) };
   }
   if (stop === 'illegal') return ofIllegal(elf, target, name, address);
   if (stop === 'break') {
     return { text: `The run stops at an EBREAK, at ${hexWord(address)}. If it calls a host by semihosting, this command writes a file `
-      + 'whose calls are answered:', sets: [], command: adopted(name, ...regions, '-o adopted.elf') };
+      + 'whose calls are answered:', sets: [], command: adopted(name, ...options, '-o adopted.elf') };
   }
   const device = deviceOf(report);
   if (!device) return null;
   return { text: `The run has an error at ${hexWord(device.address)}, where a board has a device (${device.name}). This command writes a `
     + 'file whose loads and stores of known devices are answered:', sets: [],
-      command: adopted(name, ...regions, '--devices INPUT', '-o adopted.elf') };
+      command: adopted(name, ...options, `--devices ${input ? typed(input) : 'INPUT'}`, '-o adopted.elf') };
 }
 
 // ---- regions

@@ -13,8 +13,8 @@ import { unseenHeap } from './unseen-heap.js';
 const BEYOND = 4096;  // steps after the end of the unedited run, and three times as many as it has
 const MOST_BEFORE = 500;  // reports of the unedited run that are kept
 
-// A run, as far as a page shows it: its last step, and whether it goes on after it.
-const isRunning = (report) => report.state.startsWith('running');
+// Whether a run goes on at the step of a report.
+export const isRunning = (report) => report.state.startsWith('running');
 
 export class Opened {
   program;
@@ -64,7 +64,8 @@ export class Opened {
     this.last = await endOf(async (step) => isRunning(await this.reportBefore(step)), LAST_STEP);
     this.follow = Math.min(LAST_STEP, 4 * this.last + BEYOND);
     this.heap = await unseenHeap(this.program, this.last);
-    this.board = boardAdvice({ elf: this.elf, target: this.target, name: this.files.program.name }, await this.reportBefore(this.last));
+    const { elf, target, files } = this, given = { elf, target, name: files.program.name, input: files.input?.name };
+    this.board = boardAdvice(given, await this.reportBefore(this.last));
     return this;
   }
 

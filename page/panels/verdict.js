@@ -1,7 +1,9 @@
-// The line at the top: how the run ends, how many edits break it, whether uninitialised memory has an influence, and the unedited run.
+// The line at the top: how the run ends, whichever step is looked at, how many edits break it, whether uninitialised memory has an
+// influence, how the run is at the step, and the unedited run.
 import { $, say } from '../common/dom.js';
 import { grouped, hexWord, many, milliseconds } from '../common/numbers.js';
 import { stateOf } from '../engine/report.js';
+import { placeOf, worstOf } from '../engine/worst.js';
 import { hasAtomics, nameOf, unitOf } from '../riscv/isa.js';
 
 const STATES = {
@@ -9,12 +11,23 @@ const STATES = {
   misaligned: (isa, address) => (hasAtomics(isa) && address % unitOf(isa) === 0
     ? 'met an atomic instruction whose address is no multiple of 4' : `jumped to an address that is no multiple of ${unitOf(isa)}`),
 };
-const CLEAN = /^clean (up )?to step \d+: /, FIRST_USE = /^not clean: first use at step (\d+): /;
+const CLEAN = /^clean (up )?to step (\d+): /, FIRST_USE = /^not clean: first use at step (\d+): /;
 
 function stateWords({ name, rest, address }, isa) {
   if (name === 'exited') return `exited with ${rest}`;
   if (name === 'running') return `running at ${rest}`;
   return `stopped: ${STATES[rest.split(' ')[0]]?.(isa, address) ?? rest}, at ${hexWord(address)}`;
+}
+
+// What only this run has, in words: the one thing with its place, or how many errors and leaks.
+function freshWords(fresh, lineOf) {
+  const groups = fresh.map((it) => it.group), worst = worstOf(groups);
+  if (!worst) return '';
+  const told = `${worst.text}${placeOf(worst, lineOf)}`;
+  if (groups.length === 1) return `new: ${told}`;
+  const errors = groups.filter((it) => it.isError).length, leaks = groups.length - errors;
+  const counts = [errors && many(errors, 'error'), leaks && many(leaks, 'leak')].filter(Boolean).join(' and ');
+  return errors ? `${counts}, new, the worst: ${told}` : `${counts}, new`;
 }
 
 export class Verdict {
@@ -32,15 +45,31 @@ export class Verdict {
     $('certified').addEventListener('click', () => (this.use === null ? certify() : go(this.use)));
   }
 
-  // Shows how a run stands beside the unedited one; `fresh` are the errors and leaks that only it has, `isLast` says whether nothing
-  // comes after.
-  show(report, unedited, { fresh, time, isLast }) {
-    const [now, before] = [report, unedited].map((it) => this.inShort(it));
+  // Shows how a run ends beside the unedited one; `fresh` are the errors and leaks that only it has. `at` is its report at the step that is
+  // looked at, where that isn't its end.
+  show(end, unedited, { fresh, time, at = null }) {
+    const [now, before] = [end, unedited].map((it) => this.inShort(it));
     this.before = before === now ? '' : `unedited: ${before}`;
-    const told = fresh.length === 1 ? `new: ${fresh[0].group.text}` : fresh.length ? `${grouped(fresh.length)} new` : '';
+    const worst = worstOf(end.groups.filter((it) => it.isError));
+    const told = freshWords(fresh, this.lineOf) || (worst ? `${worst.text}${placeOf(worst, this.lineOf)}` : '');
     say('verdict', [now, told].filter(Boolean).join(' · '));
-    $('verdict').className = this.howGood(report, unedited, isLast);
+    $('verdict').className = this.howGood(end);
     $('verdict').title = `answered in ${milliseconds(time)}`;
+    this.sayAt(at ? `at step ${grouped(at.step)}: ${this.inShort(at)}` : '');
+  }
+
+  // Shows how a run is at a step, until it is known how it ends.
+  showSoFar(at) {
+    say('verdict', `up to step ${grouped(at.step)}: ${this.inShort(at)}`);
+    $('verdict').className = at.errors ? 'bad' : '';
+    $('verdict').title = '';
+    this.before = '';
+    this.sayAt('');
+  }
+
+  sayAt(text) {
+    say('verdict-at', text);
+    $('verdict-at').hidden = !text;
   }
 
   // Shows how many edits break the run, and the same of the unedited one.
@@ -54,8 +83,9 @@ export class Verdict {
   certify(line) {
     const [, step] = FIRST_USE.exec(line) ?? [];
     this.use = step === undefined ? null : Number(step);
-    const [isClean, goesOn] = CLEAN.exec(line) ?? [];
-    const told = isClean ? `uninitialised memory has no influence on it${goesOn ? ' up to here; the run goes on' : ''}`
+    const [isClean, goesOn, until] = CLEAN.exec(line) ?? [];
+    const upTo = goesOn ? ` up to step ${grouped(Number(until))}; the run goes on` : '';
+    const told = isClean ? `uninitialised memory has no influence on it${upTo}`
       : this.use === null ? '' : `from step ${grouped(this.use)} on, what uninitialised or freed memory holds may change it`;
     this.sayCertified(told, this.use !== null, line);
   }
@@ -74,15 +104,16 @@ export class Verdict {
     say('verdict', text);
     Object.assign($('verdict'), { className: '', title: '' });
     this.before = '';
+    this.sayAt('');
     this.count('', '');
     this.certify('');
   }
 
   // A run that goes on where it should have ended is no good one, whatever it has reported so far.
-  howGood(report, unedited, isLast) {
-    const [now, before] = [report, unedited].map((it) => stateOf(it).name);
-    if (report.errors || report.sums['definitely lost'].bytes || now === 'stopped') return 'bad';
-    return now === 'running' && (isLast || before !== 'running') ? 'open' : 'good';
+  howGood(end) {
+    const { name } = stateOf(end);
+    if (end.errors || end.sums['definitely lost'].bytes || name === 'stopped') return 'bad';
+    return name === 'running' ? 'open' : 'good';
   }
 
   // How the run stands, in one line.

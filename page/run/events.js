@@ -1,4 +1,5 @@
 // What a run does and when, as the program replies to looks: calls and returns, input and output, calls of the heap, errors, stacks.
+import { hexWord } from '../common/numbers.js';
 import { parseStack } from '../engine/looks.js';
 import { parseReport } from '../engine/report.js';
 
@@ -62,6 +63,17 @@ export class Reading {
   }
 
   async stacks(steps) { return (await this.atEach(steps, 'look stack')).map(parseStack); }
+
+  // The replies about blocks from one on at some steps, by these.
+  async blocksAt(places) {
+    const found = new Map();
+    if (!places.length) return found;
+    const [first, ...others] = places, lineOf = ({ block }) => `look blocks ${hexWord(block)}`;
+    const lines = [lineOf(first), ...others.flatMap((it) => [`goto ${it.step}`, lineOf(it)]), `goto ${first.step}`];
+    const replies = (await this.ask(first.step, ...lines)).filter((_, i) => i % 2 === 0);
+    places.forEach((it, i) => found.set(it.step, replies[i]));
+    return found;
+  }
 
   // The registers at some steps, as the program writes them.
   registers(steps) { return this.atEach(steps, 'look registers'); }

@@ -14,13 +14,27 @@ const LARGEST_PART = 1 << 18, MOST_IN_PART = 1 << 16;  // steps and events of a 
 const NARROWER = 0.7;  // of a stretch that had too much in it, what is tried again
 const FIRST_HEAP_CALL = 2001;  // the number of the environment's `malloc`; those of the others follow
 const [A0, A1, A7] = [10, 11, 17];
-// Of the heap's functions what they do to blocks, and a call of them in words.
+// A call of each of the heap's functions in words.
 const HEAP_CALLS = {
-  malloc: ['alloc', (size) => `malloc of ${many(size, 'byte')}`],
-  calloc: ['alloc', (count, size) => `calloc of ${many(count, 'thing')} of ${many(size, 'byte')}`],
-  realloc: ['resize', (block, size) => `realloc of ${hexWord(block)} to ${many(size, 'byte')}`],
-  free: ['free', (block) => `free of ${hexWord(block)}`],
+  malloc: (size) => `malloc of ${many(size, 'byte')}`,
+  calloc: (count, size) => `calloc of ${many(count, 'thing')} of ${many(size, 'byte')}`,
+  realloc: (block, size) => `realloc of ${hexWord(block)} to ${many(size, 'byte')}`,
+  free: (block) => `free of ${hexWord(block)}`,
 };
+const LIVE = /^block (0x[0-9a-f]{8}) \d+ live /;
+
+// What a call of the heap did to blocks: none for a free of 0, `heap` for one that did nothing to any, such as a free of what is no block.
+// `result` is what it returned, and `isBlock` says whether `block` was a live block before.
+function doneBy(called, { block, size, result, isBlock }) {
+  if (called === 'free') return block === 0 ? null : isBlock ? 'free' : 'heap';
+  if (called !== 'realloc' || block === 0) return result ? 'alloc' : 'heap';
+  if (!isBlock) return 'heap';
+  return result ? 'resize' : size === 0 ? 'free' : 'heap';
+}
+
+// The value of a register in a reply.
+const valueIn = (text, number) => Number(text.split('\n')[number].split(' ')[1]);
+const TAKE_BLOCKS = new Set(['free', 'realloc']);
 
 // A stretch that is read whole.
 class Part {
@@ -178,27 +192,41 @@ export class Timeline {
     });
   }
 
-  // Asks what the calls of the heap among some marks do, if they aren't too many.
+  // Asks what the calls of the heap among some marks do to blocks, if they aren't too many. What does nothing is no mark.
   async kinds(marks) {
     const unknown = marks.filter((it) => it.what === 'heap' && it.text === null);
     if (!unknown.length || unknown.length > MOST_HEAP) return;
     await this.trying(async () => {
       for (let at = 0; at < unknown.length; at += BATCH) {
-        const some = unknown.slice(at, at + BATCH), texts = await this.reading.registers(some.map((it) => it.step));
-        some.forEach((it, i) => Object.assign(it, this.heapCall(texts[i])));
+        const some = unknown.slice(at, at + BATCH), done = await this.heapCalls(some.map((it) => it.step));
+        some.forEach((it, i) => {
+          if (done[i]) Object.assign(it, done[i]);
+          else marks.splice(marks.indexOf(it), 1);
+        });
         this.changed();
       }
     });
   }
 
-  // What a call of the heap does, by the registers before its step: a function of the heap is called by name or by number.
+  // What the calls of the heap at some steps do, each in one step: by the registers before and after it, and by whether there was a block.
+  async heapCalls(steps) {
+    const [before, after] = [await this.reading.registers(steps), await this.reading.registers(steps.map((it) => it + 1))];
+    const calls = before.map((text, i) => ({ ...this.heapCall(text), result: valueIn(after[i], A0) }));
+    const takeBlocks = steps.map((step, i) => ({ step, block: calls[i].block })).filter((_, i) => TAKE_BLOCKS.has(calls[i].called));
+    const blocks = await this.reading.blocksAt(takeBlocks);
+    return calls.map((it, i) => {
+      if (!it.called) return { text: 'call of the heap' };
+      const text = HEAP_CALLS[it.called](it.block, it.size), found = LIVE.exec(blocks.get(steps[i]) ?? '');
+      const what = doneBy(it.called, { ...it, isBlock: found !== null && Number(found[1]) === it.block });
+      return what && { what, text: what === 'heap' ? `${text}, which does nothing to a block` : text };
+    });
+  }
+
+  // Which function of the heap is called before a step, by name or by number, and with what.
   heapCall(text) {
-    const rows = text.split('\n'), value = (number) => Number(rows[number].split(' ')[1]);
-    const pc = Number(rows[0].split(' ')[2]), name = this.names.beginningAt(pc);
-    const called = HEAP_NAMES.includes(name) ? name : HEAP_NAMES[value(A7) - FIRST_HEAP_CALL];
-    if (!called) return { text: 'call of the heap' };
-    const [what, told] = HEAP_CALLS[called];
-    return { what, text: told(value(A0), value(A1)) };
+    const name = this.names.beginningAt(Number(text.split('\n', 1)[0].split(' ')[2]));
+    const called = HEAP_NAMES.includes(name) ? name : HEAP_NAMES[valueIn(text, A7) - FIRST_HEAP_CALL];
+    return { called, block: valueIn(text, A0), size: valueIn(text, A1) };
   }
 
   // What is known of the calls, from which step up to which: the stretches that are drawn, in order.

@@ -4,6 +4,7 @@ import { $, $canvas, isTouch, say } from '../common/dom.js';
 import { hexByte, hexWord, hexadecimal, many } from '../common/numbers.js';
 import { editLine } from '../engine/scenario.js';
 import { hatch, inkOn } from './colours.js';
+import { upTo } from './counting.js';
 import { Legend } from './legend.js';
 import { Lens } from './lens.js';
 import { Outcomes } from './outcomes.js';
@@ -294,9 +295,10 @@ export class Picture {
       return `${count} (${hexByte(value)} first): ${this.outcomes.at(number).fresh[0].told}`;
     });
     const other = place.values.length, same = counts.get(0) ?? 0, values = many(other, 'other value');
-    if (same === other) return `None of ${values} changes anything.`;
+    const until = upTo(this.swept);
+    if (same === other) return `None of ${values} changes anything${until}.`;
     const first = same ? `Of ${values}, ${same} change${same === 1 ? 's' : ''} nothing` : `Each of ${values} changes something`;
-    return `${first}; ${told.length ? `new by ${told.join(' · ')}` : 'none makes a new error'}.`;
+    return `${first}${until}; ${told.length ? `new by ${told.join(' · ')}` : 'none makes a new error'}.`;
   }
 
   // ---- pointing

@@ -3,7 +3,7 @@ import { $, $button, $input, $progress, $select, element, say } from '../common/
 import { grouped, hexWord, many, milliseconds, size } from '../common/numbers.js';
 import { editsOf } from '../engine/scenario.js';
 import { HALF } from '../riscv/isa.js';
-import { counted } from './counting.js';
+import { counted, upTo } from './counting.js';
 import { Outcomes } from './outcomes.js';
 import { Picture } from './picture.js';
 import { Idle, MOST_EDITS, Sweep, lengthAt, mostEditsOf } from './sweeping.js';
@@ -247,7 +247,7 @@ export class SweepPanel {
       swept.isWhole ? '' : `stopped after ${grouped(swept.edits)} of ${many(this.most, 'edit')}: `,
       outcomes.goal ? `${did(outcomes.reached, 'reaches', 'reach')} the goal “${outcomes.goal}”. ` : '',
       `${many(swept.edits, 'edit')} of ${of}: ${did(outcomes.fresh, 'makes', 'make')} a new error, leak or stop, `,
-      `${grouped(outcomes.changed)} more end${outcomes.changed === 1 ? 's' : ''} in another way.`,
+      `${grouped(outcomes.changed)} more end${outcomes.changed === 1 ? 's' : ''} in another way${upTo(swept)}.`,
       left.length ? ` Left out: ${left.join(', ')}.` : '',
     ];
     say('sweep-told', parts.join(''));

@@ -2,6 +2,8 @@
 run, the line on uninitialised memory, and the colours."""
 import json
 import math
+import random
+import re
 import subprocess
 
 from page_bench import SWEPT, expect, same, sweep_flips, table_in, words_of
@@ -41,7 +43,7 @@ def broken(bench, words, edits, step, option="--values=all", goal=None):
     """How many edits the program's table of an edited run has, and how many of them have something new; with a goal, how many reach it,
     too."""
     given = open(words[2], "rb").read()
-    for line in edits:
+    for line in (it for it in edits if not it.startswith("goto ")):
         _, at, value = line.split(" ")
         given = given[:int(at)] + bytes([int(value)]) + given[int(at) + 1:]
     own, table = table_of(bench, words, given, option, step)
@@ -77,7 +79,16 @@ COUNTS = [
     ("edge values", [], "edges", "", "edge-value edits", BREAK),
     ("a goal", [], "flips", "exited 1", "one-bit edits", BREAK),
     ("a goal that nothing reaches", [], "edges", "exited 99", "edge-value edits", BREAK),
+    ("a step of the unedited run", ["goto 170"], "flips", "", "one-bit edits", BREAK),
+    ("a step before an error", ["goto 170", "input 1 8"], "edges", "", "edge-value edits", BREAK),
+    ("a step after the end", ["goto 9000"], "edges", "", "edge-value edits", BREAK),
 ]
+
+
+def is_running(bench, edits, step):
+    """Whether the edited run of station goes on at a step, by the program's report."""
+    lines = [*(it for it in edits if not it.startswith("goto ")), f"goto {step}", "report"]
+    return bench.native(STATION, lines)[-1].split("\n")[1].startswith("state running")
 
 
 def counts(bench):
@@ -96,7 +107,8 @@ def counts(bench):
                 reach = phrase(reached[0], total, called, (f"reaches “{goal}”", f"reach “{goal}”"))
                 want = f"{reach}, and {new or 'none'} {verbs[new > 1]}"
             page.until(f"!{COUNTED}.includes('so far')", 5)
-            same(label, page.run(COUNTED), want)
+            step = page.run("replaycheck.step")
+            same(label, page.run(COUNTED), want + (f" up to step {step:,}" if is_running(bench, edits, step) else ""))
         page.run("replaycheck.opening.choose('kinds')")
         bench.settle(page)
         page.set("sweep-values", "all")
@@ -179,6 +191,9 @@ def certified(bench):
             told = page.text("certified") if not page.run("document.getElementById('certified').hidden") else None
             same(f"{label}: {line}", told and ("no influence" in told), is_clean)
             same(f"{label}: whether it goes on", "the run goes on" in (told or ""), want.endswith("the run goes on"))
+            until = re.match(r"clean up to step (\d+):", want)
+            step = f"up to step {int(until[1]):,};" if until else "up to"
+            same(f"{label}: up to which step", step in (told or ""), bool(until))
         page.run("replaycheck.use('input 37 5')")
         bench.settle(page)
         page.until("document.getElementById('certified').title.includes('first use')", 10)
@@ -186,6 +201,65 @@ def certified(bench):
         bench.settle(page)
         same("the step of the first use", page.run("replaycheck.step"), 684)
     certified_when_asked(bench)
+
+
+# Edits of station, and the errors and the state at the end of the run: its line says that at each step.
+VERDICTS = [[], ["input 1 8"], ["input 37 5"], ["input 0 0"], ["input 9 0"], ["input 1 8", "input 37 5"]]
+IN_SHORT = re.compile(r"state (\w+) ?(.*)")
+
+
+def verdict_of_the_run(bench):
+    """Whichever step is looked at, the line at the top says how the run ends, by the program's report there; another one says how it is at
+    the step."""
+    chance = random.Random(5)
+    with bench.open() as page:
+        for edits in VERDICTS:
+            end = bench.native(STATION, [*edits, "goto 100000", "report"])[-1]
+            for step in (None, *(chance.randrange(1, 800) for _ in range(3)), 90000):
+                page.run(f"replaycheck.use({json.dumps(chr(10).join([*edits, *([] if step is None else [f'goto {step}'])]))})")
+                bench.settle(page)
+                label = f"{edits} at step {step}"
+                page.until("!document.getElementById('verdict').textContent.startsWith('up to step')", 20)
+                same(label, in_short(page.text("verdict")), in_report(end))
+                at = bench.native(STATION, [*edits, f"goto {step or 100000}", "report"])[-1]
+                is_at = "state running" in at
+                same(f"{label}: its own line", page.run("document.getElementById('verdict-at').hidden"), not is_at)
+                if is_at:
+                    same(f"{label}: the step", in_short(page.text("verdict-at").split(": ", 1)[1])[1], in_report(at)[1])
+                    expect(page.text("verdict-at").startswith(f"at step {step:,}: running at "), page.text("verdict-at"))
+
+
+def in_short(told):
+    """How a run ends and how many errors it has, by a line of the page."""
+    words = told.split(" · ")
+    found = re.match(r"([\d,]+) errors? in ([\d,]+) places?$", words[1])
+    return words[0].replace(" with", "") if words[0].startswith("exited") else "running", found and found[1], found and found[2]
+
+
+def in_report(report):
+    """The same by a report."""
+    state, rest = IN_SHORT.search(report).groups()
+    errors, places = re.search(r"ERROR SUMMARY: (\d+) errors from (\d+) contexts", report).groups()
+    counts = (errors, places) if errors != "0" else (None, None)
+    return f"{state} {rest}" if state == "exited" else state, *counts
+
+
+def new_leaks(bench):
+    """Of leaks that only the edited run has it says that they are leaks, and of an error where it is."""
+    with bench.open("kinds") as page:
+        for value in range(24):
+            page.run(f"replaycheck.use('input 0 {value}')")
+            bench.settle(page)
+            fresh = page.run("replaycheck.reports.groups.filter((it) => it.how === 'new').map((it) => [it.group.isError, it.group.text])")
+            errors, leaks, told = sum(it for it, _ in fresh), sum(not it for it, _ in fresh), page.text("verdict")
+            if len(fresh) == 1:
+                expect(f"new: {fresh[0][1]} in " in told, f"{value}: it says {told!r}")
+                expect(re.search(r"\.[chS]:\d+$", told), f"{value}: it says no line: {told!r}")
+            elif fresh:
+                counts = [f"{count} {what}{'s' * (count > 1)}" for count, what in ((errors, "error"), (leaks, "leak")) if count]
+                expect(f"{' and '.join(counts)}, new" in told, f"{value}: it says {told!r}")
+            else:
+                expect("new" not in told, f"{value}: it says {told!r}")
 
 
 def certified_when_asked(bench):
