@@ -12,6 +12,7 @@ import { NoEdit } from './engine/scenario.js';
 import { meetsRegion, notLoaded, sentence } from './engine/sentences.js';
 import { Refused } from './engine/sessions.js';
 import { isSameTarget, targetIn, targetLines } from './engine/targets.js';
+import { messagesOf, ownFrame, worstOf } from './engine/worst.js';
 import { ERROR_KINDS, LAST_STEP, LEAK_KINDS, MODULE_SUM } from './facts.js';
 import { regionAdvice } from './files/boards.js';
 import { Opened, isRunning } from './files/opened.js';
@@ -79,6 +80,7 @@ class App {
   ended = null;
   timer;
   lookedAt;
+  visited;
 
   constructor() {
     const edit = (scenario, series) => this.edit(scenario, series);
@@ -90,7 +92,7 @@ class App {
     const alter = (line) => this.edit(this.scenario.after(line));
     this.code = new Code({ edit, alter, refuse, shows: (address) => this.source.visit(address) });
     this.machine = new Machine({ look: (step, lines) => this.opened.session.replies(this.shown.scenario, step, lines),
-      search: (scenario, step, lines) => this.opened.search.replies(scenario, step, lines), again: () => this.showMachine(), alter, refuse,
+      search: (scenario, step, lines) => this.opened.search.replies(scenario, step, lines), again: () => this.showState(), alter, refuse,
       go: (step) => this.go(step), showPc: (pc, step) => this.showPlace(pc, step), visit: (address) => this.code.visit(address),
       functionAt: (address) => this.opened.elf.functionAt(address), lineOf: (address) => this.opened.lineOf(address),
       rests: () => this.showVariables() });
@@ -471,7 +473,8 @@ class App {
     this.strip.at(this.steps.shown);
     this.showScenario();
     this.lookAtNew();
-    this.showMachine();
+    this.verdict.offerBug(null);
+    this.showState();
     clearTimeout(this.timer);
     this.timer = setTimeout(() => this.settle(), QUIET);
   }
@@ -482,6 +485,7 @@ class App {
     const tell = (end, before, at) => {
       const fresh = compared(end, before).filter((it) => it.how === 'new');
       this.verdict.show(end, before, { fresh, time, at });
+      this.source.tell(messagesOf(end.groups, opened.lineOf));
       this.showCounts();
     };
     if (step === opened.follow || !isRunning(report)) {
@@ -508,15 +512,52 @@ class App {
     return this.ended.report;
   }
 
-  // Shows registers and memory at the step of what is shown.
-  async showMachine() {
-    const { turn, shown } = this;
+  // The error, leak or stop to which the page goes by itself, where the end of a run is looked at: the worst that is new, or else the worst
+  // at all. Null where there is none, or where one wants nothing to be done.
+  get bug() {
+    const { step, report } = this.shown;
+    if (words.has('still') || step !== this.opened.follow) return null;
+    const errors = (groups) => worstOf(groups.filter((it) => it.isError)) ?? worstOf(groups);
+    const fresh = this.reports.groups.filter((it) => it.how === 'new').map((it) => it.group);
+    return errors(fresh) ?? errors(report.groups);
+  }
+
+  // Shows calls, registers and memory: at the step that is looked at, or, where that is the end, before the worst error, whose line comes
+  // into view.
+  async showState() {
+    const { turn, shown, bug } = this;
     try {
-      await this.machine.show(shown);
+      if (!bug) {
+        await this.machine.show(shown);
+        return;
+      }
+      const at = await this.stateAt(bug, shown);
+      if (shown !== this.shown || turn !== this.turn) return;
+      this.verdict.offerBug(at.isBug ? at.step : null);
+      const isDone = this.machine.show(at);
+      this.visitBug(bug, shown);
+      await isDone;
     } catch (fault) {
       const isWanted = shown === this.shown && shown.scenario === this.scenario && shown.step === this.step;
       if (turn === this.turn && isWanted) this.notice(sentence(fault, LIMIT));
     }
+  }
+
+  // What is shown of a run before its instruction raises an error: that of the end where it can't be found, or where it is a leak.
+  async stateAt({ isError, trace }, shown) {
+    if (!isError || !trace.length) return shown;
+    const { scenario } = shown, { search, session, follow } = this.opened, { lines } = this.machine;
+    const [found] = await search.replies(scenario, 0, [`look next error ${hexWord(trace[0].address)} 1 ${follow}`]);
+    const [, step] = /^step (\d+)\n?$/.exec(found) ?? [];
+    if (step === undefined) return shown;
+    return { ...shown, step: Number(step), isBug: true, lines, looks: await session.replies(scenario, Number(step), lines) };
+  }
+
+  // Has the line of the worst error in view, once, where nobody works in the code.
+  visitBug({ trace }, shown) {
+    const frame = ownFrame(trace, this.opened.lineOf), isFree = !$('code-part').contains(document.activeElement);
+    if (frame && isFree && this.visited !== shown) this.code.visit(frame.address, false);
+    this.visited = shown;
   }
 
   // Shows where the run is: its code and its line.
@@ -529,7 +570,8 @@ class App {
     const { shown, seen } = this.machine, { session } = this.opened;
     const look = inBatches(async (lines) => {
       await session.rest();
-      if (shown.step !== this.step || shown.scenario !== this.scenario) throw new Stale();  // or the session would have to go back
+      const isThere = shown.isBug ? this.step === this.opened.follow : shown.step === this.step;
+      if (!isThere || shown.scenario !== this.scenario) throw new Stale();  // or the session would have to go back
       return session.replies(shown.scenario, shown.step, lines);
     });
     this.variables.show(seen.pc, seen.registers, async (address, length) => {
@@ -562,6 +604,7 @@ class App {
 
   // Shows the code at the first error that is new, once, where nobody works there.
   lookAtNew() {
+    if (this.bug) return;
     const group = this.reports.groups.find((it) => it.how === 'new')?.group, key = group?.key ?? '';
     const isFree = !$('code-part').contains(document.activeElement);
     if (key && key !== this.lookedAt && isFree && group.trace.length) this.code.visit(group.trace[0].address, false);

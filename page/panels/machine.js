@@ -119,7 +119,8 @@ export class Machine {
 
   render(frames, blocks) {
     const { seen, step, at, bytes } = this;
-    say('machine-told', seen.runs ? `before step ${grouped(step)}: running at` : `${seen.state}, so nothing changes any more`);
+    const where = `before step ${grouped(step)}${this.shown.isBug ? ', the worst error’s' : ''}`;
+    say('machine-told', seen.runs ? `${where}: running at` : `${seen.state}, so nothing changes any more`);
     $('pc').hidden = !seen.runs;
     if (seen.runs) say('pc', hexWord(seen.pc));
     this.registers.show(seen, step);

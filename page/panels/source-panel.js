@@ -8,6 +8,7 @@ import { SourceFiles, isSource, spanOf } from '../files/source-files.js';
 
 const LONGEST = 1 << 22, LONGEST_LINE = 1000;  // bytes of a source file, and letters of a line
 const MOST_TOLD = 6;  // names in a sentence
+const MOST_MESSAGES = 8;  // errors and leaks that are said at one line
 
 export class SourcePanel {
   visitCode;
@@ -21,6 +22,7 @@ export class SourcePanel {
   drawn;
   found;
   begin;
+  messages = [];
 
   // `visit` has the code at an address shown; `refuse` takes a sentence.
   constructor({ visit, refuse }) {
@@ -44,6 +46,7 @@ export class SourcePanel {
     this.step = null;
     this.address = null;
     this.drawn = null;
+    this.messages = [];
     this.found = new Map();
     for (const { path, text } of own) this.own.add(path, text);
     this.draw();
@@ -106,6 +109,14 @@ export class SourcePanel {
     this.draw();
   }
 
+  // Shows what a report says of lines, each by an address.
+  tell(messages) {
+    if (JSON.stringify(messages) === JSON.stringify(this.messages)) return;
+    this.messages = messages;
+    this.drawn = null;
+    this.draw();
+  }
+
   draw() {
     if (!this.opened) return;
     const { lines } = this.opened, place = this.address === null ? null : lines.placeAt(this.address);
@@ -152,7 +163,9 @@ export class SourcePanel {
   render(file, path, begin, end) {
     const { elf, lines } = this.opened, { address, size } = elf.functionAt(this.address) ?? { address: 0, size: 0 };
     const starts = lines.linesIn(path, address, address + size);
-    const rows = file.lines.slice(begin - 1, end).map((text, i) => this.row(begin + i, text, starts.get(begin + i)));
+    const places = this.messages.map((it) => ({ ...it, ...lines.placeAt(it.address) })).filter((it) => it.path === path);
+    const rows = file.lines.slice(begin - 1, end).flatMap((text, i) => [this.row(begin + i, text, starts.get(begin + i)),
+      ...places.filter((it) => it.line === begin + i).slice(0, MOST_MESSAGES).map((it) => this.message(it))]);
     $('source-rows').replaceChildren(...rows);
   }
 
@@ -164,9 +177,14 @@ export class SourcePanel {
       element('td', { className: 'text' }, text.slice(0, LONGEST_LINE) || ' '));
   }
 
+  message({ text, isError }) {
+    return element('tr', { className: 'message' }, element('td', { className: 'number' }),
+      element('td', { className: `text ${isError ? 'bad' : 'lost'}` }, text));
+  }
+
   // Marks the line where the run is, and the one that is looked at, which comes into view.
   mark(place) {
-    const now = this.pc === null ? null : this.opened.lines.placeAt(this.pc), rows = [...$('source-rows').querySelectorAll('tr')];
+    const now = this.pc === null ? null : this.opened.lines.placeAt(this.pc), rows = [...$('source-rows').querySelectorAll('tr')].filter((it) => !it.classList.contains('message'));
     for (const [i, row] of rows.entries()) {
       const line = this.begin + i, isNow = now?.path === place.path && now.line === line;
       row.className = isNow ? 'now' : line === place.line ? 'at' : '';

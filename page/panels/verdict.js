@@ -34,6 +34,7 @@ export class Verdict {
   lineOf;
   isa;
   use = null;
+  bug = null;
   before;
 
   // `lineOf` tells the source line of an address; `isa` for which instruction set the run is; `showPicture` and `go` go to the picture
@@ -43,6 +44,7 @@ export class Verdict {
     this.isa = isa;
     $('counted').addEventListener('click', showPicture);
     $('certified').addEventListener('click', () => (this.use === null ? certify() : go(this.use)));
+    $('bug-step').addEventListener('click', () => go(this.bug));
   }
 
   // Shows how a run ends beside the unedited one; `fresh` are the errors and leaks that only it has. `at` is its report at the step that is
@@ -65,6 +67,13 @@ export class Verdict {
     $('verdict').title = '';
     this.before = '';
     this.sayAt('');
+  }
+
+  // Offers to go to the step of the worst error, null where there is none.
+  offerBug(step) {
+    this.bug = step;
+    say('bug-step', step === null ? '' : `go to step ${grouped(step)}, just before it`);
+    $('bug-step').hidden = step === null;
   }
 
   sayAt(text) {
@@ -105,6 +114,7 @@ export class Verdict {
     Object.assign($('verdict'), { className: '', title: '' });
     this.before = '';
     this.sayAt('');
+    this.offerBug(null);
     this.count('', '');
     this.certify('');
   }

@@ -1,5 +1,5 @@
-// The step slider, with the landmarks of the run: the first step at which a report has read more, has other blocks, has one
-// more error, has ended.
+// The step slider, with the landmarks of the run: the first step at which a report has read more, has other blocks, has ended; and the
+// last one before it has one more error, which is the step of the instruction that raises it.
 import { $, $button, $input, element, say } from '../common/dom.js';
 import { grouped, many } from '../common/numbers.js';
 import { parseReport } from '../engine/report.js';
@@ -65,7 +65,9 @@ export class Search {
     if (!kinds.length || this.isOver) return;
     if (high - low === 1) {
       this.count += 1;
-      this.found({ step: high, kinds });
+      const others = kinds.filter((it) => it !== 'error');
+      if (kinds.includes('error')) this.found({ step: low, kinds: ['error'] });
+      if (others.length) this.found({ step: high, kinds: others });
       return;
     }
     const middle = (low + high) >> 1;
