@@ -262,6 +262,88 @@ def new_leaks(bench):
                 expect("new" not in told, f"{value}: it says {told!r}")
 
 
+# Examples with edits. Not each adds an error: of a leak there is no step to go to.
+BUGS = [("station", ["input 1 8"]), ("station", ["input 37 5"]), ("station", ["input 9 0"]), ("packet", ["input 0 9"]),
+        ("kinds", ["input 0 1"]), ("kinds", ["input 0 7"]), ("kinds", ["input 0 16"]), ("use-after-free", [])]
+STATED = "replaycheck.machine.shown?.scenario === replaycheck.scenario && replaycheck.machine.shown.isBug"
+SHOWN_ROWS = """[...document.querySelectorAll('#source tr')].flatMap((it) => (it.className === 'message'
+  ? [it.textContent] : []))"""
+
+
+def errors_in(report):
+    """The errors of a report, each with its text and the addresses and names of its trace."""
+    found = re.findall(r"^error \d+: (.*)\n((?:   .*\n)*)", report, re.M)
+    return [(text, re.findall(r"(0x[0-9a-f]{8}): (.*)", trace)) for text, trace in found]
+
+
+def worst_of(report, plain):
+    """The worst of the errors that another report doesn't have, or else the worst at all; None without any."""
+    def bad(error):
+        return next((bad for begin, bad in BADNESS if error[0].startswith(begin)), 0)
+    had = [(text, trace) for text, trace in errors_in(plain)]
+    errors = errors_in(report)
+    return max([it for it in errors if it not in had] or errors, key=bad, default=None)
+
+
+def goes_to_the_bug(bench):
+    """After opening and after each edit the worst error's line is in view with what it is, and the state is that before its step, by the
+    program's looks; a button goes there."""
+    for example, lines in BUGS:
+        with bench.open(example, words="?workers=1") as page:
+            page.run(f"replaycheck.use({json.dumps(chr(10).join(lines))})")
+            bench.settle(page)
+            words, label = words_of(example), f"{example} {lines}"
+            plain, report = (bench.native(words, [*it, "goto 100000", "report"])[-1] for it in ([], lines))
+            worst = worst_of(report, plain)
+            if worst is None:
+                page.until("replaycheck.machine.rested", 20)
+                same(f"{label}: no step is offered", page.run("document.getElementById('bug-step').hidden"), True)
+                continue
+            text, trace = worst
+            steps = looks_of(bench, words, [*lines, "goto 0", f"look next error {trace[0][0]} 1 100000"])
+            step = int(steps.split(" ")[1])
+            page.until(STATED, 20)
+            same(f"{label}: the step of the state", page.run("replaycheck.machine.step"), step)
+            same(f"{label}: the step of the report", page.run("replaycheck.step === replaycheck.opened.follow"), True)
+            same(f"{label}: pc", page.run("replaycheck.machine.seen.pc"), int(trace[0][0], 16))
+            expect(f"before step {step:,}, the worst error’s" in page.text("machine-told"), f"{label}: {page.text('machine-told')!r}")
+            expect(text in page.text("verdict"), f"{label}: the line at the top says {page.text('verdict')!r}")
+            page.until(f"{SHOWN_ROWS}.includes({json.dumps(text)})", 10)
+            row = page.run("document.querySelector('#source tr.message').previousElementSibling.firstElementChild.textContent.trim()")
+            expect(f":{row}" in page.text("verdict"), f"{label}: at line {row}, and the line at the top says {page.text('verdict')!r}")
+            page.until("replaycheck.steps.landmarks.some((it) => it.kinds.includes('end'))", 20)
+            landmarks = page.run("replaycheck.steps.landmarks.filter((it) => it.kinds.includes('error')).map((it) => it.step)")
+            expect(step in landmarks, f"{label}: the landmarks of errors are at {landmarks}, and not at {step}")
+            page.click_on("#bug-step")
+            bench.settle(page)
+            same(f"{label}: where the button goes", page.run("replaycheck.step"), step)
+            bench.same_report(page, words, f"{label}: the report there")
+            same(f"{label}: complaints", page.complaints(), [])
+
+
+def looks_of(bench, words, lines):
+    """The last line that `look` replies."""
+    given = "".join(f"{it}\n" for it in lines)
+    return subprocess.run([bench.program, "look", *words], input=given, capture_output=True, text=True, check=True).stdout.splitlines()[-1]
+
+
+def own_file_to_the_bug(bench):
+    """A file of one's own with an error is opened at the error, and an edit that takes it away leads back to the end of the run."""
+    given = bytearray(open(STATION[2], "rb").read())
+    given[1] = 8
+    with bench.page(words="?workers=1") as page:
+        bench.give(page, {"program": open(STATION[0], "rb").read(), "input": bytes(given)})
+        bench.settle(page)
+        page.until(STATED, 20)
+        same("the function of the code", page.run("replaycheck.code.shown.name"), "set_name")
+        expect("station.c" in page.text("source-told"), f"the source says {page.text('source-told')!r}")
+        page.run("replaycheck.use('input 1 7')")
+        bench.settle(page)
+        page.until("replaycheck.machine.shown?.scenario === replaycheck.scenario && !replaycheck.machine.shown.isBug", 20)
+        same("the state then", page.text("machine-told"), "exited 0, so nothing changes any more")
+        same("the step that is offered", page.run("document.getElementById('bug-step').hidden"), True)
+
+
 def certified_when_asked(bench):
     """Of a long run it is said only once somebody asks."""
     with bench.page() as page:
