@@ -5,7 +5,7 @@ import { Roving } from './common/roving.js';
 import { Elf } from './debuginfo/elf.js';
 import { inBatches } from './engine/batches.js';
 import { History } from './engine/history.js';
-import { parseMemory } from './engine/looks.js';
+import { bytesIn, parseMemory } from './engine/looks.js';
 import { compared, parseReport } from './engine/report.js';
 import { loadModule, makeWorker } from './engine/resources.js';
 import { NoEdit } from './engine/scenario.js';
@@ -21,6 +21,7 @@ import { Bytes } from './panels/bytes.js';
 import { Code } from './panels/code.js';
 import { Edits } from './panels/edits.js';
 import { Machine } from './panels/machine.js';
+import { MOST_BYTES, Output } from './panels/output.js';
 import { ReportPanel } from './panels/report-panel.js';
 import { SourcePanel } from './panels/source-panel.js';
 import { Stale, VariablesPanel } from './panels/variables-panel.js';
@@ -36,11 +37,11 @@ const WORKERS = Number(words.get('workers')) || navigator.hardwareConcurrency ||
 const SHORT_RUN = 100000;  // steps of a run whose edits are all made as it is opened
 const QUIET = 300;  // milliseconds after an edit, before landmarks are searched and the link is changed
 const LONG = 600;  // milliseconds after which work is told, with a button that stops it
-const PARTS = ['step', 'strip', 'input', 'report', 'edits', 'code', 'source', 'calls', 'variables', 'machine', 'blocks'];
+const PARTS = ['step', 'strip', 'input', 'report', 'edits', 'code', 'source', 'output', 'calls', 'variables', 'machine', 'blocks'];
 // Parts that are one stop of the Tab key each, and what a row is in them.
 const ROVING = [['examples', 'nav'], ['landmarks', 'div'], ['legend-rows'], ['chips', 'li'], ['report', 'li, p'], ['code-rows'],
-  ['source-rows'], ['calls', 'li'], ['variable-rows'], ['global-rows'], ['registers', 'li'], ['bits', '#bits'], ['memory-rows'],
-  ['block-rows']];
+  ['source-rows'], ['output-lines', 'li'], ['calls', 'li'], ['variable-rows'], ['global-rows'], ['registers', 'li'], ['bits', '#bits'],
+  ['memory-rows'], ['block-rows']];
 const CHANGES_NOTHING = /^(?:#.*|report|worked|)$/;  // lines of a text that are no edits
 const BEYOND_STEPS = 5;  // the number with which a session refuses a step
 
@@ -68,6 +69,7 @@ class App {
   /** @type {Steps} */ steps;
   /** @type {Strip} */ strip;
   /** @type {Edits} */ edits;
+  /** @type {Output} */ output;
   /** @type {SweepPanel} */ sweeps;
   wanted;
   /** @type {?Opened} */ judged;
@@ -78,6 +80,7 @@ class App {
   isWanted;
   isBusy;
   ended = null;
+  written = null;
   timer;
   lookedAt;
   visited;
@@ -103,7 +106,9 @@ class App {
     this.verdict = new Verdict({ lineOf: (address) => this.opened.lineOf(address), isa: () => this.opened.isa, go: (step) => this.go(step),
       certify: () => this.certifyLong(), showPicture });
     this.steps = new Steps({ go: (step) => this.go(step), most: LAST_STEP });
-    this.strip = new Strip({ choose: (step) => this.steps.choose(step), explain: (fault) => sentence(fault, LIMIT) });
+    this.output = new Output({ go: (step) => this.steps.choose(step) });
+    this.strip = new Strip({ choose: (step) => this.steps.choose(step), explain: (fault) => sentence(fault, LIMIT),
+      known: () => this.showOutput() });
     this.edits = new Edits({ edit, clear: () => this.edit(this.opened.plain), use: (text) => this.use(text), refuse,
       tell: (text) => this.notice(text, 'good'),
       link: async () => new URL(await this.opening.link(this.lines), location.href).href,
@@ -229,6 +234,7 @@ class App {
     this.shown = null;
     this.marked = null;
     this.ended = null;
+    this.written = null;
     this.notice('');
     this.showTravel();
     $('main').inert = true;
@@ -279,6 +285,7 @@ class App {
     this.strip.open(opened);
     this.source.open(opened, this.opening.ownSources);
     this.variables.open(opened.variables);
+    this.output.clear();
     this.code.open(opened, scenario);
     this.machine.open();
     if (lines.length) this.use(lines.join('\n'));
@@ -486,6 +493,7 @@ class App {
       const fresh = compared(end, before).filter((it) => it.how === 'new');
       this.verdict.show(end, before, { fresh, time, at });
       this.source.tell(messagesOf(end.groups, opened.lineOf));
+      this.readOutput(scenario, end.written);
       this.showCounts();
     };
     if (step === opened.follow || !isRunning(report)) {
@@ -500,6 +508,33 @@ class App {
     } catch {
       // Memory that runs out before the end, or a run that is no longer wanted: then the line is of the step.
     }
+  }
+
+  // Reads what a run writes, and what the unedited one does.
+  async readOutput(scenario, length) {
+    const { opened } = this, { plain, follow } = opened;
+    const read = (session, of) => session.replies(of, follow, [`look output 0 ${MOST_BYTES}`]);
+    if (this.written?.scenario === scenario) {
+      this.showOutput();
+      return;
+    }
+    try {
+      const session = this.step === follow ? opened.session : opened.search;
+      const [[now], before] = await Promise.all([read(session, scenario), scenario.lines.length ? read(opened.unedited, plain) : null]);
+      if (opened !== this.opened || scenario !== this.scenario) return;
+      this.written = { scenario, length, bytes: bytesIn(now), before: before && bytesIn(before[0]) };
+      this.showOutput();
+    } catch {
+      // Memory that runs out, or a run that is no longer wanted: then what was written stays.
+    }
+  }
+
+  // Shows what was read of the output, with the steps of its writes once these are known.
+  showOutput() {
+    const { written, scenario, step } = this;
+    if (!written || written.scenario !== scenario) return;
+    const writes = this.strip.writesOf(scenario);
+    this.output.show({ ...written, writes, step: step === this.opened.follow ? null : step });
   }
 
   // The report of a scenario where its run ends, or is looked at no further.

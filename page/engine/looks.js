@@ -15,5 +15,8 @@ export function parseMemory(text) {
   return bytes.map((it, i) => ({ value: parseInt(it, 16), undef: undefs[i] === NO_ACCESS ? null : parseInt(undefs[i], 16) }));
 }
 
+// The bytes of an output.
+export const bytesIn = (text) => (text.trimEnd().split(' ')[1]?.match(/../g) ?? []).map((it) => parseInt(it, 16));
+
 // The address of the next instruction, and those of the calls, newest first.
 export const parseStack = (text) => text.trimEnd().split(' ').slice(1).map(Number);

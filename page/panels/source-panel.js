@@ -184,7 +184,8 @@ export class SourcePanel {
 
   // Marks the line where the run is, and the one that is looked at, which comes into view.
   mark(place) {
-    const now = this.pc === null ? null : this.opened.lines.placeAt(this.pc), rows = [...$('source-rows').querySelectorAll('tr')].filter((it) => !it.classList.contains('message'));
+    const now = this.pc === null ? null : this.opened.lines.placeAt(this.pc);
+    const rows = [...$('source-rows').querySelectorAll('tr')].filter((it) => !it.classList.contains('message'));
     for (const [i, row] of rows.entries()) {
       const line = this.begin + i, isNow = now?.path === place.path && now.line === line;
       row.className = isNow ? 'now' : line === place.line ? 'at' : '';

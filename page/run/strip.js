@@ -24,6 +24,7 @@ const DARK = matchMedia('(prefers-color-scheme: dark)');
 export class Strip {
   choose;
   explain;
+  known;
   canvas = $canvas('strip');
   view = new View();
   sessions = [];
@@ -44,10 +45,11 @@ export class Strip {
   keyShown;
   timer;
 
-  // `choose` takes the step that is chosen; `explain` says a fault in words.
-  constructor({ choose, explain }) {
+  // `choose` takes the step that is chosen; `explain` says a fault in words; `known` is called when all of a run was read.
+  constructor({ choose, explain, known }) {
     this.choose = choose;
     this.explain = explain;
+    this.known = known;
     this.drawing = new StripDrawing(this.canvas);
     this.hands = new Hands(this.canvas, { pan: (x, y) => this.pan(x, y), zoom: (times, x) => this.zoom(times, this.stepAt(x)),
       point: (x, y) => this.point(x, y), choose: (x, y) => this.click(x, y), leave: () => this.tell(this.here) });
@@ -105,6 +107,14 @@ export class Strip {
     if (scenario.lines.length && !isThere) this.next = this.begin(1, scenario, last);
   }
 
+  // The steps of a scenario's run that write, and how many bytes each writes; null where not all are known.
+  writesOf(scenario) {
+    const isEdited = scenario.lines.length > 0;
+    const found = isEdited ? [this.edited, this.next].find((it) => it?.scenario === scenario) : this.plain;
+    if (found?.knownTo !== Infinity) return null;
+    return found.events.filter((it) => it.what === 'output').map(({ step, count }) => ({ step, count }));
+  }
+
   // Another scenario is wanted: other runs are read no further, and what is shown looks stale until its run is read. Without edits only
   // the unedited run is left.
   follow(scenario) {
@@ -124,7 +134,10 @@ export class Strip {
   begin(index, scenario, last) {
     const { names, sessions } = this, look = (...it) => sessions[index].replies(...it);
     const made = new Timeline({ look, scenario, last, names, changed: () => this.more(made) });
-    made.read().then(() => this.moved());
+    made.read().then(() => {
+      this.moved();
+      this.known();
+    });
     return made;
   }
 

@@ -300,8 +300,8 @@ def goes_to_the_bug(bench):
                 same(f"{label}: no step is offered", page.run("document.getElementById('bug-step').hidden"), True)
                 continue
             text, trace = worst
-            steps = looks_of(bench, words, [*lines, "goto 0", f"look next error {trace[0][0]} 1 100000"])
-            step = int(steps.split(" ")[1])
+            found = looks_rows(bench, words, [*lines, "goto 0", f"look next error {trace[0][0]} 1 100000"])[-1]
+            step = int(found.split(" ")[1])
             page.until(STATED, 20)
             same(f"{label}: the step of the state", page.run("replaycheck.machine.step"), step)
             same(f"{label}: the step of the report", page.run("replaycheck.step === replaycheck.opened.follow"), True)
@@ -321,10 +321,76 @@ def goes_to_the_bug(bench):
             same(f"{label}: complaints", page.complaints(), [])
 
 
-def looks_of(bench, words, lines):
-    """The last line that `look` replies."""
+def looks_rows(bench, words, lines):
+    """The lines that `look` replies."""
     given = "".join(f"{it}\n" for it in lines)
-    return subprocess.run([bench.program, "look", *words], input=given, capture_output=True, text=True, check=True).stdout.splitlines()[-1]
+    return subprocess.run([bench.program, "look", *words], input=given, capture_output=True, text=True, check=True).stdout.splitlines()
+
+
+# ---- the first screen, and the output
+
+# Widths and heights of windows, and how many of them from the top have the picture, the line of the error and the output.
+SCREENS = [(1280, 800, 1), (1920, 1080, 1), (768, 1024, 3), (360, 800, 3)]
+SEEN_FIRST = ("#picture", "#source tr.message", "#output-lines li")
+
+
+def first_things(bench):
+    """The picture, the line of the error with what it is, and the output are on the first screen, or on the first three of a narrow one."""
+    for width, height, screens in SCREENS:
+        with bench.browser.page(f"{bench.address}?workers=1#example=station&lines=input+1+8", width=width, height=height) as page:
+            page.until("replaycheck.shown")
+            bench.settle(page)
+            page.until(f"{SWEPT} && document.querySelector('#output-lines button') !== null && {STATED}", 120)
+            for it in SEEN_FIRST:
+                page.until(f"document.querySelector({json.dumps(it)}) !== null", 20)
+                below = page.run(f"document.querySelector({json.dumps(it)}).getBoundingClientRect().bottom + scrollY")
+                expect(below <= screens * height, f"{it} ends {below} pixels from the top at {width} x {height}")
+
+
+OUTPUTS = [[], ["input 1 8"], ["input 9 0"], ["input 2 0x0a"], ["input 2 0x48"], ["input 0 0"], ["input 2 0xc3", "input 3 0x5c"]]
+LINES = """[...document.querySelectorAll('#output-lines li')].map((it) => [it.className,
+  [...it.childNodes].filter((one) => one.className !== 'quiet').map((one) => one.textContent).join('')])"""
+
+
+def written_by(bench, words, edits):
+    """What a run writes, by the program, and the steps that write with how many bytes each."""
+    rows = looks_rows(bench, words, [*edits, "goto 100000", "look output 0 4096", "look calls 0 100000"])
+    [output] = [bytes.fromhex(row[6:]) for row in rows if row.startswith("bytes")]
+    return output, [[int(it) for it in re.findall(r"\d+", row)] for row in rows if " output " in row]
+
+
+def shown_as(output):
+    """Bytes as lines of the page."""
+    rows = output.split(b"\n")
+    told = ["".join("\\\\" if it == 92 else chr(it) if 31 < it < 127 else f"\\x{it:02x}" for it in row) for row in rows]
+    return told[:-1] if told[-1] == "" else told
+
+
+def outputs(bench):
+    """The output is what the program writes, each part leads to the step that writes it, and a line that the unedited run writes
+    otherwise is marked."""
+    plain = shown_as(written_by(bench, STATION, [])[0])
+    with bench.open() as page:
+        for edits in OUTPUTS:
+            page.run(f"replaycheck.use({json.dumps(chr(10).join(edits))})")
+            bench.settle(page)
+            output, writes = written_by(bench, STATION, edits)
+            want = shown_as(output)
+            page.until(f"replaycheck.written?.scenario === replaycheck.scenario && "
+                       f"document.querySelectorAll('#output-lines button').length >= {len(writes)}", 20)
+            told = page.run(LINES)
+            same(f"{edits}: lines", [text for how, text in told if how != "gone"], [it or " " for it in want])
+            same(f"{edits}: lines only of the unedited run", [text for how, text in told if how == "gone"], plain[len(want):])
+            marks = [edits != [] and (i >= len(plain) or plain[i] != line) for i, line in enumerate(want)]
+            same(f"{edits}: which lines differ", [how == "differs" for how, _ in told if how != "gone"], marks)
+            count = f"{len(output)} bytes" if output else "none"
+            expect(page.text("output-told").startswith(count), f"{edits}: {page.text('output-told')!r}")
+            if writes:
+                page.click_on("#output-lines button")
+                bench.settle(page)
+                same(f"{edits}: the step of the first part", page.run("replaycheck.step"), writes[0][0])
+                same(f"{edits}: it is yet to come", page.run("document.querySelector('#output-lines button').className"), "later")
+        same("complaints", page.complaints(), [])
 
 
 def own_file_to_the_bug(bench):
