@@ -1,33 +1,35 @@
 // The page: holds the scenario and the step, asks sessions for reports, and has the parts of the page show them.
-import { inBatches } from './batches.js';
-import { regionAdvice } from './boards.js';
-import { Bytes } from './bytes.js';
-import { Code } from './code.js';
-import { $, element, say } from './dom.js';
-import { Edits } from './edits.js';
-import { Elf } from './elf.js';
+import { $, $button, $input, element, say } from './common/dom.js';
+import { grouped, hexByte, hexWord, many } from './common/numbers.js';
+import { Roving } from './common/roving.js';
+import { Elf } from './debuginfo/elf.js';
+import { inBatches } from './engine/batches.js';
+import { History } from './engine/history.js';
+import { bytesIn, parseMemory } from './engine/looks.js';
+import { compared, parseReport } from './engine/report.js';
+import { loadModule, makeWorker } from './engine/resources.js';
+import { NoEdit } from './engine/scenario.js';
+import { meetsRegion, notLoaded, sentence } from './engine/sentences.js';
+import { Refused } from './engine/sessions.js';
+import { isSameTarget, targetIn, targetLines } from './engine/targets.js';
+import { messagesOf, ownFrame, worstOf } from './engine/worst.js';
 import { ERROR_KINDS, LAST_STEP, LEAK_KINDS, MODULE_SUM } from './facts.js';
-import { History } from './history.js';
-import { unitOf } from './isa.js';
-import { parseMemory } from './looks.js';
-import { Machine } from './machine.js';
-import { grouped, hexByte, hexWord, many } from './numbers.js';
-import { Opened } from './opened.js';
-import { Opening } from './opening.js';
-import { loadModule, makeWorker } from './resources.js';
-import { parseReport } from './report.js';
-import { Reports } from './reports.js';
-import { Roving } from './roving.js';
-import { NoEdit } from './scenario.js';
-import { meetsRegion, notLoaded, sentence } from './sentences.js';
-import { Refused } from './sessions.js';
-import { Source } from './source.js';
-import { Search, Steps } from './steps.js';
-import { Strip } from './strip.js';
-import { SweepPart } from './sweep-part.js';
-import { isSameTarget, targetIn, targetLines } from './targets.js';
-import { Stale, VariablesPart } from './variables-part.js';
-import { Verdict } from './verdict.js';
+import { regionAdvice } from './files/boards.js';
+import { Opened, isRunning } from './files/opened.js';
+import { Opening } from './files/opening.js';
+import { Bytes } from './panels/bytes.js';
+import { Code } from './panels/code.js';
+import { Edits } from './panels/edits.js';
+import { Machine } from './panels/machine.js';
+import { MOST_BYTES, Output } from './panels/output.js';
+import { ReportPanel } from './panels/report-panel.js';
+import { SourcePanel } from './panels/source-panel.js';
+import { Stale, VariablesPanel } from './panels/variables-panel.js';
+import { Verdict } from './panels/verdict.js';
+import { unitOf } from './riscv/isa.js';
+import { Search, Steps } from './run/steps.js';
+import { Strip } from './run/strip.js';
+import { SweepPanel } from './sweep/sweep-panel.js';
 
 const words = new URLSearchParams(location.search);
 const LIMIT = Number(words.get('memory')) || 1 << 30;  // bytes that a session may take
@@ -35,13 +37,16 @@ const WORKERS = Number(words.get('workers')) || navigator.hardwareConcurrency ||
 const SHORT_RUN = 100000;  // steps of a run whose edits are all made as it is opened
 const QUIET = 300;  // milliseconds after an edit, before landmarks are searched and the link is changed
 const LONG = 600;  // milliseconds after which work is told, with a button that stops it
-const PARTS = ['step', 'strip', 'input', 'report', 'edits', 'code', 'source', 'calls', 'variables', 'machine', 'blocks'];
+const PARTS = ['step', 'strip', 'input', 'report', 'edits', 'code', 'source', 'output', 'calls', 'variables', 'machine', 'blocks'];
 // Parts that are one stop of the Tab key each, and what a row is in them.
 const ROVING = [['examples', 'nav'], ['landmarks', 'div'], ['legend-rows'], ['chips', 'li'], ['report', 'li, p'], ['code-rows'],
-  ['source-rows'], ['calls', 'li'], ['variable-rows'], ['global-rows'], ['registers', 'li'], ['bits', '#bits'], ['memory-rows'],
-  ['block-rows']];
+  ['source-rows'], ['output-lines', 'li'], ['calls', 'li'], ['variable-rows'], ['global-rows'], ['registers', 'li'], ['bits', '#bits'],
+  ['memory-rows'], ['block-rows']];
 const CHANGES_NOTHING = /^(?:#.*|report|worked|)$/;  // lines of a text that are no edits
 const BEYOND_STEPS = 5;  // the number with which a session refuses a step
+
+// Whether text is typed into an element, which has undo of its own.
+const isText = (it) => it instanceof HTMLTextAreaElement || (it instanceof HTMLInputElement && !/^(?:range|checkbox)$/.test(it.type));
 
 // The program's module can't be loaded, in words.
 class NotLoaded extends Error {}
@@ -53,18 +58,19 @@ class App {
   /** @type {?Opened} */ opened = null;
   /** @type {?History} */ history = null;
   sources = new Map();
-  /** @type {Source} */ source;
+  /** @type {SourcePanel} */ source;
   /** @type {Opening} */ opening;
   /** @type {Bytes} */ bytes;
   /** @type {Code} */ code;
   /** @type {Machine} */ machine;
-  /** @type {VariablesPart} */ variables;
-  /** @type {Reports} */ reports;
+  /** @type {VariablesPanel} */ variables;
+  /** @type {ReportPanel} */ reports;
   /** @type {Verdict} */ verdict;
   /** @type {Steps} */ steps;
   /** @type {Strip} */ strip;
   /** @type {Edits} */ edits;
-  /** @type {SweepPart} */ sweeps;
+  /** @type {Output} */ output;
+  /** @type {SweepPanel} */ sweeps;
   wanted;
   /** @type {?Opened} */ judged;
   scenario;
@@ -73,31 +79,36 @@ class App {
   step;
   isWanted;
   isBusy;
+  ended = null;
+  written = null;
   timer;
   lookedAt;
+  visited;
 
   constructor() {
     const edit = (scenario, series) => this.edit(scenario, series);
     const refuse = (text, how) => this.notice(text, how);
     const make = (...edit) => this.make(...edit);
-    this.source = new Source({ visit: (address) => this.code.visit(address), refuse });
+    this.source = new SourcePanel({ visit: (address) => this.code.visit(address), refuse });
     this.opening = new Opening({ open: (files, how) => this.open(files, how), refuse, source: this.source });
     this.bytes = new Bytes({ edit, tell: (at) => this.byteTold(at), moved: () => this.sweeps?.picture.draw() });
     const alter = (line) => this.edit(this.scenario.after(line));
     this.code = new Code({ edit, alter, refuse, shows: (address) => this.source.visit(address) });
     this.machine = new Machine({ look: (step, lines) => this.opened.session.replies(this.shown.scenario, step, lines),
-      search: (scenario, step, lines) => this.opened.search.replies(scenario, step, lines), again: () => this.showMachine(), alter, refuse,
+      search: (scenario, step, lines) => this.opened.search.replies(scenario, step, lines), again: () => this.showState(), alter, refuse,
       go: (step) => this.go(step), showPc: (pc, step) => this.showPlace(pc, step), visit: (address) => this.code.visit(address),
       functionAt: (address) => this.opened.elf.functionAt(address), lineOf: (address) => this.opened.lineOf(address),
       rests: () => this.showVariables() });
-    this.variables = new VariablesPart({ show: (address) => this.machine.choose(address, address), fail: (fault) => this.unread(fault) });
-    this.reports = new Reports({ lineOf: (address) => this.opened.lineOf(address), visit: (address) => this.code.visit(address),
+    this.variables = new VariablesPanel({ show: (address) => this.machine.choose(address, address), fail: (fault) => this.unread(fault) });
+    this.reports = new ReportPanel({ lineOf: (address) => this.opened.lineOf(address), visit: (address) => this.code.visit(address),
       suppress: (text) => this.edit(this.scenario.withSuppression(text)), kinds: { errors: ERROR_KINDS, leaks: LEAK_KINDS } });
     const showPicture = () => { $('picture').scrollIntoView({ block: 'center' }); $('picture').focus({ preventScroll: true }); };
     this.verdict = new Verdict({ lineOf: (address) => this.opened.lineOf(address), isa: () => this.opened.isa, go: (step) => this.go(step),
       certify: () => this.certifyLong(), showPicture });
     this.steps = new Steps({ go: (step) => this.go(step), most: LAST_STEP });
-    this.strip = new Strip({ choose: (step) => this.steps.choose(step), explain: (fault) => sentence(fault, LIMIT) });
+    this.output = new Output({ go: (step) => this.steps.choose(step) });
+    this.strip = new Strip({ choose: (step) => this.steps.choose(step), explain: (fault) => sentence(fault, LIMIT),
+      known: () => this.showOutput() });
     this.edits = new Edits({ edit, clear: () => this.edit(this.opened.plain), use: (text) => this.use(text), refuse,
       tell: (text) => this.notice(text, 'good'),
       link: async () => new URL(await this.opening.link(this.lines), location.href).href,
@@ -105,7 +116,7 @@ class App {
     const state = () => ({ program: this.opened.program, lineOf: this.opened.lineOf, scenario: this.scenario, step: this.step,
       plain: this.opened.plain, range: this.code.range, name: this.code.shown?.name,
       instructionsIn: (...ends) => this.code.instructionsIn(...ends), isEnd: this.step === this.opened.follow });
-    this.sweeps = new SweepPart({ state, make, refuse, fail: (fault) => this.notice(sentence(fault, LIMIT)),
+    this.sweeps = new SweepPanel({ state, make, refuse, fail: (fault) => this.notice(sentence(fault, LIMIT)),
       told: () => this.showCounts(), makeWorker, workers: WORKERS, ends: (count) => this.bytes.ends(count),
       pointed: (at) => this.bytes.point(at) });
     for (const it of ROVING) new Roving(...it);
@@ -121,9 +132,8 @@ class App {
     addEventListener('hashchange', () => this.opening.follow(location.hash));
     addEventListener('pagehide', () => this.keep());
     addEventListener('keydown', (event) => {
-      const isText = /^(?:INPUT|TEXTAREA)$/.test(event.target.tagName) && !/^(?:range|checkbox)$/.test(event.target.type);
       const key = event.key.toLowerCase();
-      if (!(event.ctrlKey || event.metaKey) || isText || (key !== 'z' && key !== 'y')) return;
+      if (!(event.ctrlKey || event.metaKey) || isText(event.target) || (key !== 'z' && key !== 'y')) return;
       this.travel(key === 'y' || event.shiftKey ? 1 : -1);
       event.preventDefault();
     });
@@ -172,7 +182,7 @@ class App {
     } catch (fault) {
       if (wanted !== this.wanted) return null;
       if (fault instanceof NotLoaded) this.unusable(fault.message);
-      else this.unusable(sentence(fault, LIMIT), meetsRegion(fault) ? this.elsewhere(files, how) : {});
+      else this.unusable(sentence(fault, LIMIT), meetsRegion(fault) ? this.elsewhere(files, how) : undefined);
     }
     return null;
   }
@@ -185,7 +195,7 @@ class App {
     return { more: text, offered: [...(button ? [button, ' '] : []), more] };
   }
 
-  unusable(text, { more = '', offered } = {}) {
+  unusable(text, { more, offered } = { more: '', offered: [] }) {
     this.judged?.close();
     this.judged = null;
     if (!this.opened) this.failed();
@@ -223,6 +233,8 @@ class App {
     this.history = null;
     this.shown = null;
     this.marked = null;
+    this.ended = null;
+    this.written = null;
     this.notice('');
     this.showTravel();
     $('main').inert = true;
@@ -263,7 +275,7 @@ class App {
     this.step = follow;
     this.left = 0;
     say('example-told', this.opening.example?.about ?? '');
-    if (this.opening.example) $('goal').value = this.opening.example.goal ?? '';
+    if (this.opening.example) $input('goal').value = this.opening.example.goal ?? '';
     say('heap-told', opened.heap);
     this.showBoard();
     this.showParts(true);
@@ -273,6 +285,7 @@ class App {
     this.strip.open(opened);
     this.source.open(opened, this.opening.ownSources);
     this.variables.open(opened.variables);
+    this.output.clear();
     this.code.open(opened, scenario);
     this.machine.open();
     if (lines.length) this.use(lines.join('\n'));
@@ -334,8 +347,8 @@ class App {
   }
 
   showTravel() {
-    $('undo').disabled = !this.history?.canUndo;
-    $('redo').disabled = !this.history?.canRedo;
+    $button('undo').disabled = !this.history?.canUndo;
+    $button('redo').disabled = !this.history?.canRedo;
   }
 
   // Goes back or on in the history, in which other files may have been open.
@@ -459,28 +472,127 @@ class App {
 
   display() {
     const { step, report, unedited, time } = this.shown;
-    const isLast = step === this.opened.follow, runsOn = report.state.startsWith('running');
+    const isLast = step === this.opened.follow, runsOn = isRunning(report);
     const at = `at step ${grouped(report.step)}`, where = isLast ? (runsOn ? `${at}, still running` : 'at the end of the run') : at;
     this.reports.show(report, unedited, where);
-    this.verdict.show(report, unedited, { fresh: this.reports.groups.filter((it) => it.how === 'new'), time, isLast });
     this.verdict.certify('');
+    this.showVerdict();
     this.strip.at(this.steps.shown);
     this.showScenario();
     this.lookAtNew();
-    this.showMachine();
+    this.verdict.offerBug(null);
+    this.showState();
     clearTimeout(this.timer);
     this.timer = setTimeout(() => this.settle(), QUIET);
   }
 
-  // Shows registers and memory at the step of what is shown.
-  async showMachine() {
-    const { turn, shown } = this;
+  // The line at the top is of the run up to its end, whichever step is looked at.
+  async showVerdict() {
+    const { shown, opened } = this, { scenario, step, report, unedited, time } = shown;
+    const tell = (end, before, at) => {
+      const fresh = compared(end, before).filter((it) => it.how === 'new');
+      this.verdict.show(end, before, { fresh, time, at });
+      this.source.tell(messagesOf(end.groups, opened.lineOf));
+      this.readOutput(scenario, end.written);
+      this.showCounts();
+    };
+    if (step === opened.follow || !isRunning(report)) {
+      this.ended = { scenario, report };
+      tell(report, unedited, null);
+      return;
+    }
+    if (this.ended?.scenario !== scenario) this.verdict.showSoFar(report);
     try {
-      await this.machine.show(shown);
+      const [end, before] = await Promise.all([this.reportAtEnd(scenario), opened.reportBefore(opened.follow)]);
+      if (shown === this.shown && shown.scenario === this.scenario) tell(end, before, report);
+    } catch {
+      // Memory that runs out before the end, or a run that is no longer wanted: then the line is of the step.
+    }
+  }
+
+  // Reads what a run writes, and what the unedited one does.
+  async readOutput(scenario, length) {
+    const { opened } = this, { plain, follow } = opened;
+    const read = (session, of) => session.replies(of, follow, [`look output 0 ${MOST_BYTES}`]);
+    if (this.written?.scenario === scenario) {
+      this.showOutput();
+      return;
+    }
+    try {
+      const session = this.step === follow ? opened.session : opened.search;
+      const [[now], before] = await Promise.all([read(session, scenario), scenario.lines.length ? read(opened.unedited, plain) : null]);
+      if (opened !== this.opened || scenario !== this.scenario) return;
+      this.written = { scenario, length, bytes: bytesIn(now), before: before && bytesIn(before[0]) };
+      this.showOutput();
+    } catch {
+      // Memory that runs out, or a run that is no longer wanted: then what was written stays.
+    }
+  }
+
+  // Shows what was read of the output, with the steps of its writes once these are known.
+  showOutput() {
+    const { written, scenario, step } = this;
+    if (!written || written.scenario !== scenario) return;
+    const writes = this.strip.writesOf(scenario);
+    this.output.show({ ...written, writes, step: step === this.opened.follow ? null : step });
+  }
+
+  // The report of a scenario where its run ends, or is looked at no further.
+  async reportAtEnd(scenario) {
+    const { opened } = this;
+    if (scenario === opened.plain) return opened.reportBefore(opened.follow);
+    if (this.ended?.scenario !== scenario) {
+      this.ended = { scenario, report: parseReport(await opened.search.report(scenario, opened.follow)) };
+    }
+    return this.ended.report;
+  }
+
+  // The error, leak or stop to which the page goes by itself, where the end of a run is looked at: the worst that is new, or else the worst
+  // at all. Null where there is none, or where one wants nothing to be done.
+  get bug() {
+    const { step, report } = this.shown;
+    if (words.has('still') || step !== this.opened.follow) return null;
+    const errors = (groups) => worstOf(groups.filter((it) => it.isError)) ?? worstOf(groups);
+    const fresh = this.reports.groups.filter((it) => it.how === 'new').map((it) => it.group);
+    return errors(fresh) ?? errors(report.groups);
+  }
+
+  // Shows calls, registers and memory: at the step that is looked at, or, where that is the end, before the worst error, whose line comes
+  // into view.
+  async showState() {
+    const { turn, shown, bug } = this;
+    try {
+      if (!bug) {
+        await this.machine.show(shown);
+        return;
+      }
+      const at = await this.stateAt(bug, shown);
+      if (shown !== this.shown || turn !== this.turn) return;
+      this.verdict.offerBug(at.isBug ? at.step : null);
+      const isDone = this.machine.show(at);
+      this.visitBug(bug, shown);
+      await isDone;
     } catch (fault) {
       const isWanted = shown === this.shown && shown.scenario === this.scenario && shown.step === this.step;
       if (turn === this.turn && isWanted) this.notice(sentence(fault, LIMIT));
     }
+  }
+
+  // What is shown of a run before its instruction raises an error: that of the end where it can't be found, or where it is a leak.
+  async stateAt({ isError, trace }, shown) {
+    if (!isError || !trace.length) return shown;
+    const { scenario } = shown, { search, session, follow } = this.opened, { lines } = this.machine;
+    const [found] = await search.replies(scenario, 0, [`look next error ${hexWord(trace[0].address)} 1 ${follow}`]);
+    const [, step] = /^step (\d+)\n?$/.exec(found) ?? [];
+    if (step === undefined) return shown;
+    return { ...shown, step: Number(step), isBug: true, lines, looks: await session.replies(scenario, Number(step), lines) };
+  }
+
+  // Has the line of the worst error in view, once, where nobody works in the code.
+  visitBug({ trace }, shown) {
+    const frame = ownFrame(trace, this.opened.lineOf), isFree = !$('code-part').contains(document.activeElement);
+    if (frame && isFree && this.visited !== shown) this.code.visit(frame.address, false);
+    this.visited = shown;
   }
 
   // Shows where the run is: its code and its line.
@@ -493,7 +605,8 @@ class App {
     const { shown, seen } = this.machine, { session } = this.opened;
     const look = inBatches(async (lines) => {
       await session.rest();
-      if (shown.step !== this.step || shown.scenario !== this.scenario) throw new Stale();  // or the session would have to go back
+      const isThere = shown.isBug ? this.step === this.opened.follow : shown.step === this.step;
+      if (!isThere || shown.scenario !== this.scenario) throw new Stale();  // or the session would have to go back
       return session.replies(shown.scenario, shown.step, lines);
     });
     this.variables.show(seen.pc, seen.registers, async (address, length) => {
@@ -526,6 +639,7 @@ class App {
 
   // Shows the code at the first error that is new, once, where nobody works there.
   lookAtNew() {
+    if (this.bug) return;
     const group = this.reports.groups.find((it) => it.how === 'new')?.group, key = group?.key ?? '';
     const isFree = !$('code-part').contains(document.activeElement);
     if (key && key !== this.lookedAt && isFree && group.trace.length) this.code.visit(group.trace[0].address, false);

@@ -20,7 +20,8 @@ from replaycheck.reports import LEAK_KINDS, TEXTS
 from .scripts import one_script
 
 SOURCES, EXAMPLES = TOP / "page", TOP / "examples"
-MAIN, WORKER, RESOURCES, ONE_FILE = "main.js", "worker.js", "resources.js", "one-file.js"
+MAIN, WORKER, RESOURCES, ONE_FILE = "main.js", "engine/worker.js", "engine/resources.js", "engine/one-file.js"
+INLINED = "engine/inlined.js"
 POLICY = re.compile(r'(<meta http-equiv="Content-Security-Policy" content=")[^"]*(">)')
 STYLE = '<link rel="stylesheet" href="page.css">'
 SCRIPT = f'<script type="module" src="{MAIN}"></script>'
@@ -68,9 +69,15 @@ def examples():
 
 
 def modules_of(module):
-    """The modules of the page: those of its folder, and those that are made."""
-    found = {path.name: path.read_text() for path in sorted(SOURCES.glob("*.js"))}
+    """The modules of the page by their paths: those of its folder, and those that are made. A folder `tests` is no part of it."""
+    paths = [path.relative_to(SOURCES) for path in sorted(SOURCES.rglob("*.js"))]
+    found = {path.as_posix(): (SOURCES / path).read_text() for path in paths if "tests" not in path.parts}
     return {**found, "facts.js": facts(module), "examples.js": examples()}
+
+
+def inlined(packed, worker):
+    """What the page of one file has in the place of files beside it."""
+    return constant("MODULE", packed) + constant("WORKER", worker)
 
 
 def write_folder(folder, module):
@@ -81,8 +88,8 @@ def write_folder(folder, module):
     for name in ("index.html", "page.css"):
         files[name] = (SOURCES / name).read_bytes()
     files["replaycheck.wasm"] = module
-    folder.mkdir(parents=True, exist_ok=True)
     for name, content in files.items():
+        (folder / name).parent.mkdir(parents=True, exist_ok=True)
         (folder / name).write_bytes(content)
 
 
@@ -102,7 +109,7 @@ def one_file(module):
     modules = modules_of(module)
     worker = one_script(WORKER, modules)
     packed = base64.b64encode(gzip.compress(module, 9, mtime=0)).decode()
-    modules["inlined.js"] = constant("MODULE", packed) + constant("WORKER", worker)
+    modules[INLINED] = inlined(packed, worker)
     modules[RESOURCES] = modules.pop(ONE_FILE)
     script = one_script(MAIN, modules).replace("</script", "<\\/script").replace("<!--", "<\\!--")
     style = (SOURCES / "page.css").read_text()

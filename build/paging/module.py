@@ -18,7 +18,7 @@ from . import kit as kits
 NAME = "replaycheck"
 PROGRAM = TOP / "crates" / NAME / "out" / NAME
 CHECKED = TOP / "out" / "build" / "checked"  # the first build keeps here what its check of the program's crate proved
-SHIM = TOP / "page" / "shim.c"
+SHIM = TOP / "page" / "engine" / "shim.c"
 KEPT = pathlib.Path(os.environ.get("XDG_CACHE_HOME") or pathlib.Path.home() / ".cache") / "replaycheck" / "page-modules"
 MOST_KEPT = 4
 STACK, MOST_MEMORY = 4 << 20, 4 << 30

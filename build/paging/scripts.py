@@ -1,13 +1,20 @@
 """Modules of JavaScript as one script: each a function that gives what it exports, in the order in which they need each
-other."""
+other. A module is known by its path below the page's folder, such as `engine/worker.js`."""
+import posixpath
 import re
 
 from replaycheck.endings import Fault
 
-IMPORT = re.compile(r"^import \{ ([^}]+) \} from '\./([a-z-]+\.js)';\n", re.M)
+IMPORT = re.compile(r"^import \{ ([^}]+) \} from '(\.{1,2}/[a-z./-]*[a-z-]+\.js)';\n", re.M)
 EXPORT = re.compile(r"^export (?=(?:async )?(?:const|let|function|class) )", re.M)
 EXPORTED = re.compile(r"^export (?:async )?(?:const|let|function|class) ([\w$]+)", re.M)
-OTHER = re.compile(r"^\s*(?:import|export)\b", re.M)
+OTHER = re.compile(r"^\s*(?:import|export)\b|\bimport\.meta\b", re.M)
+
+
+def imports_of(name, modules):
+    """What a module imports: the path of each module that it names, with the names that it takes from it."""
+    folder = posixpath.dirname(name)
+    return [(posixpath.normpath(posixpath.join(folder, found[2])), found[1]) for found in IMPORT.finditer(modules[name])]
 
 
 def order_of(name, modules, seen=(), done=None):
@@ -17,8 +24,8 @@ def order_of(name, modules, seen=(), done=None):
         raise Fault(f"the page's modules import each other in a circle: {' '.join([*seen, name])}")
     if name not in modules:
         raise Fault(f"{seen[-1] if seen else 'the page'}: imports {name}, which doesn't exist")
-    for found in IMPORT.finditer(modules[name]):
-        order_of(found[2], modules, (*seen, name), done)
+    for needed, _ in imports_of(name, modules):
+        order_of(needed, modules, (*seen, name), done)
     if name not in done:
         done.append(name)
     return done
@@ -30,14 +37,15 @@ def variable(name):
 
 def is_found(name, modules):
     """Whether all that a module imports is exported by name, as a name that isn't would only be undefined in one script."""
-    return all(word.split()[0] in EXPORTED.findall(modules[found[2]])
-               for found in IMPORT.finditer(modules[name]) for word in found[1].split(","))
+    return all(word.split()[0] in EXPORTED.findall(modules[needed])
+               for needed, words in imports_of(name, modules) for word in words.split(","))
 
 
-def wrapped(name, text):
+def wrapped(name, modules):
     """A module as a function that is called at once."""
-    exported = ", ".join(EXPORTED.findall(text))
-    body = IMPORT.sub(lambda it: f"const {{ {it[1].replace(' as ', ': ')} }} = {variable(it[2])};\n", text)
+    text = modules[name]
+    exported, needed = ", ".join(EXPORTED.findall(text)), iter(imports_of(name, modules))
+    body = IMPORT.sub(lambda it: f"const {{ {it[1].replace(' as ', ': ')} }} = {variable(next(needed)[0])};\n", text)
     body = EXPORT.sub("", body)
     if OTHER.search(body):
         raise Fault(f"{name}: an import or export in a form that the page of one file doesn't support")
@@ -50,4 +58,7 @@ def one_script(name, modules):
     for it in names:
         if not is_found(it, modules):
             raise Fault(f"{it}: imports something that isn't exported in a form that the page of one file supports")
-    return "'use strict';\n" + "".join(wrapped(it, modules[it]) for it in names)
+    variables = [variable(it) for it in names]
+    if len(set(variables)) < len(variables):
+        raise Fault(f"two of the page's modules have the same name in one script: {' '.join(names)}")
+    return "'use strict';\n" + "".join(wrapped(it, modules) for it in names)

@@ -2,11 +2,14 @@
 finds. They need the assembler."""
 import base64
 import json
+import os
 import pathlib
+import shlex
 import subprocess
 import tempfile
 
 from board_files import READ_RUN, board, function, segment
+from checkout import TOP
 from page_bench import expect, same
 from replaycheck.adopting.findings import Findings
 from replaycheck.adopting.regions import fitting
@@ -68,8 +71,37 @@ def board_files(bench):
         bench.settle(page)
         same("a name with markup", page.text("board-command"), f"replaycheck adopt '{hostile}' -o adopted.elf")
         same("elements of it", page.run("document.querySelectorAll('#board-told img').length"), 0)
-        names = page.run("""import('./boards.js').then(({ typed }) => ['a.elf', "it's", '-o', '$(reboot).elf'].map(typed))""")
+        names = page.run("""import('./files/boards.js').then(({ typed }) => ['a.elf', "it's", '-o', '$(reboot).elf'].map(typed))""")
         same("names as a shell takes them", names, ["a.elf", "'it'\\''s'", "'./-o'", "'$(reboot).elf'"])
+
+
+# Codes, flags and sets with which the page names a command that writes a file.
+DEVICE = "lui a0, 0x10013; lw a1, 0(a0); li a0, 0; li a7, 93; ecall"
+WRITING = [("a device", DEVICE, 0, "rv32im"), ("a device, with 16 bits", DEVICE, 1, SHORT), ("a device, with atomic", DEVICE, 1, ATOMIC),
+           ("a control register", ".word 0x30002573; li a0, 0; li a7, 93; ecall", 0, "rv32im"),
+           ("a call of a host", "ebreak; li a0, 0; li a7, 93; ecall", 0, "rv32im")]
+
+
+def commands_typed(bench):
+    """A command that the page names for a board's file, typed as it is, writes the file that it names."""
+    with bench.page() as page, tempfile.TemporaryDirectory() as folder:
+        path = pathlib.Path(folder)
+        for label, text, flags, isa in WRITING:
+            data = file_of(text, flags)
+            page.run(f"replaycheck.opening.again({{ isa: {json.dumps(isa)} }})")
+            bench.give(page, {"program": data, "input": b"abc"}, name=NAME)
+            bench.settle(page)
+            command = page.text("board-command")
+            expect(command.startswith("replaycheck adopt ") and command.endswith(" -o adopted.elf"), f"{label}: it names {command!r}")
+            same(f"{label}: the set", f"--isa {isa}" in command, isa != "rv32im")
+            (path / NAME).write_bytes(data)
+            (path / "input.bin").write_bytes(b"abc")
+            (path / "adopted.elf").unlink(missing_ok=True)
+            words = [TOP / "cli/bin/replaycheck-adopt", *shlex.split(command)[2:]]
+            ran = subprocess.run(words, cwd=folder, capture_output=True, text=True, env={**os.environ, "REPLAYCHECK": bench.program})
+            expect((path / "adopted.elf").is_file(), f"{label}: {command!r} wrote nothing: {ran.stdout}{ran.stderr}")
+            done = subprocess.run([bench.program, "run", f"--isa={isa}", path / "adopted.elf"], capture_output=True, text=True)
+            expect(done.stdout.startswith("step "), f"{label}: the program says {done.stderr!r} of the file")
 
 
 def region_files(bench):
@@ -97,7 +129,7 @@ def fitting_on(page, data):
     """Where the page would have heap and stack for a file, for each of some regions that are chosen."""
     text, chosen = base64.b64encode(data).decode(), [{"isa": "rv32im", "heap": it.heap, "stack": it.stack} for it in CHOSEN]
     return page.run(f"""(async () => {{
-      const [{{ Elf }}, {{ fitting }}] = await Promise.all([import('./elf.js'), import('./boards.js')]);
+      const [{{ Elf }}, {{ fitting }}] = await Promise.all([import('./debuginfo/elf.js'), import('./files/boards.js')]);
       const elf = new Elf(Uint8Array.from(atob('{text}'), (it) => it.charCodeAt(0)));
       return {json.dumps(chosen)}.map((it) => fitting(elf, it)).map((it) => it && [it.heap, ...it.stack]); }})()""")
 

@@ -38,7 +38,7 @@ def asked(page, worked, groups, again=False):
     """What the page's worker is answered to groups of lines."""
     files = {name: list(getattr(worked, name)) for name in ("program", "input", "supp")}
     return page.run("""(async ({ files, groups, again }) => {
-      const { Helper } = await import('./sessions.js'), { loadModule, makeWorker } = await import('./resources.js');
+      const { Helper } = await import('./engine/sessions.js'), { loadModule, makeWorker } = await import('./engine/resources.js');
       for (const name in files) files[name] = Uint8Array.from(files[name]);
       const helper = new Helper(makeWorker), replies = [];
       await helper.ask('begin', { module: await loadModule(), files, limit: 2 ** 30, again });
@@ -69,7 +69,7 @@ def each_order(bench):
                     same(f"{path.stem}: {first} and then {second}", asked(page, worked, [worked.lines]), native_replies(bench, worked))
 
 
-PATCHES = """import { Scenario, linesBetween } from './scenario.js';
+PATCHES = """import { Scenario, linesBetween } from './engine/scenario.js';
 const SIZE = 12, base = new Uint8Array();
 let seed = 1;
 const random = (below) => { seed = (Math.imul(seed, 1103515245) + 12345) >>> 0; return (seed >>> 8) % below; };

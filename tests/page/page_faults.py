@@ -193,7 +193,7 @@ def endless_tables(bench):
     """Tables of a file that name the same bytes again and again, or that have no end, don't hold up the page."""
     with bench.page() as page:
         spent = page.run("""(async () => {
-          const { Elf } = await import('./elf.js'), { sourceLines } = await import('./lines.js');
+          const { Elf } = await import('./debuginfo/elf.js'), { sourceLines } = await import('./debuginfo/lines.js');
           const bytes = new Uint8Array(16 << 20).fill(65), view = new DataView(bytes.buffer), begun = performance.now();
           const word = (at, value) => view.setUint32(at, value, true);
           word(0, 0x464c457f); word(32, 64); view.setUint16(46, 40, true); view.setUint16(48, 60000, true); view.setUint16(50, 0, true);

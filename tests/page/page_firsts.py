@@ -2,6 +2,8 @@
 run, the line on uninitialised memory, and the colours."""
 import json
 import math
+import random
+import re
 import subprocess
 
 from guest_files import elf
@@ -41,7 +43,7 @@ def broken(bench, words, edits, step, option="--values=all", goal=None):
     """How many edits the program's table of an edited run has, and how many of them have something new; with a goal, how many reach it,
     too."""
     given = open(words[2], "rb").read()
-    for line in edits:
+    for line in (it for it in edits if not it.startswith("goto ")):
         _, at, value = line.split(" ")
         given = given[:int(at)] + bytes([int(value)]) + given[int(at) + 1:]
     own, table = table_of(bench, words, given, option, step)
@@ -77,7 +79,16 @@ COUNTS = [
     ("edge values", [], "edges", "", "edge-value edits", BREAK),
     ("a goal", [], "flips", "exited 1", "one-bit edits", BREAK),
     ("a goal that nothing reaches", [], "edges", "exited 99", "edge-value edits", BREAK),
+    ("a step of the unedited run", ["goto 170"], "flips", "", "one-bit edits", BREAK),
+    ("a step before an error", ["goto 170", "input 1 8"], "edges", "", "edge-value edits", BREAK),
+    ("a step after the end", ["goto 9000"], "edges", "", "edge-value edits", BREAK),
 ]
+
+
+def is_running(bench, edits, step):
+    """Whether the edited run of station goes on at a step, by the program's report."""
+    lines = [*(it for it in edits if not it.startswith("goto ")), f"goto {step}", "report"]
+    return bench.native(STATION, lines)[-1].split("\n")[1].startswith("state running")
 
 
 def counts(bench):
@@ -96,7 +107,8 @@ def counts(bench):
                 reach = phrase(reached[0], total, called, (f"reaches “{goal}”", f"reach “{goal}”"))
                 want = f"{reach}, and {new or 'none'} {verbs[new > 1]}"
             page.until(f"!{COUNTED}.includes('so far')", 5)
-            same(label, page.run(COUNTED), want)
+            step = page.run("replaycheck.step")
+            same(label, page.run(COUNTED), want + (f" up to step {step:,}" if is_running(bench, edits, step) else ""))
         page.run("replaycheck.opening.choose('kinds')")
         bench.settle(page)
         page.set("sweep-values", "all")
@@ -179,6 +191,9 @@ def certified(bench):
             told = page.text("certified") if not page.run("document.getElementById('certified').hidden") else None
             same(f"{label}: {line}", told and ("no influence" in told), is_clean)
             same(f"{label}: whether it goes on", "the run goes on" in (told or ""), want.endswith("the run goes on"))
+            until = re.match(r"clean up to step (\d+):", want)
+            step = f"up to step {int(until[1]):,};" if until else "up to"
+            same(f"{label}: up to which step", step in (told or ""), bool(until))
         page.run("replaycheck.use('input 37 5')")
         bench.settle(page)
         page.until("document.getElementById('certified').title.includes('first use')", 10)
@@ -186,6 +201,213 @@ def certified(bench):
         bench.settle(page)
         same("the step of the first use", page.run("replaycheck.step"), 684)
     certified_when_asked(bench)
+
+
+# Edits of station, and the errors and the state at the end of the run: its line says that at each step.
+VERDICTS = [[], ["input 1 8"], ["input 37 5"], ["input 0 0"], ["input 9 0"], ["input 1 8", "input 37 5"]]
+IN_SHORT = re.compile(r"state (\w+) ?(.*)")
+
+
+def verdict_of_the_run(bench):
+    """Whichever step is looked at, the line at the top says how the run ends, by the program's report there; another one says how it is at
+    the step."""
+    chance = random.Random(5)
+    with bench.open() as page:
+        for edits in VERDICTS:
+            end = bench.native(STATION, [*edits, "goto 100000", "report"])[-1]
+            for step in (None, *(chance.randrange(1, 800) for _ in range(3)), 90000):
+                page.run(f"replaycheck.use({json.dumps(chr(10).join([*edits, *([] if step is None else [f'goto {step}'])]))})")
+                bench.settle(page)
+                label = f"{edits} at step {step}"
+                page.until("!document.getElementById('verdict').textContent.startsWith('up to step')", 20)
+                same(label, in_short(page.text("verdict")), in_report(end))
+                at = bench.native(STATION, [*edits, f"goto {step or 100000}", "report"])[-1]
+                is_at = "state running" in at
+                same(f"{label}: its own line", page.run("document.getElementById('verdict-at').hidden"), not is_at)
+                if is_at:
+                    same(f"{label}: the step", in_short(page.text("verdict-at").split(": ", 1)[1])[1], in_report(at)[1])
+                    expect(page.text("verdict-at").startswith(f"at step {step:,}: running at "), page.text("verdict-at"))
+
+
+def in_short(told):
+    """How a run ends and how many errors it has, by a line of the page."""
+    words = told.split(" · ")
+    found = re.match(r"([\d,]+) errors? in ([\d,]+) places?$", words[1])
+    return words[0].replace(" with", "") if words[0].startswith("exited") else "running", found and found[1], found and found[2]
+
+
+def in_report(report):
+    """The same by a report."""
+    state, rest = IN_SHORT.search(report).groups()
+    errors, places = re.search(r"ERROR SUMMARY: (\d+) errors from (\d+) contexts", report).groups()
+    counts = (errors, places) if errors != "0" else (None, None)
+    return f"{state} {rest}" if state == "exited" else state, *counts
+
+
+def new_leaks(bench):
+    """Of leaks that only the edited run has it says that they are leaks, and of an error where it is."""
+    with bench.open("kinds") as page:
+        for value in range(24):
+            page.run(f"replaycheck.use('input 0 {value}')")
+            bench.settle(page)
+            fresh = page.run("replaycheck.reports.groups.filter((it) => it.how === 'new').map((it) => [it.group.isError, it.group.text])")
+            errors, leaks, told = sum(it for it, _ in fresh), sum(not it for it, _ in fresh), page.text("verdict")
+            if len(fresh) == 1:
+                expect(f"new: {fresh[0][1]} in " in told, f"{value}: it says {told!r}")
+                expect(re.search(r"\.[chS]:\d+$", told), f"{value}: it says no line: {told!r}")
+            elif fresh:
+                counts = [f"{count} {what}{'s' * (count > 1)}" for count, what in ((errors, "error"), (leaks, "leak")) if count]
+                expect(f"{' and '.join(counts)}, new" in told, f"{value}: it says {told!r}")
+            else:
+                expect("new" not in told, f"{value}: it says {told!r}")
+
+
+# Examples with edits. Not each adds an error: of a leak there is no step to go to.
+BUGS = [("station", ["input 1 8"]), ("station", ["input 37 5"]), ("station", ["input 9 0"]), ("packet", ["input 0 9"]),
+        ("kinds", ["input 0 1"]), ("kinds", ["input 0 7"]), ("kinds", ["input 0 16"]), ("use-after-free", [])]
+STATED = "replaycheck.machine.shown?.scenario === replaycheck.scenario && replaycheck.machine.shown.isBug"
+SHOWN_ROWS = """[...document.querySelectorAll('#source tr')].flatMap((it) => (it.className === 'message'
+  ? [it.textContent] : []))"""
+
+
+def errors_in(report):
+    """The errors of a report, each with its text and the addresses and names of its trace."""
+    found = re.findall(r"^error \d+: (.*)\n((?:   .*\n)*)", report, re.M)
+    return [(text, re.findall(r"(0x[0-9a-f]{8}): (.*)", trace)) for text, trace in found]
+
+
+def worst_of(report, plain):
+    """The worst of the errors that another report doesn't have, or else the worst at all; None without any."""
+    def bad(error):
+        return next((bad for begin, bad in BADNESS if error[0].startswith(begin)), 0)
+    had = [(text, trace) for text, trace in errors_in(plain)]
+    errors = errors_in(report)
+    return max([it for it in errors if it not in had] or errors, key=bad, default=None)
+
+
+def goes_to_the_bug(bench):
+    """After opening and after each edit the worst error's line is in view with what it is, and the state is that before its step, by the
+    program's looks; a button goes there."""
+    for example, lines in BUGS:
+        with bench.open(example, words="?workers=1") as page:
+            page.run(f"replaycheck.use({json.dumps(chr(10).join(lines))})")
+            bench.settle(page)
+            words, label = words_of(example), f"{example} {lines}"
+            plain, report = (bench.native(words, [*it, "goto 100000", "report"])[-1] for it in ([], lines))
+            worst = worst_of(report, plain)
+            if worst is None:
+                page.until("replaycheck.machine.rested", 20)
+                same(f"{label}: no step is offered", page.run("document.getElementById('bug-step').hidden"), True)
+                continue
+            text, trace = worst
+            found = looks_rows(bench, words, [*lines, "goto 0", f"look next error {trace[0][0]} 1 100000"])[-1]
+            step = int(found.split(" ")[1])
+            page.until(STATED, 20)
+            same(f"{label}: the step of the state", page.run("replaycheck.machine.step"), step)
+            same(f"{label}: the step of the report", page.run("replaycheck.step === replaycheck.opened.follow"), True)
+            same(f"{label}: pc", page.run("replaycheck.machine.seen.pc"), int(trace[0][0], 16))
+            expect(f"before step {step:,}, the worst error’s" in page.text("machine-told"), f"{label}: {page.text('machine-told')!r}")
+            expect(text in page.text("verdict"), f"{label}: the line at the top says {page.text('verdict')!r}")
+            page.until(f"{SHOWN_ROWS}.includes({json.dumps(text)})", 10)
+            row = page.run("document.querySelector('#source tr.message').previousElementSibling.firstElementChild.textContent.trim()")
+            expect(f":{row}" in page.text("verdict"), f"{label}: at line {row}, and the line at the top says {page.text('verdict')!r}")
+            page.until("replaycheck.steps.landmarks.some((it) => it.kinds.includes('end'))", 20)
+            landmarks = page.run("replaycheck.steps.landmarks.filter((it) => it.kinds.includes('error')).map((it) => it.step)")
+            expect(step in landmarks, f"{label}: the landmarks of errors are at {landmarks}, and not at {step}")
+            page.click_on("#bug-step")
+            bench.settle(page)
+            same(f"{label}: where the button goes", page.run("replaycheck.step"), step)
+            bench.same_report(page, words, f"{label}: the report there")
+            same(f"{label}: complaints", page.complaints(), [])
+
+
+def looks_rows(bench, words, lines):
+    """The lines that `look` replies."""
+    given = "".join(f"{it}\n" for it in lines)
+    return subprocess.run([bench.program, "look", *words], input=given, capture_output=True, text=True, check=True).stdout.splitlines()
+
+
+# ---- the first screen, and the output
+
+# Widths and heights of windows, and how many of them from the top have the picture, the line of the error and the output.
+SCREENS = [(1280, 800, 1), (1920, 1080, 1), (768, 1024, 3), (360, 800, 3)]
+SEEN_FIRST = ("#picture", "#source tr.message", "#output-lines li")
+
+
+def first_things(bench):
+    """The picture, the line of the error with what it is, and the output are on the first screen, or on the first three of a narrow one."""
+    for width, height, screens in SCREENS:
+        with bench.browser.page(f"{bench.address}?workers=1#example=station&lines=input+1+8", width=width, height=height) as page:
+            page.until("replaycheck.shown")
+            bench.settle(page)
+            page.until(f"{SWEPT} && document.querySelector('#output-lines button') !== null && {STATED}", 120)
+            for it in SEEN_FIRST:
+                page.until(f"document.querySelector({json.dumps(it)}) !== null", 20)
+                below = page.run(f"document.querySelector({json.dumps(it)}).getBoundingClientRect().bottom + scrollY")
+                expect(below <= screens * height, f"{it} ends {below} pixels from the top at {width} x {height}")
+
+
+OUTPUTS = [[], ["input 1 8"], ["input 9 0"], ["input 2 0x0a"], ["input 2 0x48"], ["input 0 0"], ["input 2 0xc3", "input 3 0x5c"]]
+LINES = """[...document.querySelectorAll('#output-lines li')].map((it) => [it.className,
+  [...it.childNodes].filter((one) => one.className !== 'quiet').map((one) => one.textContent).join('')])"""
+
+
+def written_by(bench, words, edits):
+    """What a run writes, by the program, and the steps that write with how many bytes each."""
+    rows = looks_rows(bench, words, [*edits, "goto 100000", "look output 0 4096", "look calls 0 100000"])
+    [output] = [bytes.fromhex(row[6:]) for row in rows if row.startswith("bytes")]
+    return output, [[int(it) for it in re.findall(r"\d+", row)] for row in rows if " output " in row]
+
+
+def shown_as(output):
+    """Bytes as lines of the page."""
+    rows = output.split(b"\n")
+    told = ["".join("\\\\" if it == 92 else chr(it) if 31 < it < 127 else f"\\x{it:02x}" for it in row) for row in rows]
+    return told[:-1] if told[-1] == "" else told
+
+
+def outputs(bench):
+    """The output is what the program writes, each part leads to the step that writes it, and a line that the unedited run writes
+    otherwise is marked."""
+    plain = shown_as(written_by(bench, STATION, [])[0])
+    with bench.open() as page:
+        for edits in OUTPUTS:
+            page.run(f"replaycheck.use({json.dumps(chr(10).join(edits))})")
+            bench.settle(page)
+            output, writes = written_by(bench, STATION, edits)
+            want = shown_as(output)
+            page.until(f"replaycheck.written?.scenario === replaycheck.scenario && "
+                       f"document.querySelectorAll('#output-lines button').length >= {len(writes)}", 20)
+            told = page.run(LINES)
+            same(f"{edits}: lines", [text for how, text in told if how != "gone"], [it or " " for it in want])
+            same(f"{edits}: lines only of the unedited run", [text for how, text in told if how == "gone"], plain[len(want):])
+            marks = [edits != [] and (i >= len(plain) or plain[i] != line) for i, line in enumerate(want)]
+            same(f"{edits}: which lines differ", [how == "differs" for how, _ in told if how != "gone"], marks)
+            count = f"{len(output)} bytes" if output else "none"
+            expect(page.text("output-told").startswith(count), f"{edits}: {page.text('output-told')!r}")
+            if writes:
+                page.click_on("#output-lines button")
+                bench.settle(page)
+                same(f"{edits}: the step of the first part", page.run("replaycheck.step"), writes[0][0])
+                same(f"{edits}: it is yet to come", page.run("document.querySelector('#output-lines button').className"), "later")
+        same("complaints", page.complaints(), [])
+
+
+def own_file_to_the_bug(bench):
+    """A file of one's own with an error is opened at the error, and an edit that takes it away leads back to the end of the run."""
+    given = bytearray(open(STATION[2], "rb").read())
+    given[1] = 8
+    with bench.page(words="?workers=1") as page:
+        bench.give(page, {"program": open(STATION[0], "rb").read(), "input": bytes(given)})
+        bench.settle(page)
+        page.until(STATED, 20)
+        same("the function of the code", page.run("replaycheck.code.shown.name"), "set_name")
+        expect("station.c" in page.text("source-told"), f"the source says {page.text('source-told')!r}")
+        page.run("replaycheck.use('input 1 7')")
+        bench.settle(page)
+        page.until("replaycheck.machine.shown?.scenario === replaycheck.scenario && !replaycheck.machine.shown.isBug", 20)
+        same("the state then", page.text("machine-told"), "exited 0, so nothing changes any more")
+        same("the step that is offered", page.run("document.getElementById('bug-step').hidden"), True)
 
 
 def certified_when_asked(bench):
@@ -251,7 +473,7 @@ def colours(bench):
     for label, one, other, are in MEASURED:
         same(label, apart(one, other) >= LEAST_APART, are)
     with bench.page() as page:
-        told, kinds = page.run("import('./colours.js').then(({ COLOURS, KINDS }) => [COLOURS, KINDS])")
+        told, kinds = page.run("import('./sweep/colours.js').then(({ COLOURS, KINDS }) => [COLOURS, KINDS])")
     same("kinds", set(kinds), {begin for begin, _ in BADNESS})
     expect(set(kinds.values()) <= set(told), f"no colour of {set(kinds.values()) - set(told)}")
     for dark in (0, 1):

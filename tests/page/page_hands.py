@@ -72,7 +72,7 @@ def lens(bench):
         expect(box[0] >= 0 and box[1] <= 360 and box[2] < y, f"the magnifier is at {box}, and the finger at {x}, {y}")
         middle = page.run("""(() => { const it = document.getElementById('lens'), at = [it.width / 2, it.height / 2].map(Math.floor);
           return [...it.getContext('2d').getImageData(...at, 1, 1).data].slice(0, 3); })()""")
-        colour = page.run("import('./colours.js').then(({ COLOURS }) => COLOURS.undefined[0])")
+        colour = page.run("import('./sweep/colours.js').then(({ COLOURS }) => COLOURS.undefined[0])")
         same("the cell in its middle", middle, [int(colour[at:at + 2], 16) for at in (1, 3, 5)])
         touch(page, "touchEnd")
         same("the magnifier of no finger", page.run(hidden), True)

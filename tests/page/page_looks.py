@@ -127,7 +127,7 @@ def line_operations(bench):
     with bench.page() as page:
         def told(text):
             return page.run("""(async (bytes, addresses) => {
-              const { Elf } = await import('./elf.js'), { sourceLines } = await import('./lines.js');
+              const { Elf } = await import('./debuginfo/elf.js'), { sourceLines } = await import('./debuginfo/lines.js');
               const elf = new Elf(Uint8Array.from(bytes));
               elf.sections = [{ name: '.debug_line', begin: 0, size: bytes.length }];
               return addresses.map(sourceLines(elf)); })""" + f"({json.dumps(list(text))}, {json.dumps(list(LINES_TOLD))})")
@@ -143,7 +143,7 @@ def instructions(bench):
     for name in ("station", "kinds", "boot"):
         with bench.open(name) as page:
             told = dict(page.run("""(async () => {
-              const { disassembled } = await import('./instructions.js'), { elf } = replaycheck.opened.program;
+              const { disassembled } = await import('./riscv/instructions.js'), { elf } = replaycheck.opened.program;
               return elf.functions.flatMap((it) => Array.from({ length: Math.floor(it.size / 4) }, (_, i) => it.address + 4 * i))
                 .map((at) => [at, disassembled(elf.loaded(at), at)]); })()"""))
         path = TOP / "examples/firmware" / f"{name}.elf"

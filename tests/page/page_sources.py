@@ -40,11 +40,11 @@ SPANS = [
 PATHS = [("examples/firmware/station.elf", "../firmware/station.c"), ("examples/packet.elf", "../firmware/../packet.s")]
 NODE = """
 import { readFileSync } from 'node:fs';
-import { Elf } from './elf.js';
-import { Lines } from './lines.js';
-import { Sources, spanOf, tailOf } from './sources.js';
+import { Elf } from './debuginfo/elf.js';
+import { Lines } from './debuginfo/lines.js';
+import { SourceFiles, spanOf, tailOf } from './files/source-files.js';
 const found = FOUND.map(([, files, paths, path]) => {
-  const sources = new Sources();
+  const sources = new SourceFiles();
   for (const it of files) sources.add(it, it);
   const it = sources.find(path, paths);
   return [it?.path ?? null, it?.isUnsure ?? null];

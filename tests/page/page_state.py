@@ -437,7 +437,7 @@ def map_of_blocks(bench):
     """Each block of a map has a place of its own, in order, and is found there; arrow keys lead to each."""
     with bench.page() as page:
         wrong = page.run("""(async () => {
-          const { BlockMap } = await import('./blockmap.js'), wrong = [];
+          const { BlockMap } = await import('./panels/blockmap.js'), wrong = [];
           for (const [count, wide] of [[1, 300], [3, 600], [500, 320], [3000, 900]]) {
             let start = 0x40000010;
             const blocks = Array.from({ length: count }, (_, i) => {

@@ -29,8 +29,10 @@ TOLD = "document.getElementById('strip-told').textContent"
 VIEW = "[replaycheck.strip.view.from, replaycheck.strip.view.to]"
 FUNCTION, SYMBOLS, EVERYWHERE = 2, 2, "0 0xffffffff"
 MOST_FRAMES = 256  # calls that haven't returned, of which the program knows the newest
-HEAP = {"malloc": "alloc", "free": "free", "calloc": "alloc", "realloc": "resize"}
-FIRST_HEAP_CALL, NUMBER = 2001, 17  # of the environment, and the register that has the number of a call
+# What a step does to blocks, by whether one comes and whether one goes.
+DOES = {(True, True): "resize", (True, False): "alloc", (False, True): "free", (False, False): "heap"}
+FIRST_HEAP_CALL, NUMBER, FIRST = 2001, 17, 10  # of the environment; the registers that have the number of a call, and its first parameter
+FREE = ("free", FIRST_HEAP_CALL + 1)  # by its name, or by its number
 
 
 class Native:
@@ -83,15 +85,31 @@ class Native:
                     cells.append([len(calls), begin, int(step) + 1, name])
         return sorted(cells + [[row, begin, last, name] for row, (begin, name) in enumerate(calls)])
 
+    def blocks(self, step, begin=0):
+        """The blocks before a step, as lines of `look blocks`."""
+        *rows, last = self.look(f"goto {step}", f"look blocks {begin}")[1:]
+        return rows + ([] if last == "end" else self.blocks(step, int(last.split(" ")[1], 0)))
+
+    def live(self, step):
+        return {row.split(" ")[1] for row in self.blocks(step) if row.split(" ")[3] == "live"}
+
+    def heap_mark(self, step):
+        """What a call of the heap does to blocks, None for a free of 0."""
+        rows = self.look(f"goto {step}", "look registers")[1:]
+        name, (number, first) = self.name(int(rows[0].split(" ")[2], 16)), (int(rows[it].split(" ")[1], 16) for it in (NUMBER, FIRST))
+        if first == 0 and (name == FREE[0] or (name not in ("malloc", "calloc", "realloc") and number == FREE[1])):
+            return None
+        before, after = self.live(step), self.live(step + 1)
+        return DOES[bool(after - before), bool(before - after)]
+
     def marks(self, events, last):
-        """The marks of a run: what the heap does is by the name of the function that is called."""
+        """The marks of a run: what the heap does is by the blocks that are live before and after."""
         marks = [[it, "error", None] for it in self.errors(last)]
         for line in events:
             step, what, *rest = line.split(" ")
             if what == "heap":
-                rows = self.look(f"goto {step}", "look registers")[1:]
-                name, number = self.name(int(rows[0].split(" ")[2], 16)), int(rows[NUMBER].split(" ")[1], 16)
-                marks.append([int(step), HEAP.get(name) or list(HEAP.values())[number - FIRST_HEAP_CALL], None])
+                does = self.heap_mark(int(step))
+                marks += [[int(step), does, None]] if does else []
             elif what in ("input", "output"):
                 marks.append([int(step), what, int(rest[0])])
         return sorted(marks)
@@ -134,6 +152,20 @@ RUNS = [
 ]
 
 
+def blocks_that_were(native, last):
+    """How many blocks a run has had, and how many of these it has freed."""
+    rows = native.blocks(last)
+    return [len(rows), sum(row.split(" ")[3] == "freed" for row in rows)]
+
+
+def key_of_blocks(page):
+    """The same by the strip's own count. A block that is resized is another one, and the old one is freed."""
+    told = page.run("[...document.querySelectorAll('#strip-key li')].map((it) => it.textContent)")
+    counts = {kind: int(text.split(" ")[0].replace(",", "")) for text in told for kind in ("allocated", "freed", "resized") if kind in text}
+    allocated, freed, resized = (counts.get(it, 0) for it in ("allocated", "freed", "resized"))
+    return [allocated + resized, freed + resized]
+
+
 def cells_and_marks(bench):
     """Cells, marks and stacks are those of the program's replies, and two runs part at the first event that differs."""
     chance = random.Random(3)
@@ -148,6 +180,7 @@ def cells_and_marks(bench):
                 events.append(native.events(0, it["last"]))
                 same(f"cells of {label}", sorted(it["cells"]), native.cells(events[-1], it["last"]))
                 same(f"marks of {label}", sorted(it["marks"]), native.marks(events[-1], it["last"]))
+            same(f"blocks of {label}", key_of_blocks(page), blocks_that_were(native, told[-1]["last"]))
             calls = {int(line.split(" ")[0]) for line in events[-1] if " heap " in line}
             steps = [it for it in (chance.randrange(told[-1]["last"]) for _ in range(40)) if it not in calls]
             same(f"stacks of {label}", [page.run(f"{AT}({it})") for it in steps], native.stacks(steps))
@@ -391,7 +424,7 @@ def strip_by_pointer(bench):
     """A click goes to the step of what is there, a drag moves, Ctrl and the wheel zoom at the pointer; two fingers zoom, one moves."""
     with bench.open() as page:
         left, top, wide = placed(page)
-        place = page.run("import('./strip-drawing.js').then(({ LANE, ROW }) => [LANE, ROW])")
+        place = page.run("import('./run/strip-drawing.js').then(({ LANE, ROW }) => [LANE, ROW])")
 
         def at(step, row):
             begin, end = page.run(VIEW)
@@ -448,7 +481,7 @@ def strip_by_pointer(bench):
 def strip_looks(bench):
     """Names are read on each tone in light and in dark; a function has one tone; the strip is as wide as the page and no wider."""
     with bench.page() as page:
-        tones = page.run("import('./colours.js').then(({ TONES }) => TONES)")
+        tones = page.run("import('./sweep/colours.js').then(({ TONES }) => TONES)")
         ink = [page.run("getComputedStyle(document.body).getPropertyValue('--ink')")]
     with bench.page(dark=True) as page:
         ink.append(page.run("getComputedStyle(document.body).getPropertyValue('--ink')"))
@@ -459,9 +492,9 @@ def strip_looks(bench):
         with bench.open(width=width, dark=dark) as page:
             edited(bench, page, ["goto 300", "input 1 8"], 2)
             same(f"the width at {width}", page.run("document.documentElement.scrollWidth"), width)
-            inked = page.run("""import('./colours.js').then(async ({ toneOf }) => {
+            inked = page.run("""import('./sweep/colours.js').then(async ({ toneOf }) => {
               replaycheck.strip.renew();
-              const { strip } = replaycheck, { topOf, LANE, ROW } = await import('./strip-drawing.js'), { on, scale } = strip.drawing;
+              const { strip } = replaycheck, { topOf, LANE, ROW } = await import('./run/strip-drawing.js'), { on, scale } = strip.drawing;
               const below = (index) => scale * (topOf(index, strip.rows) + LANE + 1.5 * ROW + 6);
               const at = (index) => [...on.getImageData(strip.canvas.width / 4, below(index), 1, 1).data];
               return [toneOf('main', matchMedia('(prefers-color-scheme: dark)').matches), at(0).slice(0, 3), at(1).slice(0, 3)]; })""")

@@ -63,9 +63,9 @@ json.dump(found, open(FOUND, "w"))
 # The variables at each step, by the page's modules, over facts of the program.
 SCRIPT = """
 import { readFileSync } from 'node:fs';
-import { Elf } from './elf.js';
-import { parseMemory, parseRegisters } from './looks.js';
-import { Variables } from './variables.js';
+import { Elf } from './debuginfo/elf.js';
+import { parseMemory, parseRegisters } from './engine/looks.js';
+import { Variables } from './debuginfo/variables.js';
 const { elf, facts, page } = JSON.parse(readFileSync(ASKED));
 const all = new Variables(new Elf(new Uint8Array(readFileSync(elf))));
 const told = [];
@@ -201,6 +201,11 @@ UNDEFINED = [
 ]
 
 
+def debuginfo_tests(_):
+    """The tests that are beside the modules which read debugging information."""
+    same("tests of page/debuginfo", page_modules.debuginfo_faults(), [])
+
+
 def undefined_bits(program):
     """Whether a value has an undefined bit is what the program says of its bytes, and where it is."""
     for label, edits, step, name, text, is_undefined, address in UNDEFINED:
@@ -216,9 +221,9 @@ def undefined_bits(program):
 
 DAMAGED = """
 import { readFileSync } from 'node:fs';
-import { Elf } from './elf.js';
-import { Lines } from './lines.js';
-import { Variables } from './variables.js';
+import { Elf } from './debuginfo/elf.js';
+import { Lines } from './debuginfo/lines.js';
+import { Variables } from './debuginfo/variables.js';
 const content = new Uint8Array(readFileSync(ELF));
 const sections = new Elf(content).sections.filter((it) => it.name.startsWith('.debug'));
 let seed = 7;
@@ -255,8 +260,8 @@ def damaged_information(_):
 
 # Types and lists that name themselves or one another again and again, by the bytes of .debug_info behind its head and of .debug_abbrev.
 ENDLESS = """
-import { Elf } from './elf.js';
-import { Variables } from './variables.js';
+import { Elf } from './debuginfo/elf.js';
+import { Variables } from './debuginfo/variables.js';
 const told = {};
 for (const [label, abbreviations, entries] of ROWS) {
   const unit = [4, 0, 0, 0, 0, 0, 4, ...entries], info = [unit.length & 255, unit.length >> 8, unit.length >> 16, 0, ...unit];

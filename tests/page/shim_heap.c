@@ -1,11 +1,11 @@
-/* The heap of page/shim.c by itself: blocks of random sizes are taken, changed and given back, each with bytes of its own,
+/* The heap of page/engine/shim.c by itself: blocks of random sizes are taken, changed and given back, each with bytes of its own,
    over memory that grows within a limit. Ends with 0 where no byte was ever another, and each refusal was for want of room. */
 #include <stdio.h>
 #include <stdlib.h>
 #include <string.h>
 
 #define HEAP_ALONE
-#include "../../page/shim.c"
+#include "../../page/engine/shim.c"
 
 enum { BLOCKS = 300, ROUNDS = 60000, PAGES = 40 };
 static byte room[PAGES * 65536L] __attribute__((aligned(65536)));

@@ -62,10 +62,10 @@ def show(options):
 
 def copy(out):
     """Writes the file and the folder."""
-    (out / FOLDER).mkdir(parents=True, exist_ok=True)
-    for path in (PLACE / FILE, *sorted((PLACE / FOLDER).iterdir())):
+    for path in (PLACE / FILE, *sorted(it for it in (PLACE / FOLDER).rglob("*") if it.is_file())):
         to = out / path.relative_to(PLACE)
         with naming(str(to)):
+            to.parent.mkdir(parents=True, exist_ok=True)
             shutil.copyfile(path, to)
     write(f"{out / FILE}: {(out / FILE).stat().st_size} bytes, to open\n{out / FOLDER}: to serve\n")
     return 0

@@ -1,0 +1,275 @@
+// The part of the page that tries every edit: what is asked for, how far it is, and the outcome.
+import { $, $button, $input, $progress, $select, element, say } from '../common/dom.js';
+import { grouped, hexWord, many, milliseconds, size } from '../common/numbers.js';
+import { editsOf } from '../engine/scenario.js';
+import { HALF } from '../riscv/isa.js';
+import { counted, upTo } from './counting.js';
+import { Outcomes } from './outcomes.js';
+import { Picture } from './picture.js';
+import { Idle, MOST_EDITS, Sweep, lengthAt, mostEditsOf } from './sweeping.js';
+
+const VALUES = {
+  bytes: { all: 'all 255 others', flips: 'one bit turned', edges: '0, 1, 0x7f, 0x80, 0xff, ±1' },
+  words: { skip: 'skipped', flips: 'one bit turned' },
+};
+const AT_ONCE = 25000;  // edits of a sweep that begins by itself
+
+// The files of a program as a scenario has them, and what of it a file can't have.
+export function filesOf(scenario, { files, elf }) {
+  const left = [], swept = { program: files.program.slice() };
+  if (scenario.length || files.input) swept.input = scenario.input;
+  const view = new DataView(swept.program.buffer);
+  for (const [at, { value, length }] of scenario.patches) {
+    const offset = elf.offsetOf(at, length);
+    if (offset < 0) left.push(`the patch at ${hexWord(at)}`);
+    else if (length === HALF) view.setUint16(offset, value, true);
+    else view.setUint32(offset, value, true);
+  }
+  const blocks = scenario.added.map((it) => `{\nadded\nMemcheck:${it.split(' ').join('\n')}\n}\n`).join('');
+  if (files.supp || blocks) {
+    const given = files.supp ?? new Uint8Array(), added = new TextEncoder().encode(`\n${blocks}`);
+    swept.supp = new Uint8Array(given.length + added.length);
+    swept.supp.set(given);
+    swept.supp.set(added, given.length);
+  }
+  if (scenario.marks.some((it) => !it.line)) left.push('marks');
+  if (scenario.marks.some((it) => it.line)) left.push('what is changed at a step');
+  if (scenario.options.has('redzone') || scenario.options.has('queue')) left.push('options of the heap');
+  if (scenario.switched.size) left.push('suppressions that are switched');
+  return { files: swept, left };
+}
+
+export class SweepPanel {
+  state;
+  refuse;
+  fail;
+  told;
+  workers;
+  /** @type {?Sweep} */ sweep = null;
+  of = null;
+  ended = null;
+  /** @type {Idle} */ idle;
+  plain = null;
+  /** @type {?Sweep} */ counting = null;
+  /** @type {Picture} */ picture;
+  most;
+
+  // `state` gives what is swept: the program, the scenario, the step and the function that is shown, and how instructions lie in
+  // a range; `make` makes an edit; `refuse` takes a sentence, `fail` a fault; `told` is called when more is known of the edits; `ends`
+  // and `pointed` are the picture's.
+  constructor({ state, make, refuse, fail, told, makeWorker, workers, ends, pointed }) {
+    this.state = state;
+    this.refuse = refuse;
+    this.fail = fail;
+    this.told = told;
+    this.workers = workers;
+    this.idle = new Idle(makeWorker);
+    const makeEdit = (kind, at, value) => make(kind, at, value, lengthAt(this.of.asked, at));
+    this.picture = new Picture({ make: makeEdit, otherRun: () => this.otherRun, ends, pointed });
+    $('goal').addEventListener('input', () => this.showGoal());
+    $('sweep').addEventListener('click', () => this.begin());
+    $('stop').addEventListener('click', () => this.sweep?.stop());
+    $('sweep-what').addEventListener('change', () => this.offer());
+    this.offer();
+  }
+
+  offer() {
+    const options = Object.entries(VALUES[$select('sweep-what').value]);
+    $('sweep-values').replaceChildren(...options.map(([value, told]) => element('option', { value }, told)));
+  }
+
+  // Another program is opened.
+  close() {
+    for (const it of [this.sweep, this.counting]) it?.stop();
+    this.sweep = null;
+    this.of = null;
+    this.ended = null;
+    this.plain = null;
+    this.counting = null;
+    this.show(false);
+    this.picture.clear();
+    this.showOf();
+    say('sweep-told', '');
+  }
+
+  show(isBusy) {
+    $button('stop').disabled = !isBusy;
+    $('sweep-done').hidden = !isBusy;
+    $progress('sweep-done').value = 0;
+  }
+
+  // What is asked for, null where there is nothing of that kind.
+  get asked() {
+    const kind = $select('sweep-what').value, values = $select('sweep-values').value, { scenario, step, range, name } = this.state();
+    if (kind === 'bytes') return scenario.length ? { kind, values, step, first: 0, last: scenario.length - 1 } : null;
+    return range && range.starts.length ? { kind, values, step, name, ...placesIn(range) } : null;
+  }
+
+  // ---- of which run the picture is
+
+  // Whether the picture is of another run than the one that is shown, or of another step of it.
+  get isStale() {
+    const { of } = this;
+    if (!of) return false;
+    const { scenario, step } = this.state();
+    return of.step !== step || (of.scenario !== scenario && !isSameRun(of.scenario, scenario));
+  }
+
+  // Which run the picture is of, where that isn't just the one that is shown, as the beginning of a sentence.
+  get otherRun() {
+    const { of, isStale } = this;
+    if (!isStale && !of?.left.length) return '';
+    const edits = editsOf(of.scenario).length, at = of.step === this.state().step || of.isEnd ? '' : ` at step ${grouped(of.step)}`;
+    const run = isStale ? `${edits ? `the run with ${many(edits, 'edit')}` : 'the unedited run'}${at}` : 'this run';
+    return `Of ${run}${of.left.length ? `, without ${of.left.join(', ')}` : ''}: `;
+  }
+
+  // Greys the picture of another run.
+  showOf() {
+    $('picture-parts').classList.toggle('stale', this.isStale);
+    this.picture.tell();
+  }
+
+  // What the edits of a byte do.
+  saidOf(at) {
+    const said = this.picture.saidOf(at);
+    return said && this.otherRun + said;
+  }
+
+  // Tries all edits of the run that is shown, if these are few: those that were tried last, or those of the input. Then those of the
+  // unedited run, which are only counted.
+  async follow() {
+    const asked = this.askedNow;
+    if (!asked || mostEditsOf(asked) > AT_ONCE) return;
+    if (!this.of || this.isStale) await this.begin(asked);
+    const { ended, picture: { swept } } = this;
+    if (ended?.swept === swept && swept.isWhole && !this.isStale) await this.countPlain();
+  }
+
+  // Counts what the same edits of the unedited run do.
+  async countPlain() {
+    const { program, plain, lineOf, scenario, step } = this.state(), { asked } = this.of;
+    if (this.counting || this.plain?.step === step || asked.kind !== 'bytes' || !plain.length || scenario.base !== plain.base) return;
+    const { files } = filesOf(plain, program), every = { ...asked, last: plain.length - 1 };
+    const sweep = this.counting = new Sweep(program, files, every, this.idle, () => {});
+    try {
+      await sweep.run(this.workers);
+    } catch (fault) {
+      if (sweep === this.counting) this.fail(fault);
+    }
+    if (sweep !== this.counting) return;
+    this.counting = null;
+    if (sweep.swept.isWhole) this.keepPlain(sweep.swept, lineOf, step);
+  }
+
+  // Keeps what the sentence about the unedited run is made of.
+  keepPlain({ asked, edits, isWhole, outcomes, tallies }, lineOf, step) {
+    this.plain = { step, lineOf, swept: { asked, edits, isWhole, outcomes, tallies } };
+    this.told();
+  }
+
+  // How many of the edits break the run, as far as they are tried, in a sentence that is true of the run that is shown; and the same of
+  // the unedited run at a step. Empty if nothing is known.
+  get counted() {
+    const { swept, outcomes } = this.picture;
+    if (!swept?.edits) return '';
+    return this.otherRun + counted(swept, outcomes, { isGoing: this.sweep?.swept === swept && !this.sweep.isOver });
+  }
+
+  countedBefore(step) {
+    if (this.plain?.step !== step) return '';
+    const { swept, lineOf } = this.plain;
+    return counted(swept, new Outcomes(swept, lineOf, $input('goal').value), { isGoing: false });
+  }
+
+  get askedNow() {
+    if (!this.of) return this.asked?.kind === 'bytes' ? this.asked : null;
+    const { scenario, step } = this.state(), { asked } = this.of;
+    if (asked.kind === 'words') {
+      const places = asked.code && placesIn(this.state().instructionsIn(asked.first, asked.last));
+      return { ...asked, step, ...places };
+    }
+    return scenario.length ? { ...asked, step, last: scenario.length - 1 } : null;
+  }
+
+  async begin(asked = this.asked) {
+    const { program, scenario, lineOf, step, isEnd } = this.state();
+    for (const it of [this.sweep, this.counting]) it?.stop();
+    this.counting = null;
+    if (!asked) return this.refuse('There is nothing to sweep: no input, or no function.');
+    this.most = mostEditsOf(asked);
+    if (this.most > MOST_EDITS) {
+      return this.refuse(`These are ${grouped(this.most)} edits, and this page makes ${grouped(MOST_EDITS)} at most.`
+        + ' Choose fewer values, or use `replaycheck sweep`.');
+    }
+    const { files, left } = filesOf(scenario, program);
+    const sweep = this.sweep = new Sweep(program, files, asked, this.idle, () => this.goesOn(sweep));
+    const word = (at) => scenario.valueAt(at, lengthAt(asked, at), program.loaded) ?? 0;
+    this.of = { asked, scenario, step, isEnd, left };
+    this.picture.begin(sweep.swept, asked.kind === 'bytes' ? (at) => scenario.byte(at) : word, lineOf, $input('goal').value);
+    this.showOf();
+    this.show(true);
+    this.told();
+    try {
+      await sweep.run(this.workers);
+      if (sweep === this.sweep) this.end(sweep);
+    } catch (fault) {
+      if (sweep === this.sweep) this.fail(fault);
+    }
+    if (sweep === this.sweep) this.show(false);
+    return undefined;
+  }
+
+  goesOn(sweep) {
+    if (sweep !== this.sweep) return;
+    this.picture.more();
+    $progress('sweep-done').value = sweep.swept.edits / this.most;
+    if (!sweep.isStopped) say('sweep-told', `${grouped(sweep.swept.edits)} of ${many(this.most, 'edit')}`);
+    this.told();
+  }
+
+  end({ swept, memory }) {
+    this.picture.more(true);
+    this.ended = { swept, memory };
+    const { scenario, step } = this.of, { outcomes } = this.picture;
+    if (swept.isWhole && swept.asked.kind === 'bytes' && !editsOf(scenario).length) this.keepPlain(swept, outcomes.lineOf, step);
+    this.tellEnd();
+    this.told();
+  }
+
+  // The outcome of the edits, in a sentence or two.
+  tellEnd() {
+    const { swept, memory } = this.ended, { scenario, left } = this.of, { outcomes } = this.picture;
+    const rate = Math.round(swept.edits / Math.max(1, swept.time) * 1000);
+    const stood = editsOf(scenario).length;
+    const of = stood ? `the run with ${many(stood, 'edit')}` : 'the unedited run';
+    const parts = [
+      swept.isWhole ? '' : `stopped after ${grouped(swept.edits)} of ${many(this.most, 'edit')}: `,
+      outcomes.goal ? `${did(outcomes.reached, 'reaches', 'reach')} the goal “${outcomes.goal}”. ` : '',
+      `${many(swept.edits, 'edit')} of ${of}: ${did(outcomes.fresh, 'makes', 'make')} a new error, leak or stop, `,
+      `${grouped(outcomes.changed)} more end${outcomes.changed === 1 ? 's' : ''} in another way${upTo(swept)}.`,
+      left.length ? ` Left out: ${left.join(', ')}.` : '',
+    ];
+    say('sweep-told', parts.join(''));
+    $('sweep-told').title = `${milliseconds(swept.time)}, ${grouped(rate)} a second, ${size(memory)} a worker`;
+  }
+
+  // Another goal: the edits that are made stay, and what is said of them changes.
+  showGoal() {
+    if (!this.of) return;
+    this.picture.seek($input('goal').value);
+    if (this.ended?.swept === this.picture.swept) this.tellEnd();
+    this.told();
+  }
+}
+
+// How many of some edits do something.
+const did = (count, one, more) => `${grouped(count)} of them ${count === 1 ? one : more}`;
+
+// The places of a sweep of the words, or of the instructions of either length, that the code has.
+function placesIn({ starts, lengths }) {
+  const code = lengths && new Map(starts.map((at, index) => [at, { index, length: lengths.get(at) }]));
+  return { first: starts[0], last: starts.at(-1), ...(code && { starts, code }) };
+}
+
+const isSameRun = (a, b) => a.base === b.base && a.lines.join('\n') === b.lines.join('\n');
