@@ -281,6 +281,7 @@ class App {
     this.showParts(true);
     const title = [files.program, files.input].filter(Boolean).map((it) => it.name).join(' with ');
     document.title = `${title} — replaycheck`;
+    say('open-name', title);
     this.steps.open(last, follow);
     this.strip.open(opened);
     this.source.open(opened, this.opening.ownSources);

@@ -7,8 +7,15 @@ import { HALF, NOTHING, WORD } from '../riscv/isa.js';
 const KINDS = ['defined', 'undefined', 'noaccess'];
 export const OPTIONS = { redzone: '16', queue: '20000000', callers: '12', show: 'definite,possible' };
 
-// A line that is no edit, in words.
-export class NoEdit extends Error {}
+// A line that is no edit, in words; with the form that it may have been meant to have, undefined where no line begins so.
+export class NoEdit extends Error {
+  form;
+
+  constructor(line, form) {
+    super(line);
+    this.form = form;
+  }
+}
 
 export class Scenario {
   base;
@@ -62,6 +69,16 @@ export class Scenario {
   withByte(at, value) {
     if (at >= this.kept && at < this.length) return this.with({ appended: this.appended.with(at - this.kept, value) });
     return this.with({ changes: changed(this.changes, at, value === this.base[at] ? null : value) });
+  }
+
+  // Bytes from an offset on.
+  withBytes(at, values) { return values.reduce((it, value, i) => it.withByte(at + i, value), this); }
+
+  // These bytes as the whole input.
+  withInput(values) {
+    const { base } = this, kept = values.slice(0, base.length);
+    const changes = new Map([...kept.entries()].filter(([at, value]) => value !== base[at]));
+    return this.with({ changes, cut: base.length - kept.length, appended: values.slice(base.length) });
   }
 
   withAppended(value) { return this.with({ appended: [...this.appended, value] }); }
@@ -151,7 +168,7 @@ export class Scenario {
   after(line) {
     const [first, ...words] = line.split(' ');
     const found = AFTER.get(`${first} ${words[0]}`)?.(this, words.slice(1)) ?? AFTER.get(first)?.(this, words);
-    if (!found) throw new NoEdit(line);
+    if (!found) throw new NoEdit(line, FORMS.get(`${first} ${words[0]}`) ?? FORMS.get(first));
     return found;
   }
 }
@@ -170,6 +187,20 @@ const markLine = (it) => it.line ?? `mark ${it.step} ${hexWord(it.at)} ${it.leng
 // The line that makes an edit of a sweep; `length` is that of an instruction.
 export const editLine = (kind, at, value, length) => (kind === 'bytes' ? inputLine(at, value) : patchLine(at, value, length));
 
+// The bytes of hexadecimal digits, null where a text is something else.
+const bytesIn = (text) => (/^(?:[0-9a-fA-F]{2})*$/.test(text) ? (text.match(/../g) ?? []).map((it) => parseInt(it, 16)) : null);
+
+// The forms of lines, by their first words.
+const FORMS = new Map(Object.entries({
+  'goto': 'goto STEP', 'input': 'input OFFSET BYTE', 'input append': 'input append BYTE', 'input cut': 'input cut',
+  'bytes': 'bytes OFFSET HEX, of bytes that are there', 'bytes is': 'bytes is HEX', 'patch': 'patch ADDR WORD',
+  'patch16': 'patch16 ADDR HALF',
+  'mark': 'mark STEP ADDR LEN defined, undefined or noaccess', 'unmark': 'unmark INDEX, of a mark that is there',
+  'option': 'option redzone, queue, callers or show, and a value', 'supp': 'supp add KIND FRAME.., supp on INDEX or supp off INDEX',
+  'set': 'set STEP REGISTER VALUE [UNDEFINED-BITS]', 'flip': 'flip STEP REGISTER MASK, or flip STEP ADDR MASK',
+  'write': 'write STEP ADDR LEN VALUE', 'skip': 'skip STEP',
+}));
+
 // What a line does to a scenario, by its first words; null where the others aren't what it takes.
 const AFTER = new Map();
 const withNumbers = (count, does) => (it, words) => {
@@ -178,6 +209,14 @@ const withNumbers = (count, does) => (it, words) => {
 };
 const switched = (how) => withNumbers(1, (it, index) => it.with({ switched: changed(it.switched, index, how) }));
 AFTER.set('input', withNumbers(2, (it, at, value) => it.withByte(at, value)));
+AFTER.set('bytes', (it, words) => {
+  const at = numberOf(words[0] ?? ''), values = bytesIn(words[1] ?? '');
+  return words.length === 2 && at !== null && values?.length && at + values.length <= it.length ? it.withBytes(at, values) : null;
+});
+AFTER.set('bytes is', (it, words) => {
+  const values = words.length < 2 ? bytesIn(words[0] ?? '') : null;
+  return values && it.withInput(values);
+});
 AFTER.set('input append', withNumbers(1, (it, value) => it.withAppended(value)));
 AFTER.set('input cut', withNumbers(0, (it) => (it.length ? it.withCut() : null)));
 AFTER.set('patch', withNumbers(2, (it, at, word) => it.withPatch(at, word)));
@@ -223,9 +262,12 @@ const ALTERS = {
   skip: [(words) => words.length === 1 && areNumbers(words), () => 'an instruction left out'],
 };
 
+// A register's number for the program in the place of its other name.
+const numbered = (place) => (REGISTERS.indexOf(place) > 0 ? `x${REGISTERS.indexOf(place)}` : place === 'fp' ? 'x8' : place);
+
 // What a line alters, null where it isn't of its form.
-function alterationOf(word, words) {
-  const [is, told] = ALTERS[word];
+function alterationOf(word, given) {
+  const [is, told] = ALTERS[word], words = word === 'write' ? given : given.map((it, at) => (at === 1 ? numbered(it) : it));
   return is(words) ? { line: [word, ...words].join(' '), label: `step ${numberOf(words[0])}: ${told(words)}` } : null;
 }
 

@@ -39,7 +39,9 @@ export const meetsRegion = (fault) => fault instanceof Ended && (fault.said ?? '
 
 // What to say of a fault.
 export function sentence(fault, limit) {
-  if (fault instanceof NoEdit) return `“${fault.message}” doesn’t edit a run: ${REFUSALS[2]}.`;
+  if (fault instanceof NoEdit) {
+    return `“${fault.message}” doesn’t edit a run: ${fault.form ? `the form of such a line is “${fault.form}”` : REFUSALS[2]}.`;
+  }
   if (fault instanceof Stopped) return 'Stopped.';
   if (fault instanceof TooManyLines) return 'These are more edits than a session takes. Change the input’s file instead.';
   const memory = `this page takes ${size(limit)} at most. ${NO_MEMORY}`;

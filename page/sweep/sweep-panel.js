@@ -96,6 +96,7 @@ export class SweepPanel {
     $button('stop').disabled = !isBusy;
     $('sweep-done').hidden = !isBusy;
     $progress('sweep-done').value = 0;
+    say('sweep-far', '');
   }
 
   // What is asked for, null where there is nothing of that kind.
@@ -130,9 +131,12 @@ export class SweepPanel {
     this.picture.tell();
   }
 
-  // What the edits of a byte do.
+  // Whether edits are being tried of which the picture will be.
+  get isGoing() { return Boolean(this.sweep) && !this.sweep.isOver && this.sweep.swept === this.picture.swept; }
+
+  // What the edits of a byte do, once all are tried.
   saidOf(at) {
-    const said = this.picture.saidOf(at);
+    const said = this.isGoing ? '' : this.picture.saidOf(at);
     return said && this.otherRun + said;
   }
 
@@ -173,7 +177,7 @@ export class SweepPanel {
   get counted() {
     const { swept, outcomes } = this.picture;
     if (!swept?.edits) return '';
-    return this.otherRun + counted(swept, outcomes, { isGoing: this.sweep?.swept === swept && !this.sweep.isOver });
+    return this.otherRun + counted(swept, outcomes, { isGoing: this.isGoing });
   }
 
   countedBefore(step) {
@@ -224,7 +228,7 @@ export class SweepPanel {
     if (sweep !== this.sweep) return;
     this.picture.more();
     $progress('sweep-done').value = sweep.swept.edits / this.most;
-    if (!sweep.isStopped) say('sweep-told', `${grouped(sweep.swept.edits)} of ${many(this.most, 'edit')}`);
+    if (!sweep.isStopped) say('sweep-far', `${grouped(sweep.swept.edits)} of ${many(this.most, 'edit')}`);
     this.told();
   }
 

@@ -152,11 +152,33 @@ def unseen_heap(bench):
             same("what is said of the heap", "has no symbols" in told, is_unseen)
 
 
+# Lines of the manual, and how the program takes those that name a register otherwise.
+MANUAL_LINES = [("set 600 a0 5", "set 600 x10 5"), ("set 600 fp 0x10 0xff", "set 600 x8 0x10 0xff"), ("flip 600 sp 16", "flip 600 x2 16"),
+                ("flip 600 0x7fffff80 1", None), ("set 600 pc 0x10000", None), ("bytes 1 08", None), ("bytes 0x3 4142FF", None),
+                ("bytes is 01086861", None), ("bytes is", None), ("bytes is " + "0102" * 30, None)]
+
+
+def manual_lines(bench):
+    """A line of the manual is used as it is, also with a register's other name, and comes to the program's report."""
+    with bench.open() as page:
+        for line, native in MANUAL_LINES:
+            page.run(f"replaycheck.use({json.dumps(line)})")
+            bench.same_report(page, STATION, line)
+            same(f"{line}: what is said", page.text("notice"), "")
+            text = "".join(f"{it}\n" for it in (native or line, "goto 100000", "report"))
+            ran = subprocess.run([bench.program, "look", *STATION], input=text, capture_output=True, text=True, check=True)
+            told = page.text("report-text").split("\n", 1)[1].rstrip("\n")
+            same(f"{line}: the program's own", told, ran.stdout.split("\n", 3)[3].rstrip("\n"))
+
+
 def refused_lines(bench):
     """Lines that a session refuses are refused, with the reason, and none of their text is used."""
     with bench.open() as page:
         for line, told in (("goto 99999999", "“goto 99999999” was refused: "), ("goto 4194305", "was refused"),
-                           ("frob", "“frob” doesn’t edit a run: no such line")):
+                           ("frob", "“frob” doesn’t edit a run: no such line"), ("goto x", "form of such a line is “goto STEP”"),
+                           ("set 600 q0 5", "“set 600 q0 5” doesn’t edit a run: the form of such a line is “set STEP REGISTER VALUE"),
+                           ("set 600 zero 5", "“set STEP REGISTER VALUE"), ("bytes 40 0102", "“bytes OFFSET HEX, of bytes that are there”"),
+                           ("bytes is 012", "“bytes is HEX”"), ("input 1", "“input OFFSET BYTE”"), ("supp", "“supp add KIND FRAME..,")):
             page.run(f"replaycheck.use({json.dumps('input 1 8' + chr(10) + line)})")
             bench.settle(page)
             expect(told in page.text("notice"), f"{line}: it says {page.text('notice')!r}")

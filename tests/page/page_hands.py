@@ -95,6 +95,35 @@ def packed(text):
     return base64.urlsafe_b64encode(made.compress(text.encode()) + made.flush()).decode().rstrip("=")
 
 
+# Notes each change of what a screen reader says by itself.
+SPOKEN = """(() => { globalThis.spoken = [];
+  for (const it of document.querySelectorAll('[aria-live], [role=status], [role=alert]')) {
+    let was = it.textContent;
+    new MutationObserver(() => { if (it.textContent !== was) spoken.push([it.id, was = it.textContent]); })
+      .observe(it, { childList: true, characterData: true, subtree: true }); } })()"""
+MOST_SPOKEN = 4
+
+
+def spoken(bench):
+    """One typed byte has a screen reader say few things: how the run ends, what the byte is, and at last what its edits do."""
+    with bench.open(words="?workers=2") as page:
+        page.until(f"{SWEPT} && !replaycheck.sweeps.isStale", 120)
+        page.until("replaycheck.strip.plain?.isDone && replaycheck.machine.rested", 60)
+        page.run(SPOKEN)
+        page.focus("bytes")
+        page.press("ArrowRight")
+        page.until("document.getElementById('byte-told').textContent.startsWith('byte 1')", 10)
+        page.run("spoken.length = 0")
+        page.press("0", "8")
+        bench.settle(page)
+        page.until(f"replaycheck.scenario.lines.length === 1 && {SWEPT} && !replaycheck.sweeps.isStale", 120)
+        page.until("replaycheck.strip.edited?.isDone", 60)
+        told = page.run("spoken")
+        expect(len(told) <= MOST_SPOKEN, f"{len(told)} things are said: {told}")
+        for it in ("verdict", "sweep-told"):
+            expect(any(where == it for where, _ in told), f"nothing is said of {it}: {told}")
+
+
 def packed_links(bench):
     """A long link is packed, and leads to the same lines; one that isn't packed is read, and the page says so of a damaged one."""
     lines = [f"input append {at % 256}" for at in range(1500)]
