@@ -376,7 +376,7 @@ def outputs(bench):
             bench.settle(page)
             output, writes = written_by(bench, STATION, edits)
             want = shown_as(output)
-            page.until(f"replaycheck.written?.scenario === replaycheck.scenario && "
+            page.until(f"replaycheck.whole.written?.scenario === replaycheck.scenario && "
                        f"document.querySelectorAll('#output-lines button').length >= {len(writes)}", 20)
             told = page.run(LINES)
             same(f"{edits}: lines", [text for how, text in told if how != "gone"], [it or " " for it in want])
