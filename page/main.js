@@ -1,18 +1,17 @@
 // The page: holds the scenario and the step, asks sessions for reports, and has the parts of the page show them.
-import { $, $button, $input, element, say } from './common/dom.js';
+import { $, $button, $input, element, say, speaks } from './common/dom.js';
 import { grouped, hexByte, hexWord, many } from './common/numbers.js';
 import { Roving } from './common/roving.js';
 import { Elf } from './debuginfo/elf.js';
 import { inBatches } from './engine/batches.js';
 import { History } from './engine/history.js';
-import { bytesIn, parseMemory } from './engine/looks.js';
-import { compared, parseReport } from './engine/report.js';
+import { parseMemory } from './engine/looks.js';
+import { parseReport } from './engine/report.js';
 import { loadModule, makeWorker } from './engine/resources.js';
 import { NoEdit } from './engine/scenario.js';
 import { meetsRegion, notLoaded, sentence } from './engine/sentences.js';
 import { Refused } from './engine/sessions.js';
 import { isSameTarget, targetIn, targetLines } from './engine/targets.js';
-import { messagesOf, ownFrame, worstOf } from './engine/worst.js';
 import { ERROR_KINDS, LAST_STEP, LEAK_KINDS, MODULE_SUM } from './facts.js';
 import { regionAdvice } from './files/boards.js';
 import { Opened, isRunning } from './files/opened.js';
@@ -21,11 +20,12 @@ import { Bytes } from './panels/bytes.js';
 import { Code } from './panels/code.js';
 import { Edits } from './panels/edits.js';
 import { Machine } from './panels/machine.js';
-import { MOST_BYTES, Output } from './panels/output.js';
+import { Output } from './panels/output.js';
 import { ReportPanel } from './panels/report-panel.js';
 import { SourcePanel } from './panels/source-panel.js';
 import { Stale, VariablesPanel } from './panels/variables-panel.js';
 import { Verdict } from './panels/verdict.js';
+import { WholeRun } from './panels/whole-run.js';
 import { unitOf } from './riscv/isa.js';
 import { Search, Steps } from './run/steps.js';
 import { Strip } from './run/strip.js';
@@ -70,6 +70,7 @@ class App {
   /** @type {Strip} */ strip;
   /** @type {Edits} */ edits;
   /** @type {Output} */ output;
+  /** @type {WholeRun} */ whole;
   /** @type {SweepPanel} */ sweeps;
   wanted;
   /** @type {?Opened} */ judged;
@@ -79,11 +80,7 @@ class App {
   step;
   isWanted;
   isBusy;
-  ended = null;
-  written = null;
   timer;
-  lookedAt;
-  visited;
 
   constructor() {
     const edit = (scenario, series) => this.edit(scenario, series);
@@ -106,9 +103,10 @@ class App {
     this.verdict = new Verdict({ lineOf: (address) => this.opened.lineOf(address), isa: () => this.opened.isa, go: (step) => this.go(step),
       certify: () => this.certifyLong(), showPicture });
     this.steps = new Steps({ go: (step) => this.go(step), most: LAST_STEP });
+    this.whole = new WholeRun(this, words.has('still'));
     this.output = new Output({ go: (step) => this.steps.choose(step) });
     this.strip = new Strip({ choose: (step) => this.steps.choose(step), explain: (fault) => sentence(fault, LIMIT),
-      known: () => this.showOutput() });
+      known: () => this.whole.showOutput() });
     this.edits = new Edits({ edit, clear: () => this.edit(this.opened.plain), use: (text) => this.use(text), refuse,
       tell: (text) => this.notice(text, 'good'),
       link: async () => new URL(await this.opening.link(this.lines), location.href).href,
@@ -233,8 +231,7 @@ class App {
     this.history = null;
     this.shown = null;
     this.marked = null;
-    this.ended = null;
-    this.written = null;
+    this.whole.clear();
     this.notice('');
     this.showTravel();
     $('main').inert = true;
@@ -343,6 +340,7 @@ class App {
 
   // Shows what is known of the edits of the run.
   showCounts() {
+    speaks('byte-told', false);
     this.bytes.tellOf(this.bytes.here);
     if (this.shown) this.verdict.count(this.sweeps.counted, this.sweeps.countedBefore(this.step));
   }
@@ -477,123 +475,35 @@ class App {
     const at = `at step ${grouped(report.step)}`, where = isLast ? (runsOn ? `${at}, still running` : 'at the end of the run') : at;
     this.reports.show(report, unedited, where);
     this.verdict.certify('');
-    this.showVerdict();
+    this.whole.showVerdict();
     this.strip.at(this.steps.shown);
     this.showScenario();
-    this.lookAtNew();
+    this.whole.lookAtNew();
     this.verdict.offerBug(null);
     this.showState();
     clearTimeout(this.timer);
     this.timer = setTimeout(() => this.settle(), QUIET);
   }
 
-  // The line at the top is of the run up to its end, whichever step is looked at.
-  async showVerdict() {
-    const { shown, opened } = this, { scenario, step, report, unedited, time } = shown;
-    const tell = (end, before, at) => {
-      const fresh = compared(end, before).filter((it) => it.how === 'new');
-      this.verdict.show(end, before, { fresh, time, at });
-      this.source.tell(messagesOf(end.groups, opened.lineOf));
-      this.readOutput(scenario, end.written);
-      this.showCounts();
-    };
-    if (step === opened.follow || !isRunning(report)) {
-      this.ended = { scenario, report };
-      tell(report, unedited, null);
-      return;
-    }
-    if (this.ended?.scenario !== scenario) this.verdict.showSoFar(report);
-    try {
-      const [end, before] = await Promise.all([this.reportAtEnd(scenario), opened.reportBefore(opened.follow)]);
-      if (shown === this.shown && shown.scenario === this.scenario) tell(end, before, report);
-    } catch {
-      // Memory that runs out before the end, or a run that is no longer wanted: then the line is of the step.
-    }
-  }
-
-  // Reads what a run writes, and what the unedited one does.
-  async readOutput(scenario, length) {
-    const { opened } = this, { plain, follow } = opened;
-    const read = (session, of) => session.replies(of, follow, [`look output 0 ${MOST_BYTES}`]);
-    if (this.written?.scenario === scenario) {
-      this.showOutput();
-      return;
-    }
-    try {
-      const session = this.step === follow ? opened.session : opened.search;
-      const [[now], before] = await Promise.all([read(session, scenario), scenario.lines.length ? read(opened.unedited, plain) : null]);
-      if (opened !== this.opened || scenario !== this.scenario) return;
-      this.written = { scenario, length, bytes: bytesIn(now), before: before && bytesIn(before[0]) };
-      this.showOutput();
-    } catch {
-      // Memory that runs out, or a run that is no longer wanted: then what was written stays.
-    }
-  }
-
-  // Shows what was read of the output, with the steps of its writes once these are known.
-  showOutput() {
-    const { written, scenario, step } = this;
-    if (!written || written.scenario !== scenario) return;
-    const writes = this.strip.writesOf(scenario);
-    this.output.show({ ...written, writes, step: step === this.opened.follow ? null : step });
-  }
-
-  // The report of a scenario where its run ends, or is looked at no further.
-  async reportAtEnd(scenario) {
-    const { opened } = this;
-    if (scenario === opened.plain) return opened.reportBefore(opened.follow);
-    if (this.ended?.scenario !== scenario) {
-      this.ended = { scenario, report: parseReport(await opened.search.report(scenario, opened.follow)) };
-    }
-    return this.ended.report;
-  }
-
-  // The error, leak or stop to which the page goes by itself, where the end of a run is looked at: the worst that is new, or else the worst
-  // at all. Null where there is none, or where one wants nothing to be done.
-  get bug() {
-    const { step, report } = this.shown;
-    if (words.has('still') || step !== this.opened.follow) return null;
-    const errors = (groups) => worstOf(groups.filter((it) => it.isError)) ?? worstOf(groups);
-    const fresh = this.reports.groups.filter((it) => it.how === 'new').map((it) => it.group);
-    return errors(fresh) ?? errors(report.groups);
-  }
-
   // Shows calls, registers and memory: at the step that is looked at, or, where that is the end, before the worst error, whose line comes
   // into view.
   async showState() {
-    const { turn, shown, bug } = this;
+    const { turn, shown, whole } = this, { bug } = whole;
     try {
       if (!bug) {
         await this.machine.show(shown);
         return;
       }
-      const at = await this.stateAt(bug, shown);
+      const at = await whole.stateAt(bug, shown);
       if (shown !== this.shown || turn !== this.turn) return;
       this.verdict.offerBug(at.isBug ? at.step : null);
       const isDone = this.machine.show(at);
-      this.visitBug(bug, shown);
+      whole.visitBug(bug, shown);
       await isDone;
     } catch (fault) {
       const isWanted = shown === this.shown && shown.scenario === this.scenario && shown.step === this.step;
       if (turn === this.turn && isWanted) this.notice(sentence(fault, LIMIT));
     }
-  }
-
-  // What is shown of a run before its instruction raises an error: that of the end where it can't be found, or where it is a leak.
-  async stateAt({ isError, trace }, shown) {
-    if (!isError || !trace.length) return shown;
-    const { scenario } = shown, { search, session, follow } = this.opened, { lines } = this.machine;
-    const [found] = await search.replies(scenario, 0, [`look next error ${hexWord(trace[0].address)} 1 ${follow}`]);
-    const [, step] = /^step (\d+)\n?$/.exec(found) ?? [];
-    if (step === undefined) return shown;
-    return { ...shown, step: Number(step), isBug: true, lines, looks: await session.replies(scenario, Number(step), lines) };
-  }
-
-  // Has the line of the worst error in view, once, where nobody works in the code.
-  visitBug({ trace }, shown) {
-    const frame = ownFrame(trace, this.opened.lineOf), isFree = !$('code-part').contains(document.activeElement);
-    if (frame && isFree && this.visited !== shown) this.code.visit(frame.address, false);
-    this.visited = shown;
   }
 
   // Shows where the run is: its code and its line.
@@ -636,15 +546,6 @@ class App {
     } catch {
       // Memory that runs out, or a run that is no longer wanted: then nothing is said of it.
     }
-  }
-
-  // Shows the code at the first error that is new, once, where nobody works there.
-  lookAtNew() {
-    if (this.bug) return;
-    const group = this.reports.groups.find((it) => it.how === 'new')?.group, key = group?.key ?? '';
-    const isFree = !$('code-part').contains(document.activeElement);
-    if (key && key !== this.lookedAt && isFree && group.trace.length) this.code.visit(group.trace[0].address, false);
-    this.lookedAt = key;
   }
 
   // What is done when nobody edits for a moment: whether uninitialised memory matters, the link, the sweep of the run that is shown now,

@@ -48,6 +48,18 @@ export function say(id, text) {
   if ($(id).textContent !== text) $(id).textContent = text;
 }
 
+// Whether a screen reader says by itself what changes in an element: not while a part that nobody is at goes on by itself.
+export function speaks(id, does) {
+  $(id).setAttribute('aria-live', does ? 'polite' : 'off');
+}
+
+// Has an element say what changes in it while another one has the focus.
+export function speaksAt(id, part) {
+  speaks(id, false);
+  part.addEventListener('focus', () => speaks(id, true));
+  part.addEventListener('blur', () => speaks(id, false));
+}
+
 // The element that has the focus, null where none has.
 export function focused() {
   const found = document.activeElement;

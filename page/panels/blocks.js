@@ -1,5 +1,5 @@
 // The blocks of the heap at the step that is shown: a map of them in the order of their addresses, one of them in words, and a list.
-import { $, $canvas, $details, element, focusHeld, heldName, isTouch, say } from '../common/dom.js';
+import { $, $canvas, $details, element, focusHeld, heldName, isTouch, say, speaksAt } from '../common/dom.js';
 import { grouped, hexWord, many } from '../common/numbers.js';
 import { BlockMap, TALL } from './blockmap.js';
 
@@ -65,6 +65,7 @@ export class Blocks {
     });
     this.canvas.addEventListener('keydown', (event) => this.key(event));
     for (const it of ['focus', 'blur']) this.canvas.addEventListener(it, () => this.draw());
+    speaksAt('block-told', this.canvas);
     $('block-show').addEventListener('click', () => this.choose());
     $('block-list').addEventListener('toggle', () => this.list());
     new ResizeObserver(() => this.draw()).observe($('blocks-frame'));

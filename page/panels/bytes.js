@@ -1,5 +1,5 @@
 // The input as bytes that are edited in place. Only the rows in view are elements, so that long inputs scroll.
-import { $, $button, $input, element, say } from '../common/dom.js';
+import { $, $button, $input, element, say, speaks } from '../common/dom.js';
 import { grouped, hexByte, letter, many } from '../common/numbers.js';
 
 const BESIDE = 8;  // rows that are made above and below the view
@@ -147,6 +147,7 @@ export class Bytes {
     const below = top + this.tall - this.grid.clientHeight;
     if (below > this.grid.scrollTop) this.grid.scrollTop = below;
     this.render();
+    speaks('byte-told', true);
     this.tellOf(this.here);
   }
 

@@ -1,6 +1,6 @@
 // The picture of a sweep: a column for each place, or for several where they are many, a row for each value, a colour for each kind of
 // outcome. Its columns are below the bytes, if these are in one row.
-import { $, $canvas, isTouch, say } from '../common/dom.js';
+import { $, $canvas, isTouch, say, speaksAt } from '../common/dom.js';
 import { hexByte, hexWord, hexadecimal, many } from '../common/numbers.js';
 import { editLine } from '../engine/scenario.js';
 import { hatch, inkOn } from './colours.js';
@@ -63,6 +63,7 @@ export class Picture {
     this.canvas.addEventListener('keydown', (event) => this.key(event));
     for (const it of ['pointerleave', 'blur']) this.canvas.addEventListener(it, () => this.pointed(null));
     for (const it of ['focus', 'blur']) this.canvas.addEventListener(it, () => this.draw());
+    speaksAt('picture-told', this.canvas);
     new ResizeObserver(() => this.draw()).observe(this.canvas);
     DARK.addEventListener('change', () => this.show());
     this.clear();

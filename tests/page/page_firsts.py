@@ -270,6 +270,15 @@ SHOWN_ROWS = """[...document.querySelectorAll('#source tr')].flatMap((it) => (it
   ? [it.textContent] : []))"""
 
 
+# The landmarks of errors of the run that is shown, searched without an end.
+LANDMARKS = """(async () => {
+  const { Search } = await import('./run/steps.js'), { opened, scenario } = replaycheck, found = [], end = await opened.endOf(scenario);
+  const search = new Search(opened.search, scenario, () => false, (it) => found.push(it));
+  search.begun = Infinity;
+  await search.run(end.last);
+  return found.filter((it) => it.kinds.includes('error')).map((it) => it.step); })()"""
+
+
 def errors_in(report):
     """The errors of a report, each with its text and the addresses and names of its trace."""
     found = re.findall(r"^error \d+: (.*)\n((?:   .*\n)*)", report, re.M)
@@ -311,8 +320,7 @@ def goes_to_the_bug(bench):
             page.until(f"{SHOWN_ROWS}.includes({json.dumps(text)})", 10)
             row = page.run("document.querySelector('#source tr.message').previousElementSibling.firstElementChild.textContent.trim()")
             expect(f":{row}" in page.text("verdict"), f"{label}: at line {row}, and the line at the top says {page.text('verdict')!r}")
-            page.until("replaycheck.steps.landmarks.some((it) => it.kinds.includes('end'))", 20)
-            landmarks = page.run("replaycheck.steps.landmarks.filter((it) => it.kinds.includes('error')).map((it) => it.step)")
+            landmarks = page.run(LANDMARKS)
             expect(step in landmarks, f"{label}: the landmarks of errors are at {landmarks}, and not at {step}")
             page.click_on("#bug-step")
             bench.settle(page)
@@ -376,7 +384,7 @@ def outputs(bench):
             bench.settle(page)
             output, writes = written_by(bench, STATION, edits)
             want = shown_as(output)
-            page.until(f"replaycheck.written?.scenario === replaycheck.scenario && "
+            page.until(f"replaycheck.whole.written?.scenario === replaycheck.scenario && "
                        f"document.querySelectorAll('#output-lines button').length >= {len(writes)}", 20)
             told = page.run(LINES)
             same(f"{edits}: lines", [text for how, text in told if how != "gone"], [it or " " for it in want])

@@ -99,7 +99,9 @@ def packed(text):
 SPOKEN = """(() => { globalThis.spoken = [];
   for (const it of document.querySelectorAll('[aria-live], [role=status], [role=alert]')) {
     let was = it.textContent;
-    new MutationObserver(() => { if (it.textContent !== was) spoken.push([it.id, was = it.textContent]); })
+    new MutationObserver(() => {
+      if (it.textContent !== was && it.getAttribute('aria-live') !== 'off') spoken.push([it.id, it.textContent]);
+      was = it.textContent; })
       .observe(it, { childList: true, characterData: true, subtree: true }); } })()"""
 MOST_SPOKEN = 4
 
