@@ -185,7 +185,7 @@ def keep(made, path):
 
 
 def build_program():
-    if subprocess.run([str(TOP / "tools" / "lib" / "build")], stdin=subprocess.DEVNULL).returncode:
+    if subprocess.run([str(TOP / "build" / "build")], stdin=subprocess.DEVNULL).returncode:
         raise Fault("the program isn't built")
 
 
