@@ -1,11 +1,11 @@
 -- The name of an instruction set is read as the set.
-use Rattle.std.proofs.Common.{◌≡◌, ℕ, Bool, true, false, cond, List, Option, Some, None, refl, sym, ap, ◌∙◌}
+use Rattle.std.proofs.Common.{◌≡◌, ℕ, Bool, true, false, cond, List, Option, Some, None, sym, ap, ◌∙◌}
 use Rattle.guest_elf.specs.Profiles.{rv32im, rv32imac, rv32imc}
 use Rattle.guest_elf.specs.declared.profile.Isa.{Isa}
 use Rattle.command_line.specs.Isas.{isa_name, isa_named}
 
 -- the set that the name of one is read as
-abbrev again : Option Isa → Option Isa
+again : Option Isa → Option Isa
 again None = None
 again (Some isa) = isa_named (isa_name isa)
 

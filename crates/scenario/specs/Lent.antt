@@ -1,4 +1,5 @@
 -- A scenario with borrowed parts, as a scenario.
+use Rattle.scenario.specs.Limits.{most_steps}
 use Rattle.scenario.specs.Scenario.{Scenario}
 use Rattle.scenario.specs.declared.lent.ScenarioRef.{ScenarioRef}
 
@@ -11,4 +12,5 @@ lent s = record {
   rules = s.suppressions.now;
   options = s.options.now;
   step = s.step;
+  limit = most_steps;
 }

@@ -23,8 +23,7 @@ use Rattle.checkpoints.specs.declared.sides.Sides.{Sides}
 use Rattle.checkpoints.proofs.AlsoSteps.{covers-on, or-or}
 use Rattle.run_values.specs.declared.span.Span.{Span}
 use Rattle.scenario.specs.Edits.{row}
-use Rattle.scenario.specs.Limits.{most_steps}
-use Rattle.scenario.specs.Scenario.{Scenario, first_state}
+use Rattle.scenario.specs.Scenario.{Scenario, first_state, limit_of}
 use Rattle.sweep_plans.specs.Changes.{edit_of, second_of}
 use Rattle.sweep_plans.specs.Plans.{HasNext, changes_of, has_only_bytes, place_at}
 use Rattle.sweep_plans.specs.declared.change.Change.{Change}
@@ -69,7 +68,7 @@ pub byte-next : (standing : Standing) → IsByte standing → HasNext standing
 byte-next (At.Byte offset old) byte = tt
 byte-next _ byte = absurd byte
 
-pub byte-at : (sc : Scenario) (plan : Plan) (standing : Standing) → sc.step ≤ most_steps → sc.marks ≡ []
+pub byte-at : (sc : Scenario) (plan : Plan) (standing : Standing) → sc.step ≤ limit_of sc → sc.marks ≡ []
     → IsByte standing → All (IsAt sc standing) (changes_of plan standing)
 byte-at sc plan standing near none byte = all-at sc plan standing near none (byte-below sc.step standing byte)
 

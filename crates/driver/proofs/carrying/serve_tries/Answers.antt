@@ -1,5 +1,4 @@
 use Rattle.exit_status.proofs.EndSteps.{passed-on}
-use Rattle.replay_session.specs.Turns.{opening}
 use Rattle.driver.proofs.Stages.{tried-done, tried-fault}
 use Rattle.driver.proofs.carrying.serve_tries.Goals as goal
 
@@ -7,13 +6,11 @@ pub returns-in_err-serve : goal.returns-in_err-serve
 returns-in_err-serve g c =
     let begins = c.in_ok-session.ensures in
     rw (passed-on c.from_residual-in_err-serve.result _ c.from_residual-in_err-serve.ensures.1)
-    (tried-fault c.in_ok-session.session
-    (opening c.args.image c.args.input.items c.args.suppressions.items) begins.ok begins.work begins.whole _ _ _ _
+    (tried-fault _ c.in_ok-session.session _ begins.ok begins.work begins.whole _ _ _ _
     c.in_err-serve.field-0.0 c.in_err-serve.ensures.fault)
 
 pub returns : goal.returns
 returns g c =
     let begins = c.in_ok-session.ensures in
-    tried-done c.in_ok-session.session
-    (opening c.args.image c.args.input.items c.args.suppressions.items) begins.ok begins.work begins.whole _ _ _ _
+    tried-done _ c.in_ok-session.session _ begins.ok begins.work begins.whole _ _ _ _
     c.in_ok-serve.ensures.ok c.in_ok-serve.ensures.read

@@ -4,7 +4,8 @@ use Rattle.guest_machine.specs.Run.{pre}
 use Rattle.guest_machine.specs.Shows.{Shows}
 use Rattle.checkpoints.specs.Entering.{IsApart}
 use Rattle.checkpoints.specs.Sides.{RowTells, places, sided}
-use Rattle.checkpoints.specs.Trails.{machines_of}
+use Rattle.checkpoints.specs.Trails.{machines_of, spacing_of}
+use Rattle.std.proofs.Math.Nat.{mul-zero}
 use Rattle.checkpoints.proofs.SideSteps.{apart, tells-none}
 use Rattle.checkpoints.proofs.trail.Trail.sides.Goals as goal
 
@@ -23,7 +24,8 @@ returns c start right =
     let copy = c.in_ok-machine.machine in
     let some : 0 < length (machines_of c.args.self.now) = search rules in
     let shows : Shows copy (pre start setup marks 0) =
-    c.in_ok-machine.ensures copy _ (right.held 0 copy some) in
+    c.in_ok-machine.ensures copy _ (subst (λ k. Shows (get_or (machines_of c.args.self.now) 0 copy) (pre start setup marks k))
+    (mul-zero (spacing_of c.args.self.now)) (right.held 0 copy some)) in
     let far : c.unit-apart.result ≡ unit start.core.isa = c.unit-apart.ensures ∙ ap unit (c.isa.ensures _ shows) in
     record {
       rows =
