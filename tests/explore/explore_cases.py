@@ -164,7 +164,7 @@ WRONG_TABLES = [
     ("a line of sides within another", with_sides(LINE + LINE.replace(b"10000", b"100fc")), "a line out of turn"),
     ("a line behind a short one", with_sides(LINE.replace(b"0123", b"", 1) + LINE.replace(b"10000", b"10100")), "a line out of turn"),
     ("steps that are no number", lambda it: it[:it.rindex(b" ")] + b" -\n", "`end 18 "),
-    ("a number of 14 digits for a step", changed(b"step 100", b"step 10000000000000"), "a step above 4194304"),
+    ("a number of 14 digits for a step", changed(b"step 100", b"step 10000000000000"), "a step above 2147483647"),
     ("a range of bytes too far", changed(b"bytes 0..5", b"bytes 0..5000000"), "a place above"),
 ]
 
@@ -177,6 +177,11 @@ def without(table, *edits):
 # Command lines that are refused: label, words, what is said.
 REFUSED = [
     ("no word", [], "no FILE"), ("an option twice", ["p.elf", "--step=1", "--step=2"], "--step is given twice"),
+    ("a step too great", ["p.elf", "--step=2147483648"], "--step: '2147483648' is not a number from 0 to 2147483647"),
+    ("no limit", ["p.elf", "--limit=0"], "--limit: '0' is not a number from 1 to 2147483647"),
+    ("a limit too great", ["p.elf", "--limit=2147483648"], "--limit: '2147483648' is not a number from 1 to 2147483647"),
+    ("a step and a limit", ["p.elf", "--step=1", "--limit=2"], "--step and --limit at once"),
+    ("a limit without a file", ["--from", "a", "--limit=2"], "--from takes tables that are there: --limit makes them"),
     ("two files", ["p.elf", "q.elf"], "unrecognized arguments: q.elf"),
     ("an option that there was once", ["p.elf", "--exits"], "unrecognized arguments: --exits"),
     ("an instruction set that there isn't", ["p.elf", "--isa=rv32gc"],

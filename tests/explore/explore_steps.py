@@ -16,7 +16,13 @@ again: beq s1, zero, again
 li t0, {turns}
 turn: addi t0, t0, -1; bne t0, zero, turn
 mv a0, s1; li a7, 93; ecall"""
-BEFORE, AFTER = 9, 3
+BEFORE, AFTER, READ_STEP = 9, 3, 5
+# Makes so many turns, 2,048 or more, and only then reads its byte, in the fifth step after the turns, uses it in the sixth and ends in the
+# ninth. The two steps before the turns count among them here.
+BOOT = """li t0, {turns}
+turn: addi t0, t0, -1; bne t0, zero, turn
+li a0, 0; li a1, 0x11000; li a2, 1; li a7, 63; ecall; lbu a0, 0(a1); li a7, 93; ecall"""
+TURNS, TURN_WORD, FIRST_WORD, USING_WORD = 20000, ENTRY + 8, ENTRY + 16, ENTRY + 40
 
 
 def looping(turns):
@@ -29,19 +35,66 @@ def bound(end):
     return f"4 times the {end} steps of the unedited run"
 
 
+def since(end, first):
+    """Why the step is that of a run which ends at one step, and in which the first edit shows at another one."""
+    return f"the {end} steps of the unedited run and 3 times the {end - first} from the first edit on"
+
+
+def more(end):
+    return f"{LEAST} more than the {end} steps of the unedited run"
+
+
 # Label, turns, the byte, the step at which the run ends, the step that is chosen, and why.
 ROWS = [
     ("it ends early", 10, 1, 32, LEAST, f"{bound(32)}, at least {LEAST}"),
     ("it ends just below a quarter of the least", 1243, 1, 2498, LEAST, f"{bound(2498)}, at least {LEAST}"),
     ("it ends at a quarter of the least", 1244, 1, 2500, LEAST, bound(2500)),
     ("it ends just above a quarter of the least", 1245, 1, 2502, 10008, bound(2502)),
-    ("it ends late", 9000, 1, 18013, 72052, bound(18013)),
-    ("it ends just below a quarter of the limit", 524281, 1, 1048575, 4194300, bound(1048575)),
-    ("it ends just above a quarter of the limit", 524282, 1, 1048577, LIMIT, f"{bound(1048577)}, at most {LIMIT}"),
-    ("it ends after the step that is usual without an end", 1000000, 1, 2000013, LIMIT, f"{bound(2000013)}, at most {LIMIT}"),
-    ("it ends one step before the limit", 2097145, 1, 4194303, LIMIT, f"{bound(4194303)}, at most {LIMIT}"),
+    ("it ends just below a third of the least", 1660, 1, 3332, 13328, bound(3332)),
+    ("it ends just above a third of the least", 1661, 1, 3334, 13334, more(3334)),
+    ("the edit shows a third of the least before the end", 1663, 1, 3338, 13338, more(3338)),
+    ("the edit shows a step earlier than that", 1664, 1, 3340, 13345, since(3340, READ_STEP)),
+    ("it ends late", 9000, 1, 18013, 72037, since(18013, READ_STEP)),
+    ("the step is just below the limit", 524283, 1, 1048579, 4194301, since(1048579, READ_STEP)),
+    ("the step would be just above the limit", 524284, 1, 1048581, LIMIT, f"{since(1048581, READ_STEP)}, at most {LIMIT}"),
+    ("it ends after the step that is usual without an end", 1000000, 1, 2000013, LIMIT,
+     f"{since(2000013, READ_STEP)}, at most {LIMIT}"),
+    ("it ends one step before the limit", 2097145, 1, 4194303, LIMIT, f"{since(4194303, READ_STEP)}, at most {LIMIT}"),
     ("it would end one step after the limit", 2097146, 1, 4194305, USUAL, NO_END),
     ("it doesn't end", 10, 0, 32, USUAL, NO_END),
+]
+# A boot of 20,000 turns: label, which edits, the step that is chosen, and why. The boot ends at the step 40,011.
+BOOTED = [
+    ("the byte that is read after it", EDITS, 50011, more(40011)),
+    ("all bytes, of which it reads the first", ["--values=0,2"], 50011, more(40011)),
+    ("a byte that it doesn't read", ["--bytes=1", "--values=0,2"], 50011, more(40011)),
+    ("the word that uses the byte", [f"--words=0x{USING_WORD:x}..0x{USING_WORD:x}"], 50011, more(40011)),
+    ("the word that the byte is written over", ["--words=0x11000..0x11000"], 50011, more(40011)),
+    ("a word that it doesn't use", ["--words=0x11004..0x11004"], 50011, more(40011)),
+    ("the word of a turn", [f"--words=0x{TURN_WORD:x}..0x{TURN_WORD:x}"], 160038, since(40011, 2)),
+    ("a range of words that begins between two", [f"--words=0x{FIRST_WORD - 3:x}..0x{USING_WORD:x}"], 50011, more(40011)),
+    ("the word of a turn and the byte", [f"--words=0x{TURN_WORD:x}..0x{TURN_WORD:x}", *EDITS], 160038, since(40011, 2)),
+    ("the first word", [f"--words=0x{ENTRY:x}..0x{ENTRY:x}"], 160044, bound(40011)),
+    ("a step in it", ["--at=30000..30010", "--faults=skip"], 70044, since(40011, 30000)),
+    ("a step in it and the byte", ["--at=30000..30010", "--faults=skip", *EDITS], 70044, since(40011, 30000)),
+    ("from a step in it on, after the turns only", ["--at=30000..", "--faults=skip", f"--code-range=0x{FIRST_WORD:x}..0x{USING_WORD:x}"],
+     50011, more(40011)),
+    ("from a step in it on, at a turn only", ["--at=30000..30002", "--faults=skip", f"--code-range=0x{TURN_WORD:x}..0x{TURN_WORD:x}"],
+     70044, since(40011, 30000)),
+    ("a limit", ["--limit=50010", *EDITS], 50010, f"{more(40011)}, at most 50010"),
+    ("a limit at the end", ["--limit=40011", *EDITS], 40011, f"{more(40011)}, at most 40011"),
+    ("a limit before the end", ["--limit=40010", f"--words=0x{ENTRY:x}..0x{ENTRY:x}"], 40010,
+     "the unedited run doesn't end by step 40010"),
+    ("a limit below the least step", ["--limit=500", f"--words=0x{ENTRY:x}..0x{ENTRY:x}"], 500,
+     "the unedited run doesn't end by step 500"),
+]
+# The same of a boot that is longer than the usual limit, of 2,500,000 turns: it ends at the step 5,000,011.
+LONG_TURNS, LONG_END = 2500000, 5000011
+LONG_BOOTED = [
+    ("without a limit", [f"--words=0x{USING_WORD:x}..0x{USING_WORD:x}"], USUAL, NO_END),
+    ("with a limit", ["--limit=6000000", *EDITS], 5010011, more(LONG_END)),
+    ("with the greatest limit", ["--limit=2147483647", *EDITS], 5010011, more(LONG_END)),
+    ("with a limit just after its end", ["--limit=5005000", *EDITS], 5005000, f"{more(LONG_END)}, at most 5005000"),
 ]
 # Programs of few words that stop: label, words, the step at which they do.
 STOPS = [("an illegal instruction", "nop; .word 0", 2), ("a break", "nop; nop; ebreak", 3),
@@ -76,35 +129,52 @@ def test_choice(tests):
         tests.check(f"step: it stops by {label}", "" if f"by default: {bound(end)}, at least {LEAST}" in head_of(out)[1] else out)
 
 
+def test_boots(tests):
+    """The step that is chosen where a long part of the run comes before the first edit."""
+    tests.file("boot.input", b"\1\2")
+    for turns, rows in ((TURNS, BOOTED), (LONG_TURNS, LONG_BOOTED)):
+        words = assemble(BOOT.format(turns=turns))
+        tests.file("boot.elf", elf(words, 0x2000, [("main", ENTRY, 4 * len(words))]))
+        for label, edits, step, why in rows:
+            status, out, err = tests.run(["boot.elf", "--input=boot.input", *edits])
+            head, note = head_of(out)
+            is_well = head.endswith(f", step {step}") and note == f"step {step} by default: {why}" and not err
+            tests.check(f"step of a boot of {turns} turns: {label}", "" if is_well else (status, out, err))
+    words = ["boot.elf", "--input=boot.input", *EDITS]
+    status, out, err = tests.run([*words, f"--step={LONG_END}"])
+    wanted = [f"boot.elf with boot.input: 2 edits, bytes 0..0, values 0,2, step {LONG_END}", "unedited: exited 1, no errors or leaks"]
+    tests.check("step of a boot: one that is named goes beyond the limit", "" if head_of(out) == wanted else (status, out, err))
+
+
 def test_said(tests):
     """Where the step was asked for, or isn't known to be the default, nothing is said of its choice."""
     tests.file("loop.elf", looping(9000)[0])
     tests.file("loop.input", b"\1")
     words = ["loop.elf", "--input=loop.input", *EDITS]
-    for label, more, step, has_note in (("asked for", ["--step=500"], 500, False), ("as the default is", ["--step=72052"], 72052, False),
+    for label, more, step, has_note in (("asked for", ["--step=500"], 500, False), ("as the default is", ["--step=72037"], 72037, False),
                                         ("the least there is", ["--step=0", WORDS], 0, False),
-                                        ("of words only", ["--step=500", WORDS], 500, False), ("the default", [], 72052, True)):
+                                        ("of words only", ["--step=500", WORDS], 500, False), ("the default", [], 72037, True)):
         out = tests.run([*words, *more])[1]
         is_well = f", step {step}\n" in out and ("by default" in out) == has_note
         tests.check(f"step said: {label}", "" if is_well else out)
     tests.run([*words, "--table=whole"])
     for label, more in (("with the files", words[:2]), ("without them", [])):
         out = tests.run([*more, "--from", "whole"])[1]
-        tests.check(f"step said: a table, {label}", "" if ", step 72052\n" in out and "by default" not in out and
-                    "\nstill running at step 72052: 1 edit; --step N looks further\n" in out else out)
-    for label, more, said in (("the default", [], "72052: 1 other edit; --step N looks further"),
+        tests.check(f"step said: a table, {label}", "" if ", step 72037\n" in out and "by default" not in out and
+                    "\nstill running at step 72037: 1 edit; --step N looks further\n" in out else out)
+    for label, more, said in (("the default", [], "72037: 1 other edit; --step N looks further"),
                               ("at the limit", [f"--step={LIMIT}"], f"{LIMIT}: 1 other edit")):
         out = tests.run([*words, "--goal=exited 2", *more])[1]
         wanted = f"input 0 2\nstill running at step {said}\nreached by 1 of 2 edits: a line that begins with `exited 2`\n"
         tests.check(f"step said: a goal, {label}", "" if out == wanted else out)
     out = tests.run([*words, "--goal=running"])[1]
     tests.check("step said: a goal that runs", "still" in out)
-    tests.check("step said: a picture", tests.run([*words, "--svg=-"])[1].count("values 0,2, step 72052<") != 2)
+    tests.check("step said: a picture", tests.run([*words, "--svg=-"])[1].count("values 0,2, step 72037<") != 2)
     came = tests.run(["loop.elf", "--input=-", *EDITS, "--table=-"], b"\1")
     tests.check("step said: an input that is read once", came[1].encode() != (tests.room / "whole").read_bytes())
     tests.file("one.supp", b"{\n one\n Memcheck:Addr1\n ...\n}\n")
     out = tests.run([*words, "--supp=one.supp"])[1]
-    tests.check("step said: with suppressions", head_of(out)[1] != f"step 72052 by default: {bound(18013)}")
+    tests.check("step said: with suppressions", head_of(out)[1] != f"step 72037 by default: {since(18013, READ_STEP)}")
 
 
 def test_parts(tests):
@@ -164,5 +234,5 @@ def test_kept(tests):
 
 
 def test_steps(tests):
-    for test in (test_choice, test_said, test_parts, test_kept):
+    for test in (test_choice, test_boots, test_said, test_parts, test_kept):
         test(tests)

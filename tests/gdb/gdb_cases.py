@@ -8,6 +8,7 @@ from dataclasses import dataclass, field
 from typing import List, Tuple
 
 from guest_files import ENTRY
+from limit_rows import USES
 from random_programs import DATA
 from replaycheck.guest.assembly import assemble
 
@@ -222,6 +223,21 @@ COUNTS = "lui t0, 10; addi t0, t0, -960; again: addi t0, t0, -1; bne t0, zero, a
 PLACE = "20000"
 FULL_BUT_8 = [f"M{PLACE},1ff0:" + "01" * 0x1FF0] * 2  # 4,088 pieces of four bytes
 TURNS = "again: addi t0, t0, 1; j again"
+# A run of TURNS up to a limit, and of a boot (limit_rows.USES) with its end and with its error behind the usual limit: label, the program,
+# its limit, packets, of which some are lines of `monitor`, and the answer to the last, or what it prints.
+LIMITED = [
+    ("a run without an end", TURNS, 5000000, ["c", "p21"], "404b4c00"),
+    ("the last step", TURNS, 5000000, ["goto 5000000", "s"], "T05replaylog:end;thread:1;"),
+    ("a step above it", TURNS, 5000000, ["goto 5000001"], "'5000001' is not a number from 0 to 5000000\n"),
+    ("on to a breakpoint", USES, 6100000, ["Z0,10020,4", "c", "p21"], "868d5b00"),
+    ("and back to one in the boot", USES, 6100000, ["Z0,10020,4", "c", "Z0,10008,4", "bc", "p21"], "808d5b00"),
+    ("the end, and a step back", USES, 6100000, ["c", "bs", "p21"], "888d5b00"),
+    ("all the way back", USES, 6100000, ["c", "bc", "p21"], "00000000"),
+    ("an edit of the last steps", USES, 6100000, ["c", "mark 6000003 0x7fffffe4 4 defined", "errors"],
+     "ERROR SUMMARY: 0 errors from 0 contexts (suppressed: 0 from 0)\n"),
+    ("an edit above the limit", TURNS, 5000000, ["skip 5000001"], "refused 5: a step above 4194304, or above N with --limit N"),
+    ("where undefined bits come from", USES, 6100000, ["goto 6000008", "origin"], "undefined in step 6000002 by a new stack frame"),
+]
 # A program that has undefined bits in mscratch from step 3 on; packets that ask for mscratch, for its undefined bits, and for no register.
 UNDEFINED = assemble("addi sp, sp, -16; lw a0, 0(sp); csrrw zero, mscratch, a0; nop")
 MSCRATCH, MSCRATCH_BITS, NO_REGISTER = "p47", "p5f", "p72"
@@ -309,6 +325,8 @@ COMMANDS = [
     ("no input", ["counts.elf", "--input", "missing"], 2, "cannot read missing"),
     ("suppressions that are none", ["counts.elf", "--supp", "cut.elf"], 2, "suppressions refused 13"),
     ("an option twice", ["counts.elf", "--port=1", "--port=2"], 2, "--port is given twice"),
+    ("no limit", ["counts.elf", "--limit=0"], 2, "--limit: '0' is not a number from 1 to 2147483647"),
+    ("a limit too great", ["counts.elf", "--limit=2147483648"], 2, "--limit: '2147483648' is not a number from 1 to 2147483647"),
     ("no port", ["counts.elf", "--port=x"], 2, "'x' is no"),
     ("a port that there isn't", ["counts.elf", "--port=65536"], 2, "'65536' is not a number from 0 to 65535"),
     ("a file of that name", ["--", "-x.elf"], 2, "cannot read ./-x.elf"), ("another option", ["counts.elf", "--tcp"], 2, "--tcp"),

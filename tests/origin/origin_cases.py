@@ -2,6 +2,8 @@
 from dataclasses import dataclass, field
 from typing import List, Tuple
 
+from limit_rows import USES
+
 EXIT = "li a7, 93; ecall"
 MALLOC = "li a7, 2001; ecall"
 DATA = 0x10400  # where the programs in assembly have room for variables
@@ -69,6 +71,9 @@ CASES = [
     Case("a block", BLOCK, 0, ("Conditional", "origin 1: 4 bytes at 0x40000014, undefined in step 2 by a call",
                                "4 bytes inside a block of size 8 alloc'd", "step 3: 4 bytes", "certificate: "),
          ["mark 3 0x40000014 4 defined"]),
+    Case("a frame after a boot", USES, 0, ("Conditional", "undefined in step 6000002 by a new stack frame\n   at 0x00010010: ???\n",
+                                           "step 6000006: 4 bytes at 0x7fffffe4 read by 0x00010020"),
+         ["mark 6000003 0x7fffffe4 4 defined"], ["--last=6000020", "--limit=6000020"]),
     Case("a frame", FRAME, 0, ("undefined in step 0 by a new stack frame\n   at 0x00010000: ???\n step 1: ",),
          ["mark 1 0x7fffffe8 4 defined"]),
     Case("moves", MOVED, 0, ("step 1: 1 byte at 0x7fffffd8 read by 0x00010004",

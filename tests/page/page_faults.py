@@ -171,14 +171,25 @@ def manual_lines(bench):
             same(f"{line}: the program's own", told, ran.stdout.split("\n", 3)[3].rstrip("\n"))
 
 
+# Lines that a session refuses, and what the page says of each.
+REFUSED = (
+    ("goto 99999999", "“goto 99999999” was refused: "),
+    ("goto 4194305", "was refused"),
+    ("frob", "“frob” doesn’t edit a run: no such line"),
+    ("goto x", "form of such a line is “goto STEP”"),
+    ("set 600 q0 5", "“set 600 q0 5” doesn’t edit a run: the form of such a line is “set STEP REGISTER VALUE"),
+    ("set 600 zero 5", "“set STEP REGISTER VALUE"),
+    ("bytes 40 0102", "“bytes OFFSET HEX, of bytes that are there”"),
+    ("bytes is 012", "“bytes is HEX”"),
+    ("input 1", "“input OFFSET BYTE”"),
+    ("supp", "“supp add KIND FRAME..,"),
+)
+
+
 def refused_lines(bench):
     """Lines that a session refuses are refused, with the reason, and none of their text is used."""
     with bench.open() as page:
-        for line, told in (("goto 99999999", "“goto 99999999” was refused: "), ("goto 4194305", "was refused"),
-                           ("frob", "“frob” doesn’t edit a run: no such line"), ("goto x", "form of such a line is “goto STEP”"),
-                           ("set 600 q0 5", "“set 600 q0 5” doesn’t edit a run: the form of such a line is “set STEP REGISTER VALUE"),
-                           ("set 600 zero 5", "“set STEP REGISTER VALUE"), ("bytes 40 0102", "“bytes OFFSET HEX, of bytes that are there”"),
-                           ("bytes is 012", "“bytes is HEX”"), ("input 1", "“input OFFSET BYTE”"), ("supp", "“supp add KIND FRAME..,")):
+        for line, told in REFUSED:
             page.run(f"replaycheck.use({json.dumps('input 1 8' + chr(10) + line)})")
             bench.settle(page)
             expect(told in page.text("notice"), f"{line}: it says {page.text('notice')!r}")

@@ -124,6 +124,11 @@ FREED = """{
    fun:main
 }
 """
+NO_STEP = "refused 5: a step above 4194304, or above N with --limit N"
+NO_LIMIT = "*--limit: '{}' is not a number from 1 to 2147483647\nusage: *"
+# A program that boots for 6,000,002 steps and branches on what its frame has in step 6,000,007; how far it is looked at.
+FAR, FAR_STEP = "far.elf", 6000020
+FAR_LIMIT = [f"--limit={FAR_STEP}"]
 NO_LINE = "refused 2: no such line, or a field that is missing, too many, empty or of the wrong form"
 NO_BYTE = "refused 3: no such byte of the input"
 HELD = "   at 0x00010044: total (packet.s:29)\n"
@@ -155,6 +160,12 @@ def talk_rows():
     yield Row("talk: such a name without --", ["talk", "-p.elf", "-"], 2, "", "*the following arguments are required*")
     yield Row("talk: a refused file", ["talk", "script", "-"], 2, "", "replaycheck: image refused 20: no ELF file\n",
               given=b"goto 1\n")
+    yield Row("talk: the last step", ["talk", FAR, "-"], 1, f"> goto 4194304\nok\n> goto 4194305\n{NO_STEP}\n",
+              given=b"goto 4194304\ngoto 4194305\n")
+    yield Row("talk: with a limit", ["talk", FAR, *FAR_LIMIT, "-"], 1,
+              f"> goto {FAR_STEP}\nok\n> look last error 0 0xffffffff 0\nstep 6000007\n> goto {FAR_STEP + 1}\n{NO_STEP}\n",
+              given=f"goto {FAR_STEP}\nlook last error 0 0xffffffff 0\ngoto {FAR_STEP + 1}\n".encode())
+    yield Row("talk: no limit", ["talk", FAR, "--limit=0", "-"], 2, "", NO_LIMIT.format(0))
     yield Row("talk: no script", ["talk", "three-words.elf", "missing"], 2, "",
               "replaycheck talk: missing: No such file or directory\n")
     yield Row("talk: an option twice", ["talk", *PACKET, "--input=a", "-"], 2, "", "*--input is given twice*")
@@ -199,6 +210,21 @@ def when_rows():
     yield Row("when: no instruction set", [*when, "x", "--isa"], 2, "", "*--isa: its value is missing*")
     yield Row("when: a step that is too great", [*when, "--last", "4194305", "x"], 2, "",
               "*not a number from 0 to 4194304*")
+    yield Row("when: with a limit", ["when", FAR, f"--last={FAR_STEP}", *FAR_LIMIT, "error 1: Conditional"], 0, "6000008\n")
+    yield Row("when: with a limit, and a line beyond the usual one",
+              ["when", FAR, "--line", "skip 6000007", *FAR_LIMIT, f"--last={FAR_STEP}", "state stopped break"], 0, "6000008\n")
+    yield Row("when: a limit doesn't choose the step", ["when", FAR, *FAR_LIMIT, "error 1"], 1, "",
+              "replaycheck when: not by step 1048576; the run goes on\n")
+    yield Row("when: a limit below the usual step", ["when", FAR, "--limit=9", "error 1"], 1, "",
+              "replaycheck when: not by step 9; the run goes on\n")
+    yield Row("when: a step above the limit", ["when", FAR, "--limit", "9", "--last=0xa", "x"], 2, "",
+              "*--last: '0xa' is not a number from 0 to 9\nusage: *")
+    yield Row("when: a step above a limit that comes after it", ["when", FAR, "--last=10", "--limit=0x9", "x"], 2, "",
+              "*--last: '10' is not a number from 0 to 9\nusage: *")
+    yield Row("when: a line above the limit", ["when", FAR, "--limit=9", "--line=skip 10", "x"], 2, "", f"*skip 10: {NO_STEP}*")
+    for limit in (0, 2147483648, "x"):
+        yield Row(f"when: the limit {limit}", ["when", FAR, f"--limit={limit}", "x"], 2, "", NO_LIMIT.format(limit))
+    yield Row("when: a limit twice", ["when", FAR, *FAR_LIMIT, *FAR_LIMIT, "x"], 2, "", "*--limit is given twice*")
     yield Row("when: a refused file", ["when", "script", "x"], 2, "", "replaycheck: image refused 20: no ELF file\n")
 
 
@@ -211,6 +237,9 @@ def compare_rows():
               "*-error 1: Invalid read of size 4*")
     yield Row("compare: lines that take one another back", [*compare, "input 0 8", "input 0 3"], 0)
     yield Row("compare: a suppression", [*compare, "--supp", "free.supp", "option redzone 32"], 0)
+    yield Row("compare: with a limit", ["compare", FAR, f"--step={FAR_STEP}", *FAR_LIMIT, "mark 6000003 0x7fffffe4 4 defined"], 1,
+              f"--- at step {FAR_STEP}\n*-error 1: Conditional jump*+ERROR SUMMARY: 0 errors*")
+    yield Row("compare: no limit", ["compare", FAR, "--limit=0", "skip 0"], 2, "", NO_LIMIT.format(0))
     yield Row("compare: for rv32imc", ["compare", *SHORT, "patch 0x10004 0"], 1,
               "*-state stopped break 0x00010006\n+state stopped illegal 0x00010006\n*")
     yield Row("compare: with control registers", ["compare", *CONTROLS, "patch 0x10004 0x3401f073"], 1,

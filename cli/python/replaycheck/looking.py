@@ -11,7 +11,7 @@ from replaycheck.sessions import Refused, Session
 
 MOST_SEEN = 4096  # bytes of one look at memory
 MOST_LINES = 90000  # lines of one session, which takes 100,000
-REACHES = (4096, 65536, LAST_STEP)  # what is near is found without a look at what is far off
+NEAR = (4096, 65536)  # what is near is found without a look at what is far off
 ALL = (0, 0xFFFFFFFF)  # a range with nearly all addresses
 TOP = 1 << 32
 NO_ACCESS, DEFINED = "__", "00"
@@ -59,10 +59,10 @@ class Bytes:
 
 
 class Run:
-    """The lines of `replaycheck look` on a program, and the step that is looked at."""
+    """The lines of `replaycheck look` on a program, and the step that is looked at. `limit` is the last step that there is."""
 
-    def __init__(self, file, given, supp, isa=ISAS[0], regions=USUAL_REGIONS):
-        self.files, self.isa, self.regions, self.edits = (file, given, supp), isa, regions, []
+    def __init__(self, file, given, supp, isa=ISAS[0], regions=USUAL_REGIONS, limit=LAST_STEP):
+        self.files, self.isa, self.regions, self.limit, self.edits = (file, given, supp), isa, regions, limit, []
         self.session: Optional[Session] = None
         self.step = self.chosen = 0
         self.ready()
@@ -78,7 +78,8 @@ class Run:
     def open(self):
         """Begins a session, with the edits and the chosen step of the one before it."""
         lines = [*self.edits, f"goto {self.chosen}"]
-        self.session, self.lines = Session(*self.files, command="look", isa=self.isa, regions=self.regions), len(lines)
+        self.session = Session(*self.files, command="look", isa=self.isa, regions=self.regions, limit=self.limit)
+        self.lines = len(lines)
         self.session.accept_all(lines)
 
     def drop(self):
@@ -200,17 +201,21 @@ class Run:
         word, *step = self.look(f"{way} {kind} 0x{span[0]:x} {span[1]} {bound}")[0].split()
         return int(step[0]) if word == "step" else None
 
+    def reaches(self):
+        """How far steps are looked for, at first near the one where it is: the last is the whole run."""
+        return [*(it for it in NEAR if it < self.limit), self.limit]
+
     def end(self):
         """The step at which the program runs no more, or the last that there is."""
         if self.last_step is None:
-            edge = next((it for it in REACHES[:-1] if not self.runs_at(it)), LAST_STEP)
+            edge = next((it for it in self.reaches()[:-1] if not self.runs_at(it)), self.limit)
             last = self.search("last", "run", ALL, edge, 0)
             self.last_step = 0 if last is None else last + 1
         return self.last_step
 
     def known_end(self):
         """A step up to which it can be looked for something: the end of the program, where that was looked for already."""
-        return LAST_STEP if self.last_step is None else self.last_step
+        return self.limit if self.last_step is None else self.last_step
 
     def runs_at(self, step):
         return self.search("next", "run", ALL, step, step + 1) is not None

@@ -6,7 +6,8 @@ from replaycheck.guest.regions import (GREATEST_MOVED, GREATEST_OUTPUT, HEAP_WAN
                                  Regions, is_heap, is_stack, overlap)
 from replaycheck.programs import ISAS
 
-LAST_STEP, USUAL_STEP = 4194304, 1048576
+# The last step that there is without `--limit`, that of many commands without another one, and the greatest that `--limit` takes.
+LAST_STEP, USUAL_STEP, FURTHEST_STEP = 4194304, 1048576, 2147483647
 MANY = {"*": 0, "+": 1}
 
 
@@ -18,9 +19,9 @@ class Kind:
     """An option or a positional argument: what it is called, where its value goes, and how that is read."""
 
     def __init__(self, names, dest=None, nargs=None, type=str, default=None, choices=None, metavar=None, repeats=False,
-                 is_flag=False):  # noqa: A002
+                 is_flag=False, is_step=False, least=0):  # noqa: A002
         self.names, self.nargs, self.read, self.choices = names, nargs, type, choices
-        self.repeats, self.is_flag = repeats, is_flag
+        self.repeats, self.is_flag, self.is_step, self.least = repeats, is_flag, is_step, least
         long = next((it for it in names if it.startswith("--")), names[0])
         self.dest = dest or long.lstrip("-").replace("-", "_")
         self.shown = "/".join(names) if names[0].startswith("-") else metavar or self.dest.upper()
@@ -54,6 +55,7 @@ class Reader:
         last = next(place for place in range(first + 1, len(lines) + 1) if place == len(lines) or not lines[place].startswith(" " * 7))
         self.usage = "\n".join(lines[first:last]).removeprefix("usage: ")
         self.page, self.options, self.positionals = page.strip() + "\n", {}, []
+        self.steps = []  # of a command line the options that are steps, with their texts: they are read last, as `--limit` bounds them
 
     def error(self, message):
         raise Fault(f"{message}\nusage: {self.usage}")
@@ -87,6 +89,14 @@ class Reader:
         self.isa_option()
         self.region_options(has_limits)
 
+    def limit_option(self):
+        """Adds the greatest step of the sessions of a tool. The options then have `limit`, LAST_STEP without one."""
+        self.option("--limit", type=number(1, FURTHEST_STEP), default=LAST_STEP)
+
+    def step_option(self, name, least=0, default=None):
+        """Adds a step up to that of `--limit`, which also bounds its default."""
+        self.option(name, is_step=True, least=least, default=default)
+
     def isa_option(self):
         """Adds the instruction set that the program's file is read for."""
         self.option("--isa", choices=ISAS, default=ISAS[0])
@@ -109,11 +119,12 @@ class Reader:
             raise SystemExit(0)
         if "--version" in words[:end]:
             raise SystemExit(show_version())
-        options, given = Options(), set()
+        options, given, self.steps = Options(), set(), []
         for kind in [*self.options.values(), *self.positionals]:
             setattr(options, kind.dest, kind.default)
         try:
             bare, unknown = self.read_options(words[:end], options, given)
+            self.read_steps(options)
             self.place(bare + words[end + 1:], unknown, options)
             if "--heap-region" in self.options:
                 limits = (options.most_moved, options.most_output) if "--most-moved" in self.options else ()
@@ -141,6 +152,16 @@ class Reader:
             at += self.take(kind, name, [text] if has_value else None, words[at:], options)
         return bare, unknown
 
+    def read_steps(self, options):
+        """Sets the values of steps. One that isn't given is at most that of `--limit`."""
+        for kind, texts in self.steps:
+            kind.read = number(kind.least, options.limit)
+            setattr(options, kind.dest, kind.value(texts[0]))
+        taken = [kind for kind, _ in self.steps]
+        for kind in self.options.values():
+            if kind.is_step and kind not in taken and kind.default is not None:
+                setattr(options, kind.dest, min(kind.default, options.limit))
+
     def split(self, word):
         """An option's name, and the value after `=`; of one letter the value may follow at once."""
         if word.startswith("--"):
@@ -163,6 +184,9 @@ class Reader:
             texts = after[:taken]
         if not texts:
             raise Fault(f"{name}: its value is missing")
+        if kind.is_step:
+            self.steps.append((kind, texts))
+            return taken
         values = [kind.value(it) for it in texts]
         if kind.repeats:
             values = getattr(options, kind.dest) + values
@@ -213,6 +237,11 @@ def number(least, greatest):
             raise BadValue(f"{text!r} is not a number from {least} to {greatest}")
         return value
     return read
+
+
+def limit_for(step):
+    """The limit of a session that goes to a step."""
+    return max(LAST_STEP, step)
 
 
 def address(text):

@@ -8,7 +8,7 @@ WORDS = {
     2: "no such line, or a field that is missing, too many, empty or of the wrong form",
     3: "no such byte of the input",
     4: "no word of the loaded program",
-    5: "a step above 4194304",
+    5: "a step above 4194304, or above N with --limit N",
     6: "no such range: a mark has 1 to 1048576 bytes, a write 1, 2 or 4 and a value that fits, and none ends above 2^32",
     7: "no such mark",
     8: "no such suppression",

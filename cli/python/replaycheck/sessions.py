@@ -1,6 +1,7 @@
 """A session with the program: a line at a time, with its reply."""
 from replaycheck.children import piped
 from replaycheck.guest.regions import USUAL_REGIONS
+from replaycheck.options import LAST_STEP
 from replaycheck.programs import ISAS, isa_words, path_of, program
 from replaycheck.refusals import Ended, Refused
 
@@ -16,14 +17,19 @@ LISTS = ("blocks", "calls")
 LAST = ("refused ", "next ", "end")
 
 
+def limit_words(limit):
+    """The greatest step of a session as arguments: none for the usual one."""
+    return [] if limit == LAST_STEP else [f"--limit={limit}"]
+
+
 class Session:
     """A session on a program's file with its input and its suppressions, or what another command that answers lines does there. Paths are
     texts or have the method `__fspath__`. `path` is that of the program, if it isn't the usual one, `isa` the instruction set, and
-    `regions` where heap and stack are."""
+    `regions` where heap and stack are. `limit` is the greatest step, of the commands `look` and `tries`."""
 
     def __init__(self, file, given=None, supp=None, keeps_status=False, lends=(), command="session", path=None, isa=ISAS[0],
-                 regions=USUAL_REGIONS):
-        words = [path or program(), command, *isa_words(isa), *regions.words]
+                 regions=USUAL_REGIONS, limit=LAST_STEP):
+        words = [path or program(), command, *isa_words(isa), *regions.words, *limit_words(limit)]
         words += ["--input", path_of(given)] if given is not None else []
         words += ["--supp", path_of(supp)] if supp is not None else []
         self.keeps_status = keeps_status

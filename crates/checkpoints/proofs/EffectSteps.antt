@@ -17,7 +17,10 @@ use Rattle.checkpoints.specs.FirstEffects.{IsBelowFirst, MarkShows, InputShows, 
 use Rattle.checkpoints.specs.FirstEffects.{ShowsAfter}
 use Rattle.checkpoints.specs.Effects.{EffectShows, DifferBy, Tells, written_by}
 use Rattle.checkpoints.specs.Edits.{IsRightForEdited, IsRightForLed, IsRightForPoked, HasFollowed, StaysWhole}
-use Rattle.checkpoints.specs.Trails.{machines_of, table_of, loaded_of, last_held, is_short, IsRightFor, KeepsJust}
+use Rattle.checkpoints.specs.Trails.{machines_of, table_of, loaded_of, last_held, is_short, spacing_of, IsRightFor}
+use Rattle.checkpoints.specs.Trails.{KeepsJust}
+use Rattle.checkpoints.proofs.SpacingSteps.{up}
+use Rattle.std.proofs.Common.{le_trans}
 use Rattle.checkpoints.specs.Words.{IsCodeIn}
 use Rattle.checkpoints.specs.declared.trail.Trail.{Trail}
 use Rattle.checkpoints.specs.declared.effect.Effect.{Effect}
@@ -182,21 +185,22 @@ goes-alike laws (Anew addr code) start setup other marks edited n d hidden k l =
 -- ---- the machines below the effect
 
 pub right-cut : Laws → (effect : Effect) (old new : Trail) (kept : ℕ) → machines_of new ≡ take kept (machines_of old)
-    → table_of new ≡ table_of old → 0 < kept
+    → table_of new ≡ table_of old → spacing_of new ≡ spacing_of old → 0 < kept
     → (start : State) (setup other : Setup) (marks edited : List Alteration)
-    → IsBelowFirst (EffectShows effect start setup marks) (1024 * (kept - 1))
+    → IsBelowFirst (EffectShows effect start setup marks) (spacing_of old * (kept - 1))
     → DifferBy start.core.isa effect setup marks other edited → IsRightFor old start setup marks
     → IsRightFor new start other edited
-right-cut laws effect old new kept e t some start setup other marks edited hidden d h =
-    right-for-fewer old new kept (1024 * (kept - 1)) start setup marks other edited e t some (omega arith)
-    (goes-alike laws effect start setup other marks edited (1024 * (kept - 1)) d hidden) h
+right-cut laws effect old new kept e t sp some start setup other marks edited hidden d h =
+    right-for-fewer old new kept (spacing_of old * (kept - 1)) start setup marks other edited e t sp some (omega arith)
+    (goes-alike laws effect start setup other marks edited (spacing_of old * (kept - 1)) d hidden) h
 
-pub keeps-cut : (P : ℕ → Type 0) (old new : Trail) (kept : ℕ) → machines_of new ≡ take kept (machines_of old) → 0 < kept
-    → ((i : ℕ) → kept ≤ i → i < length (machines_of old) → IsBelowFirst P (1024 * i) → ⊥)
-    → IsBelowFirst P (1024 * (kept - 1)) → KeepsJust (IsBelowFirst P) old new
-keeps-cut P old new kept e some from last =
-    keeps-just (IsBelowFirst P) old new kept e some
-    (λ i l low j up shown. last j (omega arith) shown)
+pub keeps-cut : (P : ℕ → Type 0) (old new : Trail) (kept : ℕ) → machines_of new ≡ take kept (machines_of old)
+    → spacing_of new ≡ spacing_of old → 0 < kept
+    → ((i : ℕ) → kept ≤ i → i < length (machines_of old) → IsBelowFirst P (spacing_of old * i) → ⊥)
+    → IsBelowFirst P (spacing_of old * (kept - 1)) → KeepsJust (IsBelowFirst P) old new
+keeps-cut P old new kept e sp some from last =
+    keeps-just (IsBelowFirst P) old new kept e sp some
+    (λ i l low j below shown. last j (le_trans below (up (spacing_of old) i (kept - 1) (omega arith))) shown)
     (λ i l hidden. elim (cases_lt i kept) [
       | inl low ↦ low
       | inr high ↦ absurd (from i high l hidden)

@@ -1,5 +1,5 @@
 -- The last step at which an edit doesn't show, and the edited run up to there.
-use Rattle.std.proofs.Common.{◌≡◌, ℕ, ◌+◌, ◌-◌, ◌*◌, ◌/◌, ◌^◌, ◌<◌, ◌≤◌, Bool, true, false, cond, nat_lt, List}
+use Rattle.std.proofs.Common.{◌≡◌, ℕ, ◌+◌, ◌-◌, ◌/◌, ◌^◌, ◌<◌, ◌≤◌, Bool, true, false, cond, nat_lt, List}
 use Rattle.std.proofs.Common.{Option, Some}
 use Rattle.std.proofs.Common.{None}
 use Rattle.std.proofs.Common.{refl, ap, sym, ◌∙◌, subst, arith, inl, inr}
@@ -18,18 +18,12 @@ use Rattle.checkpoints.specs.declared.uses.FirstUses.{FirstUses}
 use Rattle.checkpoints.specs.FirstEffects.{IsBelowFirst}
 use Rattle.checkpoints.specs.Effects.{EffectShows, IsOfSetup, Run, LeadsTo, WritesWithin, effect_by, written_by}
 use Rattle.checkpoints.specs.Forks.{IsLastUnshown, WritesWhole}
-use Rattle.checkpoints.specs.Work.{next_held, steps_made}
 use Rattle.checkpoints.specs.declared.effect.Effect.{Effect}
 use Rattle.checkpoints.specs.declared.effect.Effect.TheVariants.{Nowhere, After, Input, End, Heap, Patch, Anew}
 use Rattle.checkpoints.proofs.RunSteps.{PokeLaws, same-pre, pre-poked}
 use Rattle.checkpoints.proofs.FirstSteps.{is-low}
 use Rattle.checkpoints.proofs.TrailSteps.{touches-none}
 use Rattle.checkpoints.proofs.EffectSteps.{Laws, goes-alike, told-use}
-
--- the steps up to a machine past another step, if some machines are held
-pub steps-past : (count k : ℕ) → 0 < count
-    → 1024 * (k / 1024 + 1 + 1 - count) ≡ steps_made (1024 * (count - 1)) (next_held k)
-steps-past count k some = omega arith
 
 pub at-ok : {X E : Type 0} (result : Result X E) (P : Type 0) → P → OnOk result P
 at-ok (Ok x) P holds = holds

@@ -46,6 +46,15 @@ module _ (law : StaysHalted) (start : State) (setup : Setup) (marks : List Alter
       ap (λ s. is_running s.core.status) (one-more j h)
       ∙ marked-halted (from + j) marks (pre start setup marks (from + j)) h
 
+  -- without marks from there on, the state stays
+  pub stays : ((k : ℕ) → from ≤ k → marks_at k marks ≡ []) → (j : ℕ)
+      → pre start setup marks (from + j) ≡ pre start setup marks from
+  unfolding after_marks
+  stays none zero = ap (pre start setup marks) (omega arith)
+  stays none (suc j) =
+      let here = pre start setup marks (from + j) in
+      one-more j (halted-later j) ∙ ap (λ ms. fold altered here ms) (none (from + j) (omega arith)) ∙ stays none j
+
   pub halted-after : (k : ℕ) → from ≤ k → is_running (post start setup marks k).core.status ≡ false
   unfolding post
   halted-after k l =

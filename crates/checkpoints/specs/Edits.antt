@@ -12,7 +12,7 @@ use Rattle.run_values.specs.declared.alteration.Alteration.{Alteration}
 use Rattle.checkpoints.specs.FirstEffects.{IsBelowFirst}
 use Rattle.checkpoints.specs.Effects.{EffectShows, Tells, DifferBy, Run, LeadsTo, written_by}
 use Rattle.checkpoints.specs.Work.{IsBelow, lowered}
-use Rattle.checkpoints.specs.Trails.{machines_of, is_short, last_held, KeepsJust, KeepsOnly, IsRightFor}
+use Rattle.checkpoints.specs.Trails.{machines_of, is_short, last_held, spacing_of, KeepsJust, KeepsOnly, IsRightFor}
 use Rattle.checkpoints.specs.declared.trail.Trail.{Trail}
 use Rattle.checkpoints.specs.declared.effect.Effect.{Effect}
 use Rattle.checkpoints.specs.declared.effect.Effect.TheVariants.{Patch}
@@ -81,4 +81,5 @@ StaysWhole effect old new = MayShorten effect (is_short old) (is_short new)
 -- if the machines are kept below a step, the last step at which one is held follows from it
 abbrev pub KeepsLower : Type 0
 KeepsLower =
-    (f : Option ℕ) (old new : Trail) → KeepsJust (IsBelow f) old new → last_held new ≡ lowered (last_held old) f
+    (f : Option ℕ) (old new : Trail) → spacing_of new ≡ spacing_of old → KeepsJust (IsBelow f) old new
+    → last_held new ≡ lowered (spacing_of old) (last_held old) f

@@ -8,7 +8,7 @@ ghost use Rattle.run_values.specs.declared.alteration.Alteration.{Alteration as 
 ghost use Rattle.checkpoints.specs.Effects.{EffectShows, IsOfSetup, LeadsTo, Run, code_effect, written_by};
 ghost use Rattle.checkpoints.specs.FirstEffects.{IsBelowFirst};
 ghost use Rattle.checkpoints.specs.Forks.{IsLastUnshown, IsForkFor, ShowsEdited, WritesWhole, IsStepOf, IsForkOf};
-ghost use Rattle.checkpoints.specs.Trails.{is_short, loaded_of, last_held, meter_of, IsRightFor};
+ghost use Rattle.checkpoints.specs.Trails.{is_short, loaded_of, last_held, meter_of, IsRightFor, spacing_of};
 ghost use Rattle.checkpoints.specs.Words.{IsCodeIn};
 ghost use Rattle.checkpoints.specs.Work.{next_held, reached, steps_made};
 ghost use Rattle.instructions.specs.Codes.{len_of};
@@ -17,7 +17,6 @@ ghost use Rattle.checkpoints.specs.declared.effect.Effect.{Effect as EffectOf};
 
 use crate::cuts::{has_shown_in, poked_copy};
 use crate::effect::Effect;
-use crate::reaching::SPACING;
 use crate::running::{apply_marks, next_step, pass_marks, run_on};
 use crate::trail::Trail;
 use crate::writes::touch_code;
@@ -114,17 +113,18 @@ impl Trail {
         ensures right { (start : State) → IsRightFor self.old start setup.now marks.now → IsRightFor self.new start setup.now marks.now }
         ensures fork { IfOk result (λ fork. (start : State) → IsRightFor self.old start setup.now marks.now
             → IsForkFor (Effect.Input offset) (record { start = start; setup = setup.now; marks = marks.now }) last fork) }
-        ensures held { OnOk result (last_held self.new ≡ reached (last_held self.old) (next_held last)) }
-        ensures meter { OnOk result (meter_of self.new ≡ min (meter_of self.old + steps_made (last_held self.old) (next_held last)) u64.MAX) }
+        ensures held { OnOk result (last_held self.new ≡ reached (spacing_of self.old) (last_held self.old) (next_held (spacing_of self.old) last)) }
+        ensures meter { OnOk result (meter_of self.new ≡ min (meter_of self.old + steps_made (spacing_of self.old) (last_held self.old) (next_held (spacing_of self.old) last)) u64.MAX) }
         ensures short { is_short self.new ≡ is_short self.old }
         ensures loaded { loaded_of self.new ≡ loaded_of self.old }
+        ensures spacing { spacing_of self.new ≡ spacing_of self.old }
     {
         self.fork_of_setup(Effect::Input(offset), last, setup, marks)
     }
 
     /// Returns a fork of the run before the last step, up to another, at which an edit that changes only the setup doesn't show. Each run to
     /// which such an edit leads continues from it.
-    #[tactic(auto, unfolding(crate::specs::Trails::last_held))]
+    #[tactic(auto, unfolding(crate::specs::Trails::last_held, crate::specs::Trails::spacing_of))]
     pub fn fork_of_setup(
         &mut self,
         effect: Effect,
@@ -138,12 +138,13 @@ impl Trail {
         ensures step { IfOk result (λ fork. fork.step ≤ last) }
         ensures fork { IfOk result (λ fork. (start : State) → IsRightFor self.old start setup.now marks.now
             → IsForkFor effect (record { start = start; setup = setup.now; marks = marks.now }) last fork) }
-        ensures held { OnOk result (last_held self.new ≡ reached (last_held self.old) (next_held last)) }
-        ensures meter { OnOk result (meter_of self.new ≡ min (meter_of self.old + steps_made (last_held self.old) (next_held last)) u64.MAX) }
+        ensures held { OnOk result (last_held self.new ≡ reached (spacing_of self.old) (last_held self.old) (next_held (spacing_of self.old) last)) }
+        ensures meter { OnOk result (meter_of self.new ≡ min (meter_of self.old + steps_made (spacing_of self.old) (last_held self.old) (next_held (spacing_of self.old) last)) u64.MAX) }
         ensures short { is_short self.new ≡ is_short self.old }
         ensures loaded { loaded_of self.new ≡ loaded_of self.old }
+        ensures spacing { spacing_of self.new ≡ spacing_of self.old }
     {
-        self.reach((last / SPACING + 1) as usize, setup, marks)?;
+        self.reach((last / self.spacing + 1) as usize, setup, marks)?;
         let step = self.last_hidden(effect, last, setup, marks)?;
         self.fork_at(step, setup, marks)
     }
@@ -151,7 +152,7 @@ impl Trail {
     /// Returns a fork of the run before the last step, up to another, with no earlier use of a word with a byte of the code of `len` bytes, 2
     /// or 4, at an address; before step 0 if a mark writes a byte of it, or may go by one with this instruction set. Each run in which another
     /// code is written there continues from it.
-    #[tactic(auto, unfolding(crate::specs::Trails::last_held))]
+    #[tactic(auto, unfolding(crate::specs::Trails::last_held, crate::specs::Trails::spacing_of))]
     pub fn fork_at_code(
         &mut self,
         addr: u32,
@@ -166,18 +167,19 @@ impl Trail {
         ensures right { (start : State) → IsRightFor self.old start setup.now marks.now → IsRightFor self.new start setup.now marks.now }
         ensures fork { IfOk result (λ fork. (code : CodeOf) (start : State) → len_of code ≡ len → IsRightFor self.old start setup.now marks.now
             → IsForkFor (code_effect isa marks.now addr code) (record { start = start; setup = setup.now; marks = marks.now }) last fork) }
-        ensures held { OnOk result (last_held self.new ≡ reached (last_held self.old) (next_held last)) }
-        ensures meter { OnOk result (meter_of self.new ≡ min (meter_of self.old + steps_made (last_held self.old) (next_held last)) u64.MAX) }
+        ensures held { OnOk result (last_held self.new ≡ reached (spacing_of self.old) (last_held self.old) (next_held (spacing_of self.old) last)) }
+        ensures meter { OnOk result (meter_of self.new ≡ min (meter_of self.old + steps_made (spacing_of self.old) (last_held self.old) (next_held (spacing_of self.old) last)) u64.MAX) }
         ensures short { is_short self.new ≡ is_short self.old }
         ensures loaded { loaded_of self.new ≡ loaded_of self.old }
+        ensures spacing { spacing_of self.new ≡ spacing_of self.old }
     {
-        self.reach((last / SPACING + 1) as usize, setup, marks)?;
+        self.reach((last / self.spacing + 1) as usize, setup, marks)?;
         let step = self.last_without(addr, len, last, isa, marks);
         self.fork_at(step, setup, marks)
     }
 
     /// Returns a fork of the run before a step. Each run whose marks differ only at that step continues from it.
-    #[tactic(auto, unfolding(crate::specs::Trails::last_held))]
+    #[tactic(auto, unfolding(crate::specs::Trails::last_held, crate::specs::Trails::spacing_of))]
     pub fn fork_at_step(
         &mut self,
         step: u32,
@@ -191,17 +193,18 @@ impl Trail {
         ensures step { IfOk result (λ fork. fork.step ≡ step) }
         ensures fork { IfOk result (λ fork. (start : State) → IsRightFor self.old start setup.now marks.now
             → IsForkFor (Effect.After step) (record { start = start; setup = setup.now; marks = marks.now }) last fork) }
-        ensures held { OnOk result (last_held self.new ≡ reached (last_held self.old) (next_held step)) }
-        ensures meter { OnOk result (meter_of self.new ≡ min (meter_of self.old + steps_made (last_held self.old) (next_held step)) u64.MAX) }
+        ensures held { OnOk result (last_held self.new ≡ reached (spacing_of self.old) (last_held self.old) (next_held (spacing_of self.old) step)) }
+        ensures meter { OnOk result (meter_of self.new ≡ min (meter_of self.old + steps_made (spacing_of self.old) (last_held self.old) (next_held (spacing_of self.old) step)) u64.MAX) }
         ensures short { is_short self.new ≡ is_short self.old }
         ensures loaded { loaded_of self.new ≡ loaded_of self.old }
+        ensures spacing { spacing_of self.new ≡ spacing_of self.old }
     {
-        self.reach((step / SPACING + 1) as usize, setup, marks)?;
+        self.reach((step / self.spacing + 1) as usize, setup, marks)?;
         self.fork_at(step, setup, marks)
     }
 
     /// The last step, up to another, at which an edit that changes only the setup doesn't show.
-    #[tactic(auto, unfolding(crate::specs::Trails::machines_of, crate::specs::Trails::last_held))]
+    #[tactic(auto, unfolding(crate::specs::Trails::machines_of, crate::specs::Trails::last_held, crate::specs::Trails::spacing_of))]
     fn last_hidden(
         &self,
         effect: Effect,
@@ -215,9 +218,9 @@ impl Trail {
         ensures step { IfOk result (λ step. IsStepOf effect self.now setup.now marks.now last step) }
     {
         let kept = self.held_before(effect);
-        let place = lesser((kept - 1) as u32, last / SPACING);
+        let place = lesser((kept - 1) as u32, last / self.spacing);
         let copy = self.warm_copy(place as usize)?;
-        hidden_until(copy, effect, setup, marks, place * SPACING, last)
+        hidden_until(copy, effect, setup, marks, place * self.spacing, last)
     }
 
     /// The last step, up to another, at which another code at an address doesn't show.
@@ -246,16 +249,16 @@ impl Trail {
     }
 
     /// The machine of the run before a step.
-    #[tactic(auto, unfolding(crate::specs::Trails::machines_of, crate::specs::Trails::last_held))]
+    #[tactic(auto, unfolding(crate::specs::Trails::machines_of, crate::specs::Trails::last_held, crate::specs::Trails::spacing_of))]
     fn fork_at(&self, step: u32, setup: &Setup, marks: &[Alteration]) -> Result<Fork, AllocError>
         requires { step < last_held self.now }
         ensures step { IfOk result (λ fork. fork.step ≡ step) }
         ensures fork { IfOk result (λ fork. (effect : EffectOf) (last : ℕ) → WritesWhole effect → IsStepOf effect self.now setup.now marks.now last step
             → IsForkOf effect self.now setup.now marks.now last fork) }
     {
-        let copy = self.warm_copy((step / SPACING) as usize)?;
+        let copy = self.warm_copy((step / self.spacing) as usize)?;
         let mut meter = Meter::new();
-        let from = step / SPACING * SPACING;
+        let from = step / self.spacing * self.spacing;
         let machine = run_on(copy, setup, marks, from, step, &mut meter)?;
         Ok(Fork { machine, step })
     }

@@ -5,10 +5,9 @@ ghost use Rattle.guest_machine.specs.Exec.{exec};
 ghost use Rattle.guest_machine.specs.Run.{pre};
 ghost use Rattle.guest_machine.specs.Shows.{Shows};
 ghost use Rattle.checkpoints.specs.Happenings.{counts_of, entered, happened_at, happened_between, what_happens};
-ghost use Rattle.checkpoints.specs.Trails.{meter_of, is_short, loaded_of, last_held, IsRightFor};
+ghost use Rattle.checkpoints.specs.Trails.{meter_of, is_short, loaded_of, last_held, IsRightFor, spacing_of};
 ghost use Rattle.checkpoints.specs.Work.{floor, reached, steps_made};
 
-use crate::reaching::SPACING;
 use crate::running::{is_running, next_step, pass_marks, run_on};
 use crate::trail::Trail;
 use guest_machine::laws::stays_halted;
@@ -86,11 +85,12 @@ impl Trail {
         ensures found { IfOk result (λ found. (start : State) → IsRightFor self.old start setup.now marks.now
             → found.items ≡ take most (happened_between start setup.now marks.now from before)) }
         ensures right { (start : State) → IsRightFor self.old start setup.now marks.now → IsRightFor self.new start setup.now marks.now }
-        ensures held { OnOk result (last_held self.new ≡ reached (last_held self.old) before) }
+        ensures held { OnOk result (last_held self.new ≡ reached (spacing_of self.old) (last_held self.old) before) }
         ensures kept { OnErr result (last_held self.old ≤ last_held self.new) }
-        ensures meter { OnOk result (meter_of self.new ≡ min (meter_of self.old + steps_made (last_held self.old) before) u64.MAX) }
+        ensures meter { OnOk result (meter_of self.new ≡ min (meter_of self.old + steps_made (spacing_of self.old) (last_held self.old) before) u64.MAX) }
         ensures short { is_short self.new ≡ is_short self.old }
         ensures loaded { loaded_of self.new ≡ loaded_of self.old }
+        ensures spacing { spacing_of self.new ≡ spacing_of self.old }
     {
         let _machine = self.before(before, setup, marks)?;
         let found = self.happened_below(alloc, from, before, most, setup, marks)?;
@@ -98,7 +98,7 @@ impl Trail {
     }
 
     /// The same, if a machine is held before the last of the steps.
-    #[tactic(auto, unfolding(crate::specs::Trails::machines_of, crate::specs::Trails::last_held))]
+    #[tactic(auto, unfolding(crate::specs::Trails::machines_of, crate::specs::Trails::last_held, crate::specs::Trails::spacing_of))]
     fn happened_below(
         &self,
         alloc: Global,
@@ -108,16 +108,23 @@ impl Trail {
         setup: &Setup,
         marks: &[Alteration],
     ) -> Result<Vec<Happened>, AllocError>
-        requires { floor before ≤ last_held self.now }
+        requires { floor (spacing_of self.now) before ≤ last_held self.now }
         ensures { IfOk result (λ found. (start : State) → IsRightFor self.now start setup.now marks.now
             → found.items ≡ take most (happened_between start setup.now marks.now from before)) }
     {
         if from >= before {
             return Ok(Vec::new(alloc));
         }
-        let place = from / SPACING;
+        let place = from / self.spacing;
         let copy = self.warm_copy(place as usize)?;
-        let machine = run_on(copy, setup, marks, place * SPACING, from, &mut Meter::new())?;
+        let machine = run_on(
+            copy,
+            setup,
+            marks,
+            place * self.spacing,
+            from,
+            &mut Meter::new(),
+        )?;
         happened_from(alloc, machine, setup, marks, from, before, most)
     }
 }

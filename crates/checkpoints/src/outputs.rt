@@ -9,11 +9,10 @@ ghost use Rattle.guest_machine.specs.Streams.{bytes_over};
 ghost use Rattle.guest_machine.specs.declared.setup.Setup.{Setup as SetupOf};
 ghost use Rattle.run_values.specs.declared.alteration.Alteration.{Alteration as AlterationOf};
 ghost use Rattle.checkpoints.specs.Outputs.{part};
-ghost use Rattle.checkpoints.specs.Trails.{machines_of, meter_of, is_short, loaded_of, last_held, IsRightFor};
+ghost use Rattle.checkpoints.specs.Trails.{machines_of, meter_of, is_short, loaded_of, last_held, IsRightFor, spacing_of};
 ghost use Rattle.checkpoints.specs.Words.{has_address};
 ghost use Rattle.checkpoints.specs.Work.{floor, reached, steps_made};
 
-use crate::reaching::SPACING;
 use crate::running::{next_step, pass_marks};
 use crate::trail::Trail;
 use guest_machine::laws::writes_what_it_reads;
@@ -35,11 +34,12 @@ impl Trail {
         ensures part { IfOk result (λ bytes. (start : State) → start.output ≡ [] → IsRightFor self.old start setup.now marks.now
             → bytes.items ≡ part range (post start setup.now marks.now step).output) }
         ensures right { (start : State) → IsRightFor self.old start setup.now marks.now → IsRightFor self.new start setup.now marks.now }
-        ensures held { OnOk result (last_held self.new ≡ reached (last_held self.old) step) }
+        ensures held { OnOk result (last_held self.new ≡ reached (spacing_of self.old) (last_held self.old) step) }
         ensures kept { OnErr result (last_held self.old ≤ last_held self.new) }
-        ensures meter { OnOk result (meter_of self.new ≡ min (meter_of self.old + steps_made (last_held self.old) step) u64.MAX) }
+        ensures meter { OnOk result (meter_of self.new ≡ min (meter_of self.old + steps_made (spacing_of self.old) (last_held self.old) step) u64.MAX) }
         ensures short { is_short self.new ≡ is_short self.old }
         ensures loaded { loaded_of self.new ≡ loaded_of self.old }
+        ensures spacing { spacing_of self.new ≡ spacing_of self.old }
     {
         let machine = self.before(step, setup, marks)?;
         let written = machine.output_len();
@@ -48,7 +48,7 @@ impl Trail {
     }
 
     /// The bytes in a range of the output before a step, which has `written` bytes, if there is a held machine to begin with.
-    #[tactic(auto, unfolding(crate::specs::Trails::machines_of, crate::specs::Trails::last_held))]
+    #[tactic(auto, unfolding(crate::specs::Trails::machines_of, crate::specs::Trails::last_held, crate::specs::Trails::spacing_of))]
     fn output_in(
         &self,
         alloc: Global,
@@ -58,13 +58,13 @@ impl Trail {
         setup: &Setup,
         marks: &[Alteration],
     ) -> Result<Vec<u8>, AllocError>
-        requires { floor step ≤ last_held self.now }
+        requires { floor (spacing_of self.now) step ≤ last_held self.now }
         ensures { IfOk result (λ bytes. (start : State) → start.output ≡ [] → IsRightFor self.now start setup.now marks.now
             → written ≡ length (pre start setup.now marks.now step).output
             → bytes.items ≡ part range (pre start setup.now marks.now step).output) }
     {
         let end = lesser(u64::from(range.start) + u64::from(range.len), written);
-        let place = self.place_before((step / SPACING) as usize, range.start);
+        let place = self.place_before((step / self.spacing) as usize, range.start);
         let copy = self.warm_copy(place)?;
         collect(
             alloc,
@@ -73,22 +73,22 @@ impl Trail {
             marks,
             range,
             end,
-            place as u32 * SPACING,
+            place as u32 * self.spacing,
             step,
         )
     }
 
     /// The last place, up to another, of a held machine that has written no byte from a position on.
-    #[tactic(auto, unfolding(crate::specs::Trails::machines_of))]
+    #[tactic(auto, unfolding(crate::specs::Trails::machines_of, crate::specs::Trails::spacing_of))]
     fn place_before(&self, place: usize, position: u32) -> usize
         requires { place < length (machines_of self.now) }
         ensures within { result ≤ place }
         ensures before { (start : State) (setup : SetupOf) (marks : List AlterationOf) → start.output ≡ [] → IsRightFor self.now start setup marks
-            → length (pre start setup marks (1024 * result)).output ≤ position }
+            → length (pre start setup marks (spacing_of self.now * result)).output ≤ position }
     {
         let mut place = place;
         while place > 0 {
-            if self.held[place].output_len() <= u64::from(position) {
+            if self.held.at(place).output_len() <= u64::from(position) {
                 return place;
             }
             place -= 1;

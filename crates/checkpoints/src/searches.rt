@@ -11,10 +11,9 @@ ghost use Rattle.guest_machine.specs.Shows.{Shows};
 ghost use Rattle.guest_machine.specs.declared.setup.Setup.{Setup as SetupOf};
 ghost use Rattle.checkpoints.specs.Searches.{Meets, AreAlikeIn, DiffersIn, HitsIn, Hits, IsNext, IsLast, next_price};
 ghost use Rattle.checkpoints.specs.declared.searches.Watch.TheVariants.{Shadow as OfShadow};
-ghost use Rattle.checkpoints.specs.Trails.{meter_of, is_short, loaded_of, last_held, IsRightFor};
+ghost use Rattle.checkpoints.specs.Trails.{meter_of, is_short, loaded_of, last_held, IsRightFor, spacing_of};
 ghost use Rattle.checkpoints.specs.Work.{floor, reached, steps_made};
 
-use crate::reaching::SPACING;
 use crate::running::{is_running, next_step, pass_marks, run_on};
 use crate::trail::Trail;
 use guest_machine::laws::stays_halted;
@@ -62,11 +61,12 @@ impl Trail {
             → IsNext (Hits sought start setup.now marks.now) from end found) }
         ensures price { IfOk result (λ found. meter.new ≤ meter.old + next_price from end found) }
         ensures right { (start : State) → IsRightFor self.old start setup.now marks.now → IsRightFor self.new start setup.now marks.now }
-        ensures held { OnOk result (last_held self.new ≡ reached (last_held self.old) from) }
+        ensures held { OnOk result (last_held self.new ≡ reached (spacing_of self.old) (last_held self.old) from) }
         ensures kept { OnErr result (last_held self.old ≤ last_held self.new) }
-        ensures meter { OnOk result (meter_of self.new ≡ min (meter_of self.old + steps_made (last_held self.old) from) u64.MAX) }
+        ensures meter { OnOk result (meter_of self.new ≡ min (meter_of self.old + steps_made (spacing_of self.old) (last_held self.old) from) u64.MAX) }
         ensures short { is_short self.new ≡ is_short self.old }
         ensures loaded { loaded_of self.new ≡ loaded_of self.old }
+        ensures spacing { spacing_of self.new ≡ spacing_of self.old }
     {
         let _turns = meter.read();
         let mut machine = self.before(from, setup, marks)?;
@@ -88,13 +88,14 @@ impl Trail {
     ) -> Result<Option<u32>, AllocError>
         ensures last { IfOk result (λ found. (start : State) → IsRightFor self.old start setup.now marks.now
             → IsLast (Hits sought start setup.now marks.now) from before found) }
-        ensures price { OnOk result (meter.new ≤ meter.old + (before - floor from)) }
+        ensures price { OnOk result (meter.new ≤ meter.old + (before - floor (spacing_of self.old) from)) }
         ensures right { (start : State) → IsRightFor self.old start setup.now marks.now → IsRightFor self.new start setup.now marks.now }
-        ensures held { OnOk result (last_held self.new ≡ reached (last_held self.old) before) }
+        ensures held { OnOk result (last_held self.new ≡ reached (spacing_of self.old) (last_held self.old) before) }
         ensures kept { OnErr result (last_held self.old ≤ last_held self.new) }
-        ensures meter { OnOk result (meter_of self.new ≡ min (meter_of self.old + steps_made (last_held self.old) before) u64.MAX) }
+        ensures meter { OnOk result (meter_of self.new ≡ min (meter_of self.old + steps_made (spacing_of self.old) (last_held self.old) before) u64.MAX) }
         ensures short { is_short self.new ≡ is_short self.old }
         ensures loaded { loaded_of self.new ≡ loaded_of self.old }
+        ensures spacing { spacing_of self.new ≡ spacing_of self.old }
     {
         let _turns = meter.read();
         let _machine = self.before(before, setup, marks)?;
@@ -113,11 +114,11 @@ impl Trail {
         marks: &[Alteration],
         meter: &mut Meter,
     ) -> Result<Option<u32>, AllocError>
-        requires held { floor before ≤ last_held self.now }
+        requires held { floor (spacing_of self.now) before ≤ last_held self.now }
         requires metered { meter.old ≤ u64.MAX }
         ensures last { IfOk result (λ found. (start : State) → IsRightFor self.now start setup.now marks.now
             → IsLast (Hits sought start setup.now marks.now) from before found) }
-        ensures price { OnOk result (meter.new ≤ meter.old + (before - floor from)) }
+        ensures price { OnOk result (meter.new ≤ meter.old + (before - floor (spacing_of self.now) from)) }
     {
         let mut end = before;
         while end > from {
@@ -125,13 +126,13 @@ impl Trail {
             if found.is_some() {
                 return Ok(found);
             }
-            end = (end - 1) / SPACING * SPACING;
+            end = (end - 1) / self.spacing * self.spacing;
         }
         Ok(None)
     }
 
     /// The last step that does what is sought in the window up to `end`, from `from` on.
-    #[tactic(auto, unfolding(crate::specs::Trails::machines_of, crate::specs::Trails::last_held))]
+    #[tactic(auto, unfolding(crate::specs::Trails::machines_of, crate::specs::Trails::last_held, crate::specs::Trails::spacing_of))]
     fn last_in(
         &self,
         sought: Sought,
@@ -142,17 +143,17 @@ impl Trail {
         meter: &mut Meter,
     ) -> Result<Option<u32>, AllocError>
         requires some { from < end }
-        requires held { floor (end - 1) ≤ last_held self.now }
+        requires held { floor (spacing_of self.now) (end - 1) ≤ last_held self.now }
         requires metered { meter.old ≤ u64.MAX }
         ensures last { IfOk result (λ found. (start : State) → IsRightFor self.now start setup.now marks.now
-            → IsLast (Hits sought start setup.now marks.now) (max from (floor (end - 1))) end found) }
-        ensures price { OnOk result (meter.new ≤ meter.old + (end - floor (end - 1))) }
+            → IsLast (Hits sought start setup.now marks.now) (max from (floor (spacing_of self.now) (end - 1))) end found) }
+        ensures price { OnOk result (meter.new ≤ meter.old + (end - floor (spacing_of self.now) (end - 1))) }
         ensures metered { meter.new ≤ u64.MAX }
     {
-        let place = (end - 1) / SPACING;
-        let first = later(from, place * SPACING);
+        let place = (end - 1) / self.spacing;
+        let first = later(from, place * self.spacing);
         let copy = self.warm_copy(place as usize)?;
-        let machine = run_on(copy, setup, marks, place * SPACING, first, meter)?;
+        let machine = run_on(copy, setup, marks, place * self.spacing, first, meter)?;
         last_from(machine, sought, setup, marks, first, end, meter)
     }
 }

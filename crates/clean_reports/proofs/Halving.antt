@@ -1,9 +1,10 @@
 -- The search for the step that raises the first use, by halving.
-use Rattle.std.proofs.Common.{◌≡◌, ℕ, suc, ◌-◌, ◌<◌, ◌≤◌, ◌↔◌, Bool, true, false, refl, sym}
+use Rattle.std.proofs.Common.{◌≡◌, ℕ, suc, ◌-◌, ◌*◌, ◌/◌, ◌<◌, ◌≤◌, ◌↔◌, Bool, true, false, refl, sym}
 use Rattle.std.proofs.Common.{ap, ◌∙◌}
 use Rattle.std.proofs.Common.{arith, subst, List, inl, inr, IsTrue}
 use Rattle.std.proofs.lemmas.Bool.{cases_lt, false≢true}
-use Rattle.checkpoints.specs.Trails.{IsRightFor, is_short, last_held, loaded_of}
+use Rattle.checkpoints.specs.Trails.{IsRightFor, is_short, last_held, loaded_of, spacing_of}
+use Rattle.checkpoints.proofs.SpacingSteps.{apart as distance, place-low, up}
 use Rattle.checkpoints.specs.Work.{reached}
 use Rattle.checkpoints.specs.declared.trail.Trail.{Trail}
 use Rattle.guest_machine.specs.Run.{post, pre}
@@ -34,9 +35,10 @@ pub record Halves (setup : Setup) (marks : List Alteration) (old new : Trail) (e
       → NoUse (post start setup marks clean).events
   pub back : (start : State) → IsRightFor old start setup marks → (NoUse (post start setup marks end).events → ⊥)
       → NoUse (post start setup marks used).events → ⊥
-  pub held : reached (last_held old) end ≡ last_held old → last_held new ≡ last_held old
+  pub held : reached (spacing_of old) (last_held old) end ≡ last_held old → last_held new ≡ last_held old
   pub short : is_short new ≡ is_short old
   pub loaded : loaded_of new ≡ loaded_of old
+  pub spacing : spacing_of new ≡ spacing_of old
 
 pub begins : (setup : Setup) (marks : List Alteration) (trail : Trail) (end : ℕ)
     → Halves setup marks trail trail end 0 end
@@ -50,29 +52,33 @@ begins setup marks trail end = record {
   held = λ h. refl;
   short = refl;
   loaded = refl;
+  spacing = refl;
 }
 
 -- a machine is held as far as the end, so for an earlier step no more is
-no-further : (last end middle : ℕ) → middle ≤ end → reached last end ≡ last → reached last middle ≡ last
-no-further last end middle h e = omega arith
+no-further : (s last end middle : ℕ) → 0 < s → middle ≤ end → reached s last end ≡ last → reached s last middle ≡ last
+no-further s last end middle pos h e = omega (arith, e, up s (middle / s) (end / s) (place-low s middle end pos h))
 
 -- what a look at a step in the middle leaves
 pub record Tells (setup : Setup) (marks : List Alteration) (old new : Trail) (middle : ℕ) (clean : Bool) : Type 0 where
   pub tells : (start : State) → IsRightFor old start setup marks
       → IsTrue clean ↔ NoUse (post start setup marks middle).events
   pub right : StaysRight setup marks old new
-  pub held : last_held new ≡ reached (last_held old) middle
+  pub held : last_held new ≡ reached (spacing_of old) (last_held old) middle
   pub short : is_short new ≡ is_short old
   pub loaded : loaded_of new ≡ loaded_of old
+  pub spacing : spacing_of new ≡ spacing_of old
 
 module _ (setup : Setup) (marks : List Alteration) (old now new : Trail) (end clean used middle : ℕ) (b : Bool)
     (h : Halves setup marks old now end clean used) (t : Tells setup marks now new middle b) (low : clean ≤ middle)
     (high : middle ≤ used) where
-  held-on : reached (last_held old) end ≡ last_held old → last_held new ≡ last_held old
+  held-on : reached (spacing_of old) (last_held old) end ≡ last_held old → last_held new ≡ last_held old
   held-on e =
       let was = h.held e in
       let within = h.within in
-      t.held ∙ ap (λ last. reached last middle) was ∙ no-further (last_held old) end middle (omega arith) e
+      t.held ∙ ap (λ s. reached s (last_held now) middle) h.spacing
+      ∙ ap (λ last. reached (spacing_of old) last middle) was
+      ∙ no-further (spacing_of old) (last_held old) end middle (distance old) (omega arith) e
 
   pub after-clean : b ≡ true → Halves setup marks old new end middle used
   after-clean is = record {
@@ -84,6 +90,7 @@ module _ (setup : Setup) (marks : List Alteration) (old now new : Trail) (end cl
     held = held-on;
     short = t.short ∙ h.short;
     loaded = t.loaded ∙ h.loaded;
+    spacing = t.spacing ∙ h.spacing;
   }
 
   pub after-used : b ≡ false → Halves setup marks old new end clean middle
@@ -98,6 +105,7 @@ module _ (setup : Setup) (marks : List Alteration) (old now new : Trail) (end cl
         held = held-on;
         short = t.short ∙ h.short;
         loaded = t.loaded ∙ h.loaded;
+        spacing = t.spacing ∙ h.spacing;
       }
 
 -- where the two are one step apart, that step raises the first use

@@ -1,6 +1,6 @@
 //! The verdict on a run.
 ghost use Rattle.std.specs.Prelude.{◌≡◌, ◌+◌, ◌↔◌, ◌≤◌, Bool, IfOk, IsTrue, OnOk};
-ghost use Rattle.checkpoints.specs.Trails.{IsRightFor, is_short, last_held, loaded_of};
+ghost use Rattle.checkpoints.specs.Trails.{IsRightFor, is_short, last_held, loaded_of, spacing_of};
 ghost use Rattle.checkpoints.specs.Work.{reached};
 ghost use Rattle.guest_elf.specs.declared.image.Image.{Image as ImageOf};
 ghost use Rattle.guest_machine.specs.Run.{post};
@@ -27,9 +27,10 @@ fn is_clean_at(
     ensures tells { IfOk result (λ clean. (start : State) → IsRightFor trail.old start setup.now marks.now
         → IsTrue clean ↔ NoUse (post start setup.now marks.now step).events) }
     ensures right { (start : State) → IsRightFor trail.old start setup.now marks.now → IsRightFor trail.new start setup.now marks.now }
-    ensures held { OnOk result (last_held trail.new ≡ reached (last_held trail.old) step) }
+    ensures held { OnOk result (last_held trail.new ≡ reached (spacing_of trail.old) (last_held trail.old) step) }
     ensures short { is_short trail.new ≡ is_short trail.old }
     ensures loaded { loaded_of trail.new ≡ loaded_of trail.old }
+    ensures spacing { spacing_of trail.new ≡ spacing_of trail.old }
 {
     let machine = trail.at_altered(step, setup, marks)?;
     Ok(is_clean(&machine))
@@ -47,9 +48,10 @@ fn first_use_step(
     ensures below { IfOk result (λ step. (start : State) → IsRightFor trail.old start setup.now marks.now → NoUse start.events
         → (NoUse (post start setup.now marks.now end).events → ⊥) → step + 1 ≤ end) }
     ensures right { (start : State) → IsRightFor trail.old start setup.now marks.now → IsRightFor trail.new start setup.now marks.now }
-    ensures held { OnOk result (reached (last_held trail.old) end ≡ last_held trail.old → last_held trail.new ≡ last_held trail.old) }
+    ensures held { OnOk result (reached (spacing_of trail.old) (last_held trail.old) end ≡ last_held trail.old → last_held trail.new ≡ last_held trail.old) }
     ensures short { is_short trail.new ≡ is_short trail.old }
     ensures loaded { loaded_of trail.new ≡ loaded_of trail.old }
+    ensures spacing { spacing_of trail.new ≡ spacing_of trail.old }
 {
     let mut clean = 0;
     let mut used = end;
@@ -87,9 +89,10 @@ pub fn certify(
         → IsRightFor trail.old start setup.now marks.now → IsStartOf image start → HasBytes setup.now
         → IsCertified image start setup.now marks.now step) }
     ensures right { (start : State) → IsRightFor trail.old start setup.now marks.now → IsRightFor trail.new start setup.now marks.now }
-    ensures held { OnOk result (last_held trail.new ≡ reached (last_held trail.old) step) }
+    ensures held { OnOk result (last_held trail.new ≡ reached (spacing_of trail.old) (last_held trail.old) step) }
     ensures short { is_short trail.new ≡ is_short trail.old }
     ensures loaded { loaded_of trail.new ≡ loaded_of trail.old }
+    ensures spacing { spacing_of trail.new ≡ spacing_of trail.old }
 {
     let machine = trail.at_altered(step, setup, marks)?;
     if let Some((index, mark)) = first_in_the_way(machine.isa(), machine.heap_begin(), marks) {

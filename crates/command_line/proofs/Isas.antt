@@ -1,5 +1,5 @@
 -- The name of an instruction set is read as the set.
-use Rattle.std.proofs.Common.{◌≡◌, ℕ, Bool, true, false, cond, List, Option, Some, None, refl, sym, ap, ◌∙◌}
+use Rattle.std.proofs.Common.{◌≡◌, ℕ, Bool, true, false, cond, List, Option, Some, None, sym, ap, ◌∙◌}
 use Rattle.guest_elf.specs.Profiles.{rv32im, rv32imac, rv32imc}
 use Rattle.guest_elf.specs.declared.profile.Isa.{Isa}
 use Rattle.command_line.specs.Isas.{isa_name, isa_named}

@@ -23,6 +23,10 @@ use Rattle.command_line.specs.declared.order.ExecArgs.{ExecArgs}
 abbrev pub greatest_step : ℕ
 greatest_step = 4194304
 
+-- and the greatest that may be named for a session, a sweep or a verdict
+abbrev pub furthest_step : ℕ
+furthest_step = 2147483647
+
 -- the file that an option names
 abbrev pub input_path : Order → Option Text
 input_path order = option_map (λ path. path.now) order.input
@@ -96,13 +100,22 @@ with_run =
 abbrev pub with_session : App
 with_session = with_subcommand with_run (program_command (codes "session")).top
 
+-- a command for a session that can be looked at, with `--limit`, the greatest step that may be chosen in it
+abbrev pub look_command : Text → App
+look_command name =
+    with_rule (with_limits (program_command name)) (number_option (codes "limit") 1 furthest_step)
+
 -- with `look`
 abbrev pub with_look : App
-with_look = with_subcommand with_session (with_limits (program_command (codes "look"))).top
+with_look = with_subcommand with_session (look_command (codes "look")).top
 
 -- with `tries`
 abbrev pub with_tries : App
-with_tries = with_subcommand with_look (with_limits (program_command (codes "tries"))).top
+with_tries = with_subcommand with_look (look_command (codes "tries")).top
+
+-- an option with a number that has a value where it isn't given
+abbrev pub default_number : Text → ℕ → ℕ → Text → Rule
+default_number name least most default = record (number_option name least most) { defaults = default ∷ [] }
 
 -- a flag
 abbrev pub output_flag : Rule
@@ -115,7 +128,8 @@ sides_flag = record (new_rule (codes "sides")) { long = Some (codes "sides"); ac
 -- whole
 abbrev pub sweep_of_bytes : App
 sweep_of_bytes =
-    with_rule (with_rule (with_rule (with_limits (program_command (codes "sweep"))) step_option)
+    with_rule (with_rule (with_rule (with_limits (program_command (codes "sweep")))
+    (default_number (codes "step") 0 furthest_step (codes "1048576")))
     (option (codes "bytes")))
     (default_option (codes "values") (codes "all"))
 
@@ -143,7 +157,7 @@ with_sweep = with_subcommand with_tries sweep_command.top
 -- matters whether a step was given
 abbrev pub certify_command : App
 certify_command =
-    with_rule (with_limits (input_command (codes "certify"))) (number_option (codes "step") 0 greatest_step)
+    with_rule (with_limits (input_command (codes "certify"))) (number_option (codes "step") 0 furthest_step)
 
 -- with `certify`
 abbrev pub with_certify : App
@@ -152,10 +166,6 @@ with_certify = with_subcommand with_sweep certify_command.top
 -- `--step` of `exec`, up to the greatest number of 32 bits
 abbrev pub greatest_run : ℕ
 greatest_run = 4294967295
-
--- an option with a number that has a value where it isn't given
-abbrev pub default_number : Text → ℕ → ℕ → Text → Rule
-default_number name least most default = record (number_option name least most) { defaults = default ∷ [] }
 
 -- a flag that also has a short name, q
 abbrev pub quiet_flag : Rule
@@ -264,8 +274,8 @@ abbrev pub IsActionOf : Text → List Row → Action → Type 0
 IsActionOf name rows (Report n) = (bytes_eq name (codes "run") ≡ true) × IsStepOf rows n
 IsActionOf name rows (Certify asked) =
     (bytes_eq name (codes "certify") ≡ true) × IsNumberIn (codes "step") rows asked
-IsActionOf name rows Look = bytes_eq name (codes "look") ≡ true
-IsActionOf name rows Tries = bytes_eq name (codes "tries") ≡ true
+IsActionOf name rows (Look asked) = (bytes_eq name (codes "look") ≡ true) × IsNumberIn (codes "limit") rows asked
+IsActionOf name rows (Tries asked) = (bytes_eq name (codes "tries") ≡ true) × IsNumberIn (codes "limit") rows asked
 IsActionOf name rows Session =
     (bytes_eq name (codes "run") ≡ false) × (bytes_eq name (codes "sweep") ≡ false)
     × (bytes_eq name (codes "look") ≡ false) × (bytes_eq name (codes "tries") ≡ false)

@@ -2,9 +2,9 @@
 ghost use Rattle.std.specs.Prelude.{◌≡◌, IfErr, IfOk, IfSome, IsSomeAnd, false, map, string_bytes, true};
 ghost use Rattle.clap.specs.Words.{FailsBy, app_of, fault_of, found_of, kind_of, rows_of, rule_of, subcommand_rows_of, takes};
 ghost use Rattle.clap.specs.declared.builder.command.Command.TheViews.{out-Command};
-ghost use Rattle.command_line.specs.Orders.{IsOrderFor, IsOrderOf, IsProfileOf, IsStepOf, IsSweepOf, IsTaskOf, certify_command, command_line, default_option, file_argument, heap_option, input_command, isa_option, option, output_flag, program_command, run_command, stack_option, step_option, sides_flag, sweep_command, sweep_of_bytes, sweep_of_flags, sweep_of_steps, sweep_of_words, with_certify, with_limits, with_look, with_profile, with_run, with_session, with_sweep, with_tries};
+ghost use Rattle.command_line.specs.Orders.{IsOrderFor, IsOrderOf, IsProfileOf, IsStepOf, IsSweepOf, IsTaskOf, certify_command, command_line, default_option, file_argument, heap_option, input_command, isa_option, look_command, option, output_flag, program_command, run_command, stack_option, step_option, sides_flag, sweep_command, sweep_of_bytes, sweep_of_flags, sweep_of_steps, sweep_of_words, with_certify, with_limits, with_look, with_profile, with_run, with_session, with_sweep, with_tries};
 
-use crate::exec::{exec_command, exec_of, number_in, number_option};
+use crate::exec::{default_number, exec_command, exec_of, number_in, number_option};
 use crate::help::{
     ABOUT, AFTER_CERTIFY, AFTER_LOOK, AFTER_RUN, AFTER_SESSION, AFTER_SWEEP, AFTER_TRIES, CERTIFY,
     LOOK, RUN, SESSION, SWEEP, TRIES,
@@ -16,6 +16,9 @@ use std::alloc::{AllocError, Global};
 
 /// The greatest step of a report.
 pub const MOST_STEPS: u32 = 4_194_304;
+
+/// The greatest step that may be named for a session, a sweep or a verdict.
+pub const FURTHEST_STEP: u32 = 2_147_483_647;
 
 /// The program's file, which is required.
 fn file_argument<'a>(alloc: Global) -> Arg<'a>
@@ -140,7 +143,7 @@ pub(crate) fn program_command<'a>(
     command.arg(option(alloc, "supp", "F", rules))
 }
 
-/// The step of `run` and `sweep`.
+/// The step of `run`.
 fn step_argument<'a>(alloc: Global) -> Arg<'a>
     ensures rule { rule_of result ≡ step_option }
     ensures local { result.global ≡ false }
@@ -179,12 +182,27 @@ fn with_session<'a>(alloc: Global) -> Result<Command<'a>, AllocError>
     with_run(alloc)?.subcommand(session)
 }
 
+/// A command for a session that can be looked at.
+fn look_command<'a>(
+    alloc: Global,
+    name: &'a str,
+    about: &'a str,
+    after: &'a str,
+) -> Result<Command<'a>, AllocError>
+    ensures shape { IfOk result (λ command. app_of command ≡ look_command name.entry.now) }
+    ensures globals { IfOk result (λ command. (out-Command command).has_globals ≡ false) }
+{
+    let command = program_command(alloc, name, about, after, INPUT)?;
+    let command = with_limits(alloc, command)?;
+    let limit = "The greatest step of goto and the like, from 1 to 2147483647: 4194304 without it";
+    command.arg(number_option(alloc, "limit", 1, FURTHEST_STEP, limit))
+}
+
 /// The command line with `run`, `session` and `look`.
 fn with_look<'a>(alloc: Global) -> Result<Command<'a>, AllocError>
     ensures { IfOk result (λ command. app_of command ≡ with_look) }
 {
-    let look = program_command(alloc, "look", LOOK, AFTER_LOOK, INPUT)?;
-    let look = with_limits(alloc, look)?;
+    let look = look_command(alloc, "look", LOOK, AFTER_LOOK)?;
     with_session(alloc)?.subcommand(look)
 }
 
@@ -192,8 +210,7 @@ fn with_look<'a>(alloc: Global) -> Result<Command<'a>, AllocError>
 fn with_tries<'a>(alloc: Global) -> Result<Command<'a>, AllocError>
     ensures { IfOk result (λ command. app_of command ≡ with_tries) }
 {
-    let tries = program_command(alloc, "tries", TRIES, AFTER_TRIES, INPUT)?;
-    let tries = with_limits(alloc, tries)?;
+    let tries = look_command(alloc, "tries", TRIES, AFTER_TRIES)?;
     with_look(alloc)?.subcommand(tries)
 }
 
@@ -226,7 +243,8 @@ fn sweep_of_bytes<'a>(alloc: Global) -> Result<Command<'a>, AllocError>
 {
     let command = program_command(alloc, "sweep", SWEEP, AFTER_SWEEP, INPUT)?;
     let command = with_limits(alloc, command)?;
-    let command = command.arg(step_argument(alloc))?;
+    let step = "The step to report at, from 0 to 2147483647";
+    let command = command.arg(default_number(alloc, "step", 0, FURTHEST_STEP, "1048576", step))?;
     let bytes = "Bytes A to B of the input; A.. up to its last one; A alone";
     let command = command.arg(option(alloc, "bytes", "A..B", bytes))?;
     let values = "all, flips, edges, or numbers with commas";
@@ -292,8 +310,8 @@ fn certify_command<'a>(alloc: Global) -> Result<Command<'a>, AllocError>
 {
     let command = input_command(alloc, "certify", CERTIFY, AFTER_CERTIFY, INPUT)?;
     let command = with_limits(alloc, command)?;
-    let step = "The step to certify the run up to, from 0 to 4194304: 4194304 without it";
-    command.arg(number_option(alloc, "step", 0, MOST_STEPS, step))
+    let step = "The step to certify the run up to, from 0 to 2147483647: 4194304 without it";
+    command.arg(number_option(alloc, "step", 0, FURTHEST_STEP, step))
 }
 
 /// The command line with `run`, `session`, `look`, `tries`, `sweep` and `certify`.
@@ -366,9 +384,9 @@ fn task_of<'a>(name: &str, chosen: &ArgMatches<'a>) -> Option<Task<'a>>
     } else if name == "sweep" {
         Some(Task::Sweep(sweep_of(chosen)?))
     } else if name == "look" {
-        Some(Task::Do(Action::Look))
+        Some(Task::Do(Action::Look(number_in("limit", chosen)?)))
     } else if name == "tries" {
-        Some(Task::Do(Action::Tries))
+        Some(Task::Do(Action::Tries(number_in("limit", chosen)?)))
     } else if name == "certify" {
         Some(Task::Do(Action::Certify(number_in("step", chosen)?)))
     } else if name == "exec" {

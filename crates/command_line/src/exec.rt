@@ -29,7 +29,7 @@ pub(crate) fn number_option<'a>(
 }
 
 /// An option with a number, which has one where none is given.
-fn default_number<'a>(
+pub(crate) fn default_number<'a>(
     alloc: Global,
     name: &'a str,
     least: u32,

@@ -3,7 +3,7 @@
 //! | Call | What it returns |
 //! |---|---|
 //! | [`read_order`] | the [`Order`] of the arguments, with its [`Task`], the [`ProfileArgs`] as they were given and, for a sweep, the [`SweepArgs`], for `exec` the [`ExecArgs`]; or the error of `clap`, whose kind says whether help, the version or a fault is shown |
-//! | [`MOST_STEPS`] | the greatest step of a report |
+//! | [`MOST_STEPS`], [`FURTHEST_STEP`] | the greatest step of a report, and the greatest that may be named for a session, a sweep or a verdict |
 //! | [`isa_named`], [`isa_name`] | the instruction set of a name, if it is one, and the name of an instruction set |
 //!
 //! # What a caller can rely on
@@ -19,6 +19,6 @@ mod help;
 mod isa;
 mod order;
 
-pub use arguments::{MOST_STEPS, read_order};
+pub use arguments::{FURTHEST_STEP, MOST_STEPS, read_order};
 pub use isa::{isa_name, isa_named};
 pub use order::{Action, ExecArgs, Order, ProfileArgs, SweepArgs, Task};

@@ -48,10 +48,10 @@ pub enum Action {
     Report(u32),
     /// A session is served.
     Session,
-    /// A session is served whose run can be looked at.
-    Look,
-    /// A session is served that can also be looked at, and in which inputs are tried.
-    Tries,
+    /// A session is served whose run can be looked at, up to a greatest step if one was given.
+    Look(Option<u32>),
+    /// A session is served that can also be looked at, and in which inputs are tried, up to a greatest step if one was given.
+    Tries(Option<u32>),
     /// The verdict up to a step is printed, or up to the greatest one if none was given: whether the run is clean.
     Certify(Option<u32>),
 }

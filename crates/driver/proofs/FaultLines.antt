@@ -19,8 +19,7 @@ use Rattle.replay_session.specs.Turns.{Turn, accepted_as, after, counted, line_r
 use Rattle.run_values.specs.declared.alteration.Act.{Act}
 use Rattle.run_values.specs.declared.alteration.Act.TheVariants as Acts
 use Rattle.scenario.specs.Edits.{IsTaken, mark_refusal, row}
-use Rattle.scenario.specs.Limits.{most_steps}
-use Rattle.scenario.specs.Scenario.{Scenario}
+use Rattle.scenario.specs.Scenario.{Scenario, limit_of}
 use Rattle.commands.specs.declared.refusal.Refusal.{Refusal}
 use Rattle.commands.specs.declared.refusal.Refusal.TheVariants.{StepLimit}
 use Rattle.sweep_plans.specs.Changes.{act_of as glitch_act, glitch_edit}
@@ -117,7 +116,7 @@ record Asks (line : List ℕ) (step : ℕ) (act : Act) : Type 0 where
   begins : line ≡ first ∷ rest
   other : nat_eq 108 first ≡ false
   alters_it : alters line ≡ true
-  asked : step ≤ most_steps → alteration_asked line ≡ Ok (record { step = step; act = act })
+  asked : (limit : ℕ) → step ≤ limit → alteration_asked limit line ≡ Ok (record { step = step; act = act })
   short : length line ≤ longest_line
 
 -- from its fields
@@ -134,7 +133,7 @@ asks line word more step first rest act begins other are altering act-is fits sh
   begins = begins;
   other = other;
   alters_it = ap alters_among are ∙ altering;
-  asked = λ near. rw (are, number_of_decimal step fits, act-is, le-ltb most_steps step near);
+  asked = λ limit near. rw (are, number_of_decimal step fits, act-is, le-ltb limit step near);
   short = short;
 }
 
@@ -255,9 +254,9 @@ first_test : (b : Bool) (rest : Option Refusal) → (if b then Some StepLimit el
 first_test true rest h = cc
 first_test false rest h = refl
 
-step_near : (sc : Scenario) (step : ℕ) (glitch : Glitch) → IsTaken sc (glitch_edit step glitch) → step ≤ most_steps
+step_near : (sc : Scenario) (step : ℕ) (glitch : Glitch) → IsTaken sc (glitch_edit step glitch) → step ≤ limit_of sc
 unfolding mark_refusal
-step_near sc step glitch free = ltb-false most_steps step (first_test (nat_lt most_steps step) _ free)
+step_near sc step glitch free = ltb-false (limit_of sc) step (first_test (nat_lt (limit_of sc) step) _ free)
 
 not_look : (turn : Turn) (line rest : List ℕ) (first : ℕ) → line ≡ first ∷ rest → nat_eq 108 first ≡ false
     → looks turn line ≡ false
@@ -267,7 +266,7 @@ not_look turn line rest first begins other = rw (begins, other)
 -- a line that alters and isn't too long is judged by its edit, while lines are answered
 taken_as : (turn : Turn) (line : List ℕ) (step : ℕ) (glitch : Glitch) → turn.lines < most_lines
     → Asks line step (glitch_act glitch) → IsTaken turn.scenario (glitch_edit step glitch)
-    → accepted_as turn line (read_as line) ≡ Ok (Edit (glitch_edit step glitch))
+    → accepted_as turn line (read_as (limit_of turn.scenario) line) ≡ Ok (Edit (glitch_edit step glitch))
 unfolding line_refusal read_as
 taken_as turn line step glitch few asks free =
     let answered : nat_le most_lines turn.lines ≡ false = grind (arith, nat_tests) in
@@ -275,7 +274,7 @@ taken_as turn line step glitch few asks free =
       answered,
       le-ltb longest_line (length line) asks.short,
       asks.alters_it,
-      asks.asked (step_near turn.scenario step glitch free),
+      asks.asked (limit_of turn.scenario) (step_near turn.scenario step glitch free),
       free,
     )
 

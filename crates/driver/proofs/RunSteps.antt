@@ -3,6 +3,7 @@ use Rattle.std.proofs.Common.{◌≡◌, ℕ, List, [], ◌∷◌, true, false, 
 use Rattle.guest_elf.specs.declared.image.Image.{Image}
 use Rattle.guest_machine.specs.declared.setup.Setup.{Setup}
 use Rattle.replay_report.specs.declared.options.Options.{Options}
+use Rattle.scenario.specs.Limits.{most_steps}
 use Rattle.scenario.specs.Scenario.{Scenario, IsReportOf, begun, at_step}
 use Rattle.scenario.specs.Setups.{setup_with}
 use Rattle.driver.specs.Once.{IsReportOnce}
@@ -19,6 +20,7 @@ pub report-once : (image : Image) (input : List ℕ) (rules : List Rule) (setup 
       rules = rules;
       options = options;
       step = step;
+      limit = most_steps;
     }) text
     → IsReportOnce image input rules step text
 unfolding IsReportOnce
@@ -31,6 +33,7 @@ report-once image input rules setup options step plain callers show text told =
       rules = rules;
       options = options;
       step = step;
+      limit = most_steps;
     } ≡ at_step (begun image input rules) step =
     λ i. record {
       image = image;
@@ -40,5 +43,6 @@ report-once image input rules setup options step plain callers show text told =
       rules = rules;
       options = record { callers = callers i; show = show i };
       step = step;
+      limit = most_steps;
     } in
     subst (λ (sc : Scenario). IsReportOf sc text) all told

@@ -34,7 +34,7 @@ use Rattle.sweep_plans.specs.declared.request.Request.{Request}
 use Rattle.checkpoints.specs.Trails.{is_short}
 use Rattle.checkpoints.specs.Work.{Work}
 use Rattle.replay_session.specs.Session.{turn_of, trail_of}
-use Rattle.replay_session.specs.Stages.{Stage, fresh, stage_of}
+use Rattle.replay_session.specs.Stages.{Stage, fresh_apart, stage_of}
 use Rattle.replay_session.specs.Turns.{Turn}
 use Rattle.replay_session.specs.Work.{no_work, work_on}
 use Rattle.replay_session.specs.declared.session.Session.{Session}
@@ -133,29 +133,32 @@ serves-fault AreReplies none-of (ServedNoMemory replies bytes) left-old left-new
 abbrev stage-with : Turn → Work → Bool → Stage
 stage-with turn work short = record { turn = turn; work = work; short = short }
 
-module _ (session : Session) (turn : Turn) (said : turn_of session ≡ turn) (work : work_on (trail_of session) ≡ no_work)
+module _ (s : ℕ) (session : Session) (turn : Turn) (said : turn_of session ≡ turn)
+    (work : work_on (trail_of session) ≡ no_work s)
     (whole : is_short (trail_of session) ≡ false)
     (left-old left-new held-old held-new : Option (List ℕ)) where
-  begins-fresh : stage_of session ≡ fresh turn
+  begins-fresh : stage_of session ≡ fresh_apart s turn
   begins-fresh =
       ap (λ (t : Turn). stage-with t (work_on (trail_of session)) (is_short (trail_of session))) said
       ∙ ap (λ (w : Work). stage-with turn w (is_short (trail_of session))) work
-      ∙ ap (λ (b : Bool). stage-with turn no_work b) whole
+      ∙ ap (λ (b : Bool). stage-with turn (no_work s) b) whole
 
   -- of any service that depends on the stage, and that has no replies to no lines
   served-fault : (AreReplies : Stage → Relation)
-      → ((replies : List (List ℕ)) → AreReplies (fresh turn) [] replies → replies ≡ [])
+      → ((replies : List (List ℕ)) → AreReplies (fresh_apart s turn) [] replies → replies ≡ [])
       → (fault : ServeFault)
       → StoppedBy fault (AreReplies (stage_of session)) left-old left-new held-old held-new
-      → Serves (AreReplies (fresh turn)) (streams left-old held-old) (streams left-new held-new) (end_of_serve fault)
+      → Serves (AreReplies (fresh_apart s turn)) (streams left-old held-old) (streams left-new held-new)
+      (end_of_serve fault)
   served-fault AreReplies none-of fault stopped =
-      serves-fault (AreReplies (fresh turn)) none-of fault left-old left-new held-old held-new
+      serves-fault (AreReplies (fresh_apart s turn)) none-of fault left-old left-new held-old held-new
       (subst (λ (stage : Stage). StoppedBy fault (AreReplies stage) left-old left-new held-old held-new) begins-fresh
       stopped)
 
   pub viewed-fault : (fault : ServeFault)
       → StoppedBy fault (ViewsLines (stage_of session)) left-old left-new held-old held-new
-      → Serves (ViewsLines (fresh turn)) (streams left-old held-old) (streams left-new held-new) (end_of_serve fault)
+      → Serves (ViewsLines (fresh_apart s turn)) (streams left-old held-old) (streams left-new held-new)
+      (end_of_serve fault)
   viewed-fault fault stopped = served-fault ViewsLines (λ replies none. none) fault stopped
 
   abbrev tries-of : Stage → Relation
@@ -163,12 +166,13 @@ module _ (session : Session) (turn : Turn) (said : turn_of session ≡ turn) (wo
 
   pub tried-fault : (fault : ServeFault)
       → StoppedBy fault (tries-of (stage_of session)) left-old left-new held-old held-new
-      → Serves (tries-of (fresh turn)) (streams left-old held-old) (streams left-new held-new) (end_of_serve fault)
+      → Serves (tries-of (fresh_apart s turn)) (streams left-old held-old) (streams left-new held-new)
+      (end_of_serve fault)
   tried-fault fault stopped = served-fault tries-of (λ replies none. none) fault stopped
 
   pub tried-done : ServedAll (tries-of (stage_of session)) left-old held-old held-new
       → ServedRead (tries-of (stage_of session)) left-old left-new held-old held-new
-      → Serves (tries-of (fresh turn)) (streams left-old held-old) (streams left-new held-new) Done
+      → Serves (tries-of (fresh_apart s turn)) (streams left-old held-old) (streams left-new held-new) Done
   tried-done all read = (
     subst (λ (stage : Stage). ServedAll (tries-of stage) left-old held-old held-new) begins-fresh all,
     subst (λ (stage : Stage). ServedRead (tries-of stage) left-old left-new held-old held-new) begins-fresh read,

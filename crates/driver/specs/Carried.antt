@@ -1,6 +1,6 @@
 -- The outcome of a command on a program: its files are read in order, each judged before the next, and then a report is
 -- printed or lines are answered.
-use Rattle.std.specs.Prelude.{ℕ, ◌≡◌, ◌+◌, ◌<◌, ◌≤◌, ◌⊎◌, List, [], Option, Some, None, length, take}
+use Rattle.std.specs.Prelude.{ℕ, ◌≡◌, ◌+◌, ◌<◌, ◌≤◌, ◌⊎◌, List, [], Option, Some, None, length, min, take, unwrap_or}
 use Rattle.std.specs.Io.KnownBytes.{Appends, Consumes}
 use Rattle.command_line.specs.Orders.{input_path, rules_path}
 use Rattle.program_files.specs.Files.{Giving, HasImage, HasInput, HasRules, NoImage, NoInput, NoRules, Streams}
@@ -9,9 +9,9 @@ use Rattle.command_line.specs.declared.order.Order.{Order}
 use Rattle.guest_elf.specs.declared.image.Image.{Image as ProgramImage}
 use Rattle.line_protocol.specs.Answers.{Relation}
 use Rattle.line_protocol.specs.Served.{ServedAll, ServedRead, StoppedBy}
-use Rattle.scenario.specs.Limits.{longest_input}
+use Rattle.scenario.specs.Limits.{furthest_step, longest_input, most_steps}
 use Rattle.replay_session.specs.Replies.{Answers}
-use Rattle.replay_session.specs.Stages.{fresh}
+use Rattle.replay_session.specs.Stages.{fresh, opened}
 use Rattle.replay_session.specs.Turns.{opening}
 use Rattle.line_protocol.specs.declared.fault.ServeFault.TheVariants.{ReadFailed, WriteFailed}
 use Rattle.looks.specs.Views.{ViewsLines}
@@ -47,6 +47,10 @@ Serves AreReplies old new CannotWrite =
 Serves AreReplies old new NoMemory = Untouched old new
 Serves AreReplies old new end = ⊥
 
+-- the greatest step of a session: the one that was asked for, if one was
+abbrev pub limit_asked : Option ℕ → ℕ
+limit_asked asked = min (unwrap_or asked most_steps) furthest_step
+
 -- what an order asks for was done with a program, its suppressions and its input: the report of a step, a session, one
 -- that can be looked at, one in which inputs can be tried too, or the verdict up to a step, which doesn't depend on
 -- suppressions
@@ -54,9 +58,10 @@ abbrev pub Does : Action → ProgramImage → List Rule → List ℕ → Streams
 Does (Report step) image list input old new end =
     Consumes old.left new.left [] × Reports (IsReportOnce image input list step) old.held new.held end
 Does Session image list input old new end = Serves (Answers (fresh (opening image input list))) old new end
-Does Look image list input old new end = Serves (ViewsLines (fresh (opening image input list))) old new end
-Does Tries image list input old new end =
-    Serves (TriesLines (untried (fresh (opening image input list)))) old new end
+Does (Look asked) image list input old new end =
+    Serves (ViewsLines (opened (limit_asked asked) image input list)) old new end
+Does (Tries asked) image list input old new end =
+    Serves (TriesLines (untried (opened (limit_asked asked) image input list))) old new end
 Does (Certify asked) image list input old new end =
     Consumes old.left new.left [] × Certifies image input asked old.held new.held end
 

@@ -4,6 +4,7 @@ use Rattle.scenario.specs.Edits.{IsTaken, row}
 use Rattle.commands.specs.Commands.{input_with, patch_half_with, patch_with, taken}
 use Rattle.commands.specs.declared.command.Command.TheVariants.{Edit}
 use Rattle.looks.specs.Views.{looks, read_as}
+use Rattle.scenario.specs.Scenario.{limit_of}
 use Rattle.replay_session.specs.Turns.{Turn, accepted, accepted_as, applied, applied_as, most_lines}
 use Rattle.sweep_plans.specs.Changes.{edit_of, glitch_edit}
 use Rattle.sweeps.specs.Outcomes.{edited}
@@ -52,12 +53,13 @@ FitsLine (TurnBits addr mask) = (addr < 2 ^ 32) × (mask < 2 ^ 32)
 
 -- the turn after a line that doesn't look
 abbrev pub given : Turn → List ℕ → Turn
-given turn line = applied_as turn (accepted_as turn line (read_as line))
+given turn line = applied_as turn (accepted_as turn line (read_as (limit_of turn.scenario) line))
 
 -- a line doesn't look, is accepted as an edit, and leaves the scenario with that edit
 abbrev pub Alters : Turn → List ℕ → ℕ → Glitch → Type 0
 Alters turn line step glitch =
-    (looks turn line ≡ false) × (accepted_as turn line (read_as line) ≡ Ok (Edit (glitch_edit step glitch)))
+    (looks turn line ≡ false) ×
+    (accepted_as turn line (read_as (limit_of turn.scenario) line) ≡ Ok (Edit (glitch_edit step glitch)))
     × ((given turn line).scenario ≡ (row turn.scenario (glitch_edit step glitch)).after)
 
 -- while lines are answered, the line of a glitch makes it, if its edit isn't rejected

@@ -12,7 +12,7 @@ use Rattle.command_line.specs.declared.order.Task.TheVariants.{Do, Sweep, Exec}
 use Rattle.guest_elf.specs.File.{IsImageFor}
 use Rattle.guest_elf.specs.declared.image.Image.{Image as ProgramImage}
 use Rattle.guest_elf.specs.declared.profile.Profile.{Profile}
-use Rattle.scenario.specs.Limits.{longest_input, most_steps}
+use Rattle.scenario.specs.Limits.{furthest_step, longest_input}
 use Rattle.suppressions.specs.Texts.{faults, rules, IsLeast}
 use Rattle.suppressions.specs.declared.fault.SuppFault.TheVariants as Supp
 use Rattle.driver.specs.Carried.{Carried}
@@ -70,8 +70,8 @@ SweepsNear gives order words old held end =
 -- great
 abbrev pub CarriedSweep : Giving → Order → SweepArgs → Streams → Option (List ℕ) → End → Type 0
 CarriedSweep gives order words old held end =
-    ((end ≡ Usage) × (most_steps < words.step) × Appends old.held held [])
-    ⊎ ((words.step ≤ most_steps) × SweepsNear gives order words old held end)
+    ((end ≡ Usage) × (furthest_step < words.step) × Appends old.held held [])
+    ⊎ ((words.step ≤ furthest_step) × SweepsNear gives order words old held end)
 
 -- an order was carried out; one for `exec` isn't one of these commands, and nothing is done
 abbrev pub CarriedOut : Giving → Order → Task → Streams → Streams → End → Type 0

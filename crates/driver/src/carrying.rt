@@ -1,17 +1,17 @@
 //! Carries out a command on a program: reads its files, and prints a report or serves a session.
 ghost use Rattle.std.specs.Prelude.{◌≡◌, ◌≤◌, length};
 ghost use Rattle.replay_session.specs.Replies.{Answers};
-ghost use Rattle.replay_session.specs.Stages.{fresh};
+ghost use Rattle.replay_session.specs.Stages.{fresh, opened};
 ghost use Rattle.replay_session.specs.Turns.{opening};
 ghost use Rattle.looks.specs.Views.{ViewsLines};
 ghost use Rattle.tries.specs.Tries.{TriesLines, untried};
-ghost use Rattle.driver.specs.Carried.{Carried, Reports, Serves};
+ghost use Rattle.driver.specs.Carried.{Carried, Reports, Serves, limit_asked};
 ghost use Rattle.program_files.specs.Files.{streams};
 ghost use Rattle.sweep_plans.specs.Planned.{IsPart};
 ghost use Rattle.driver.specs.Sweeping.{CarriedOut, CarriedSweep, SweepsImage};
 ghost use Rattle.exit_status.specs.Ends.{end_of};
 ghost use Rattle.driver.specs.Once.{IsReportOnce};
-ghost use Rattle.scenario.specs.Limits.{longest_input, most_steps};
+ghost use Rattle.scenario.specs.Limits.{furthest_step, longest_input};
 
 use crate::certifying::print_verdict;
 use crate::reporting::run_once;
@@ -22,7 +22,7 @@ use program_files::{
     Files, MOST_READ, profile_named, read_front, read_input, read_named_text, read_suppressions,
     read_sweep_input,
 };
-use replay_session::{MOST_STEPS, Session, serve};
+use replay_session::{FURTHEST_STEP, MOST_STEPS, Session, serve};
 use std::alloc::Global;
 use std::io::{Read, Write};
 use suppressions::{Suppression, parse};
@@ -61,20 +61,29 @@ fn serve_session<'a, R: Read, W: Write>(
     Ok(serve(session, reader, writer)?)
 }
 
+/// Returns the greatest step of a session: the one that was asked for, if one was.
+fn limit_of(asked: Option<u32>) -> u32
+    ensures { result ≡ limit_asked asked }
+{
+    asked.unwrap_or(MOST_STEPS).min(FURTHEST_STEP)
+}
+
 /// Serves a session with a program that can also be looked at.
 fn serve_looks<'a, R: Read, W: Write>(
     alloc: Global,
     image: Image<'_>,
     input: Vec<u8>,
     suppressions: Vec<Suppression>,
+    asked: Option<u32>,
     reader: &mut R,
     writer: &mut W,
 ) -> Result<(), End<'a>>
     requires { length input.items ≤ longest_input }
-    ensures { Serves (ViewsLines (fresh (opening image.entry input.items suppressions.items)))
+    ensures { Serves (ViewsLines (opened (limit_asked asked) image.entry input.items suppressions.items))
         (streams (R.remaining reader.old) (W.contents writer.old)) (streams (R.remaining reader.new) (W.contents writer.new)) (end_of result) }
 {
-    let session = Session::begin(alloc, image, input, suppressions)?;
+    let limit = limit_of(asked);
+    let session = Session::begin_within(alloc, image, input, suppressions, limit)?;
     Ok(looks::serve(session, reader, writer)?)
 }
 
@@ -84,14 +93,16 @@ fn serve_tries<'a, R: Read, W: Write>(
     image: Image<'_>,
     input: Vec<u8>,
     suppressions: Vec<Suppression>,
+    asked: Option<u32>,
     reader: &mut R,
     writer: &mut W,
 ) -> Result<(), End<'a>>
     requires { length input.items ≤ longest_input }
-    ensures { Serves (TriesLines (untried (fresh (opening image.entry input.items suppressions.items))))
+    ensures { Serves (TriesLines (untried (opened (limit_asked asked) image.entry input.items suppressions.items)))
         (streams (R.remaining reader.old) (W.contents writer.old)) (streams (R.remaining reader.new) (W.contents writer.new)) (end_of result) }
 {
-    let session = Session::begin(alloc, image, input, suppressions)?;
+    let limit = limit_of(asked);
+    let session = Session::begin_within(alloc, image, input, suppressions, limit)?;
     Ok(tries::serve(session, reader, writer)?)
 }
 
@@ -116,8 +127,12 @@ fn follow_order<'a, F: Files, R: Read, W: Write>(
     match action {
         Action::Report(step) => print_report(alloc, &image, input, &suppressions, step, writer),
         Action::Session => serve_session(alloc, image, input, suppressions, reader, writer),
-        Action::Look => serve_looks(alloc, image, input, suppressions, reader, writer),
-        Action::Tries => serve_tries(alloc, image, input, suppressions, reader, writer),
+        Action::Look(asked) => {
+            serve_looks(alloc, image, input, suppressions, asked, reader, writer)
+        }
+        Action::Tries(asked) => {
+            serve_tries(alloc, image, input, suppressions, asked, reader, writer)
+        }
         Action::Certify(asked) => print_verdict(alloc, &image, input, asked, writer),
     }
 }
@@ -134,7 +149,7 @@ fn sweep_image<'a, F: Files, R: Read, W: Write>(
     reader: &mut R,
     writer: &mut W,
 ) -> Result<(), End<'a>>
-    requires near { words.now.step ≤ most_steps }
+    requires near { words.now.step ≤ furthest_step }
     requires part { IsPart request.part }
     ensures { SweepsImage (F.gives files.now) order.now words.now request file.now image.entry
         (streams (R.remaining reader.old) (W.contents writer.old)) (W.contents writer.new) (end_of result) }
@@ -167,7 +182,7 @@ fn follow_sweep<'a, F: Files, R: Read, W: Write>(
 ) -> Result<(), End<'a>>
     ensures { CarriedSweep (F.gives files.now) order.now words.now (streams (R.remaining reader.old) (W.contents writer.old)) (W.contents writer.new) (end_of result) }
 {
-    if words.step > MOST_STEPS {
+    if words.step > FURTHEST_STEP {
         return Err(End::Usage);
     }
     let request = Request::of(alloc, words)?;

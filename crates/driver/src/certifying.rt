@@ -5,7 +5,7 @@ ghost use Rattle.clean_reports.specs.declared.verdict.Verdict.TheVariants.{Clean
 ghost use Rattle.driver.specs.Certified.{Certifies, IsCertifiedOnce, IsVerdictOnce, end_of_verdict};
 ghost use Rattle.exit_status.specs.Ends.{end_of};
 
-use checkpoints::Trail;
+use checkpoints::{Trail, spacing_for};
 use clean_reports::laws::inputs_are_bytes;
 use clean_reports::{Verdict, certify, push_verdict};
 use exit_status::End;
@@ -28,7 +28,7 @@ fn verdict_once(
 {
     inputs_are_bytes(&input);
     let setup = setup_with(alloc, image, input)?;
-    let mut trail = Trail::begin(alloc, image)?;
+    let mut trail = Trail::begin_apart(alloc, image, spacing_for(step))?;
     certify(&mut trail, &setup, &[], step)
 }
 

@@ -36,3 +36,5 @@ pub use reporting::{RunFault, run_once};
 
 // The command line takes the steps that a session takes.
 const _: () = prove!(command_line::MOST_STEPS == replay_session::MOST_STEPS);
+
+const _: () = prove!(command_line::FURTHEST_STEP == replay_session::FURTHEST_STEP);

@@ -8,7 +8,7 @@ use guest_elf::Image;
 use guest_machine::Meter;
 use line_protocol::{Sent, send};
 use replay_report::Options;
-use scenario::{LONGEST_INPUT, ScenarioRef, setup_with};
+use scenario::{LONGEST_INPUT, MOST_STEPS, ScenarioRef, setup_with};
 use std::alloc::{AllocError, Global};
 use std::io::Write;
 use suppressions::Suppression;
@@ -61,6 +61,7 @@ fn report_once(
         suppressions,
         options: &options,
         step,
+        limit: MOST_STEPS,
     };
     scenario.report(alloc, &mut Meter::new(), &mut text)?;
     Ok(text)

@@ -346,14 +346,14 @@ const ORDERS: [Case; 8] = [
     ),
     (
         "a session that looks",
-        ("program", false, Asked::Do(Action::Look)),
+        ("program", false, Asked::Do(Action::Look(None))),
         b"",
         0,
         Written::Around(b"ok\n", b"step 2\n"),
     ),
     (
         "a session that tries, which looks too",
-        ("program", false, Asked::Do(Action::Tries)),
+        ("program", false, Asked::Do(Action::Tries(None))),
         b"",
         0,
         Written::Around(b"ok\n", b"step 2\n"),
@@ -397,7 +397,7 @@ const NO_ORDERS: [Case; 3] = [
     ),
     (
         "no ELF file",
-        ("input", true, Asked::Do(Action::Look)),
+        ("input", true, Asked::Do(Action::Look(None))),
         BAD_RULES,
         3,
         Written::Nothing,

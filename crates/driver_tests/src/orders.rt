@@ -45,8 +45,8 @@ fn is_task(asked: &Task<'_>, want: &Task<'_>) -> bool {
     match (asked, want) {
         (Task::Do(Action::Report(step)), Task::Do(Action::Report(at))) => step == at,
         (Task::Do(Action::Session), Task::Do(Action::Session)) => true,
-        (Task::Do(Action::Look), Task::Do(Action::Look)) => true,
-        (Task::Do(Action::Tries), Task::Do(Action::Tries)) => true,
+        (Task::Do(Action::Look(limit)), Task::Do(Action::Look(other))) => limit == other,
+        (Task::Do(Action::Tries(limit)), Task::Do(Action::Tries(other))) => limit == other,
         (Task::Sweep(asked), Task::Sweep(want)) => is_sweep(asked, want),
         (Task::Do(Action::Certify(step)), Task::Do(Action::Certify(at))) => step == at,
         _ => false,
@@ -153,7 +153,7 @@ fn reports_are_ordered(rt: HostRuntime) {
     assert_given(&rt, rt.alloc(), &REPORTS);
 }
 
-const SESSIONS: [Line; 6] = [
+const SESSIONS: [Line; 8] = [
     (
         "a text for the heap's region, whatever it is",
         &["session", "f", "--heap-region", "here"],
@@ -187,14 +187,28 @@ const SESSIONS: [Line; 6] = [
         &["look", "f", "--input", "i"],
         ("f", Some("i"), None),
         Given::Nothing,
-        Task::Do(Action::Look),
+        Task::Do(Action::Look(None)),
     ),
     (
         "one that tries",
         &["tries", "f", "--input", "i", "--supp", "s"],
         ("f", Some("i"), Some("s")),
         Given::Nothing,
-        Task::Do(Action::Tries),
+        Task::Do(Action::Tries(None)),
+    ),
+    (
+        "one that looks up to the furthest step",
+        &["look", "f", "--limit", "2147483647"],
+        ("f", None, None),
+        Given::Nothing,
+        Task::Do(Action::Look(Some(2_147_483_647))),
+    ),
+    (
+        "one that tries up to the first step",
+        &["tries", "f", "--limit=1"],
+        ("f", None, None),
+        Given::Nothing,
+        Task::Do(Action::Tries(Some(1))),
     ),
 ];
 
@@ -291,7 +305,7 @@ fn sweeps_are_ordered(rt: HostRuntime) {
 /// A label, the arguments of a line, and why it has no order.
 type NoOrder = (&'static str, &'static [&'static str], ErrorKind);
 
-const NO_ORDERS: [NoOrder; 12] = [
+const NO_ORDERS: [NoOrder; 16] = [
     (
         "a region of the heap twice",
         &["look", "f", "--heap-region=1", "--heap-region=1"],
@@ -321,6 +335,26 @@ const NO_ORDERS: [NoOrder; 12] = [
         "a step too many",
         &["run", "f", "--step=4194305"],
         ErrorKind::ValueValidation,
+    ),
+    (
+        "a step too many of a sweep",
+        &["sweep", "f", "--step=2147483648"],
+        ErrorKind::ValueValidation,
+    ),
+    (
+        "a limit too great",
+        &["look", "f", "--limit=2147483648"],
+        ErrorKind::ValueValidation,
+    ),
+    (
+        "no step up to the limit",
+        &["tries", "f", "--limit=0"],
+        ErrorKind::ValueValidation,
+    ),
+    (
+        "a limit of a session",
+        &["session", "f", "--limit=1"],
+        ErrorKind::UnknownArgument,
     ),
     (
         "twice",

@@ -8,7 +8,6 @@ use Rattle.instructions.specs.declared.width.Width.TheVariants.{Byte, Half, Word
 use Rattle.run_values.specs.declared.alteration.Act.{Act}
 use Rattle.run_values.specs.declared.alteration.Act.TheVariants.{Set, Flip, Jump, FlipPc, Write, Turn, Skip}
 use Rattle.run_values.specs.declared.alteration.Alteration.{Alteration}
-use Rattle.scenario.specs.Limits.{most_steps}
 use Rattle.commands.specs.Commands.{fields, number}
 use Rattle.commands.specs.declared.fault.Fault.{Fault}
 use Rattle.commands.specs.declared.fault.Fault.TheVariants.{BadCommand, BadRange, StepLimit}
@@ -118,16 +117,17 @@ abbrev pub at_step : ℕ → Result Act Fault → Result Alteration Fault
 at_step step (Ok act) = Ok (record { step = step; act = act })
 at_step step (Err fault) = Err fault
 
--- it is judged in stages: the form of its fields, its step, and then what it asks for
-abbrev pub judged : Option ℕ → Option (Result Act Fault) → Result Alteration Fault
-judged (Some step) (Some act) = if nat_lt most_steps step then Err StepLimit else at_step step act
-judged (Some step) None = Err BadCommand
-judged None act = Err BadCommand
+-- it is judged in stages: the form of its fields, its step, which may be the greatest at most, and then what it asks
+-- for
+abbrev pub judged : ℕ → Option ℕ → Option (Result Act Fault) → Result Alteration Fault
+judged limit (Some step) (Some act) = if nat_lt limit step then Err StepLimit else at_step step act
+judged limit (Some step) None = Err BadCommand
+judged limit None act = Err BadCommand
 
-abbrev pub alteration_among : List (List ℕ) → Result Alteration Fault
-alteration_among (word ∷ step ∷ more) = judged (number step) (act_of word more)
-alteration_among _ = Err BadCommand
+abbrev pub alteration_among : ℕ → List (List ℕ) → Result Alteration Fault
+alteration_among limit (word ∷ step ∷ more) = judged limit (number step) (act_of word more)
+alteration_among limit _ = Err BadCommand
 
 -- the alteration that a line asks for, or why it is rejected
-unfoldable pub alteration_asked : List ℕ → Result Alteration Fault
-alteration_asked line = alteration_among (fields line)
+unfoldable pub alteration_asked : ℕ → List ℕ → Result Alteration Fault
+alteration_asked limit line = alteration_among limit (fields line)

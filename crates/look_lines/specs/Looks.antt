@@ -6,7 +6,6 @@ use Rattle.checkpoints.specs.declared.searches.Sought.{Sought}
 use Rattle.checkpoints.specs.declared.searches.Watch.{Watch}
 use Rattle.checkpoints.specs.declared.searches.Watch.TheVariants.{Run, Read, Write, Shadow, Error}
 use Rattle.run_values.specs.declared.span.Span.{Span}
-use Rattle.scenario.specs.Limits.{most_steps}
 use Rattle.commands.specs.Commands.{fields, number}
 use Rattle.commands.specs.declared.fault.Fault.{Fault}
 use Rattle.commands.specs.declared.fault.Fault.TheVariants.{BadCommand, BadRange, StepLimit}
@@ -118,42 +117,42 @@ may_watch Write range = is_range range
 may_watch Shadow range = is_view range
 may_watch Error range = is_range range
 
--- why a search is rejected, if it is
-abbrev pub search_refusal : Search → Option Fault
-search_refusal search =
-    if nat_lt most_steps search.bound then Some StepLimit
+-- why a search is rejected, if it is, where a step may be this one at most
+abbrev pub search_refusal : ℕ → Search → Option Fault
+search_refusal limit search =
+    if nat_lt limit search.bound then Some StepLimit
     else if may_watch search.sought.watch search.sought.range then None
     else Some BadRange
 
 -- why steps are rejected, if they are
-abbrev pub stretch_refusal : Stretch → Option Fault
-stretch_refusal stretch =
-    if nat_lt most_steps stretch.from || nat_lt most_steps stretch.end then Some StepLimit
+abbrev pub stretch_refusal : ℕ → Stretch → Option Fault
+stretch_refusal limit stretch =
+    if nat_lt limit stretch.from || nat_lt limit stretch.end then Some StepLimit
     else None
 
 -- why a look is rejected, if it is
-abbrev pub look_refusal : Look → Option Fault
-look_refusal Registers = None
-look_refusal Controls = None
-look_refusal (Memory range) = if is_view range then None else Some BadRange
-look_refusal (Output range) = if is_view range then None else Some BadRange
-look_refusal (Sides range) = if is_view range then None else Some BadRange
-look_refusal Input = None
-look_refusal (Next search) = search_refusal search
-look_refusal (Last search) = search_refusal search
-look_refusal Certify = None
-look_refusal Stack = None
-look_refusal (Blocks from) = None
-look_refusal (Calls stretch) = stretch_refusal stretch
+abbrev pub look_refusal : ℕ → Look → Option Fault
+look_refusal limit Registers = None
+look_refusal limit Controls = None
+look_refusal limit (Memory range) = if is_view range then None else Some BadRange
+look_refusal limit (Output range) = if is_view range then None else Some BadRange
+look_refusal limit (Sides range) = if is_view range then None else Some BadRange
+look_refusal limit Input = None
+look_refusal limit (Next search) = search_refusal limit search
+look_refusal limit (Last search) = search_refusal limit search
+look_refusal limit Certify = None
+look_refusal limit Stack = None
+look_refusal limit (Blocks from) = None
+look_refusal limit (Calls stretch) = stretch_refusal limit stretch
 
 abbrev pub unless : Option Fault → Look → Result Look Fault
 unless None look = Ok look
 unless (Some fault) look = Err fault
 
-abbrev pub taken : Option Look → Result Look Fault
-taken None = Err BadCommand
-taken (Some look) = unless (look_refusal look) look
+abbrev pub taken : ℕ → Option Look → Result Look Fault
+taken limit None = Err BadCommand
+taken limit (Some look) = unless (look_refusal limit look) look
 
 -- the look that a line asks for, or why it is rejected
-unfoldable pub asked : List ℕ → Result Look Fault
-asked line = taken (look_among (fields line))
+unfoldable pub asked : ℕ → List ℕ → Result Look Fault
+asked limit line = taken limit (look_among (fields line))

@@ -6,7 +6,6 @@ ghost use Rattle.look_lines.specs.Alterations.{act_of, alteration_among, alterat
 use commands::{Fault, number};
 use instructions::{Register, Width};
 use run_values::{Act, Alteration};
-use scenario::MOST_STEPS;
 use texts::Parts;
 
 const SET: &[u8] = b"set";
@@ -201,9 +200,13 @@ fn act_of(word: &[u8], fields: Parts<'_>) -> Option<Result<Act, Fault>>
     }
 }
 
-/// The alteration of a step and of what is asked for, unless one of the two is rejected.
-fn judged(step: Option<u32>, act: Option<Result<Act, Fault>>) -> Result<Alteration, Fault>
-    ensures { result ≡ judged step act }
+/// The alteration of a step, which may be the limit at most, and of what is asked for, unless one of the two is rejected.
+fn judged(
+    limit: u32,
+    step: Option<u32>,
+    act: Option<Result<Act, Fault>>,
+) -> Result<Alteration, Fault>
+    ensures { result ≡ judged limit step act }
 {
     let Some(step) = step else {
         return Err(Fault::BadCommand);
@@ -211,7 +214,7 @@ fn judged(step: Option<u32>, act: Option<Result<Act, Fault>>) -> Result<Alterati
     let Some(act) = act else {
         return Err(Fault::BadCommand);
     };
-    if step > MOST_STEPS {
+    if step > limit {
         return Err(Fault::StepLimit);
     }
     let act = act?;
@@ -219,8 +222,8 @@ fn judged(step: Option<u32>, act: Option<Result<Act, Fault>>) -> Result<Alterati
 }
 
 /// The alteration of a line's fields.
-fn alteration_among(mut fields: Parts<'_>) -> Result<Alteration, Fault>
-    ensures { result ≡ alteration_among fields.entry }
+fn alteration_among(limit: u32, mut fields: Parts<'_>) -> Result<Alteration, Fault>
+    ensures { result ≡ alteration_among limit fields.entry }
 {
     let Some(word) = fields.next() else {
         return Err(Fault::BadCommand);
@@ -228,7 +231,7 @@ fn alteration_among(mut fields: Parts<'_>) -> Result<Alteration, Fault>
     let Some(step) = fields.next() else {
         return Err(Fault::BadCommand);
     };
-    judged(number(step), act_of(word, fields))
+    judged(limit, number(step), act_of(word, fields))
 }
 
 /// Returns the alteration that a line asks for, or the fault for which the line is rejected.
@@ -238,8 +241,8 @@ fn alteration_among(mut fields: Parts<'_>) -> Result<Alteration, Fault>
 /// [`Fault::BadCommand`] for another line, or a field that is missing, too many or of another form; then [`Fault::StepLimit`]; then
 /// [`Fault::BadRange`] for a write of a number of bytes other than 1, 2 and 4. What depends on the marks so far is left to the edit.
 #[tactic(auto, unfolding(crate::specs::Alterations::alteration_asked))]
-pub fn alteration_asked(line: &[u8]) -> Result<Alteration, Fault>
-    ensures { result ≡ alteration_asked line.now }
+pub fn alteration_asked(limit: u32, line: &[u8]) -> Result<Alteration, Fault>
+    ensures { result ≡ alteration_asked limit line.now }
 {
-    alteration_among(Parts::new(line, b' '))
+    alteration_among(limit, Parts::new(line, b' '))
 }

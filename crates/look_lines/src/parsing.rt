@@ -7,7 +7,6 @@ use crate::look::{Look, Search, Stretch};
 use checkpoints::{Sought, Watch};
 use commands::{Fault, number};
 use run_values::Span;
-use scenario::MOST_STEPS;
 use texts::Parts;
 
 const RUN: &[u8] = b"run";
@@ -216,11 +215,11 @@ fn may_watch(watch: Watch, range: Span) -> bool
     }
 }
 
-/// Why a search is rejected, if it is.
-fn search_refusal(search: Search) -> Option<Fault>
-    ensures { result ≡ search_refusal search }
+/// Why a search is rejected, if it is, where a step may be the limit at most.
+fn search_refusal(limit: u32, search: Search) -> Option<Fault>
+    ensures { result ≡ search_refusal limit search }
 {
-    if search.bound > MOST_STEPS {
+    if search.bound > limit {
         Some(Fault::StepLimit)
     } else if may_watch(search.sought.watch, search.sought.range) {
         None
@@ -230,10 +229,10 @@ fn search_refusal(search: Search) -> Option<Fault>
 }
 
 /// Why steps are rejected, if they are.
-fn stretch_refusal(stretch: Stretch) -> Option<Fault>
-    ensures { result ≡ stretch_refusal stretch }
+fn stretch_refusal(limit: u32, stretch: Stretch) -> Option<Fault>
+    ensures { result ≡ stretch_refusal limit stretch }
 {
-    if stretch.from > MOST_STEPS || stretch.end > MOST_STEPS {
+    if stretch.from > limit || stretch.end > limit {
         Some(Fault::StepLimit)
     } else {
         None
@@ -241,8 +240,8 @@ fn stretch_refusal(stretch: Stretch) -> Option<Fault>
 }
 
 /// Why a look is rejected, if it is.
-fn look_refusal(look: Look) -> Option<Fault>
-    ensures { result ≡ look_refusal look }
+fn look_refusal(limit: u32, look: Look) -> Option<Fault>
+    ensures { result ≡ look_refusal limit look }
 {
     match look {
         Look::Registers
@@ -258,21 +257,21 @@ fn look_refusal(look: Look) -> Option<Fault>
                 Some(Fault::BadRange)
             }
         }
-        Look::Next(search) | Look::Last(search) => search_refusal(search),
-        Look::Calls(stretch) => stretch_refusal(stretch),
+        Look::Next(search) | Look::Last(search) => search_refusal(limit, search),
+        Look::Calls(stretch) => stretch_refusal(limit, stretch),
     }
 }
 
 /// Returns the look that a line asks for, or why it is rejected.
 #[tactic(auto, unfolding(crate::specs::Looks::asked))]
-pub fn asked(line: &[u8]) -> Result<Look, Fault>
-    ensures asked { result ≡ asked line.now }
-    ensures taken { IfOk result (λ look. look_refusal look ≡ None) }
+pub fn asked(limit: u32, line: &[u8]) -> Result<Look, Fault>
+    ensures asked { result ≡ asked limit line.now }
+    ensures taken { IfOk result (λ look. look_refusal limit look ≡ None) }
 {
     let Some(look) = look_among(Parts::new(line, b' ')) else {
         return Err(Fault::BadCommand);
     };
-    match look_refusal(look) {
+    match look_refusal(limit, look) {
         Some(fault) => Err(fault),
         None => Ok(look),
     }

@@ -13,7 +13,7 @@ use Rattle.replay_session.specs.Session.{Finds, happened_of, IsSidesOf, IsVerdic
 use Rattle.replay_session.specs.Texts.{last_text}
 use Rattle.replay_session.specs.Turns.{Turn, accepted_as}
 use Rattle.run_values.specs.declared.alteration.Alteration.{Alteration}
-use Rattle.scenario.specs.Scenario.{Scenario, chosen_state}
+use Rattle.scenario.specs.Scenario.{Scenario, chosen_state, limit_of}
 use Rattle.commands.specs.Commands.{parsed}
 use Rattle.commands.specs.declared.command.Command.{Command}
 use Rattle.commands.specs.declared.command.Command.TheVariants.{Edit}
@@ -58,7 +58,7 @@ Tells sc (Calls stretch) text = text ≡ calls_text (take most_happened (happene
 -- how a look at a step moves the work: as a report there does. A verdict executes further steps to find the first use.
 -- A look at sides moves none, and one at what happens in steps moves it as a report at the end of those steps does
 abbrev pub LookMoves : Look → ℕ → Work → Work → Type 0
-LookMoves Certify n old new = new.last ≡ reached old.last n
+LookMoves Certify n old new = (new.last ≡ reached old.apart old.last n) × (new.apart ≡ old.apart)
 LookMoves (Sides range) n old new = new ≡ old
 LookMoves (Calls stretch) n old new = ReportMoves (min stretch.end n) old new
 LookMoves look n old new = ReportMoves n old new
@@ -91,17 +91,17 @@ giving (Err fault) = Err fault
 
 -- the command as which any line is read that doesn't look: one that alters, one that gives the input bytes, or one of a
 -- session
-unfoldable pub read_as : List ℕ → Result Command Fault
-read_as line =
-    if alters line then marking (alteration_asked line)
+unfoldable pub read_as : ℕ → List ℕ → Result Command Fault
+read_as limit line =
+    if alters line then marking (alteration_asked limit line)
     else if gives line then giving (edit_asked line)
     else parsed line
 
 -- the reply to a line that looks is this, and to any other the one of a session to what it is read as
 abbrev pub Views : Stage → List ℕ → List ℕ → Stage → Type 0
 Views old line text new =
-    MatchBool (looks old.turn line) (Looked old (asked line) text new)
-    (RepliesAs old (accepted_as old.turn line (read_as line)) text new)
+    MatchBool (looks old.turn line) (Looked old (asked (limit_of old.turn.scenario) line) text new)
+    (RepliesAs old (accepted_as old.turn line (read_as (limit_of old.turn.scenario) line)) text new)
 
 -- the replies to one line after another, up to the first that is rejected because there were too many
 abbrev pub ViewsLines : Stage → List (List ℕ) → List (List ℕ) → Type 0

@@ -2,6 +2,7 @@
 ghost use Rattle.std.specs.Prelude.{◌≡◌, [], None, OnOk, true};
 ghost use Rattle.checkpoints.specs.Trails.{is_short};
 ghost use Rattle.replay_session.specs.Session.{scenario_of, trail_of, turn_of};
+ghost use Rattle.scenario.specs.Scenario.{limit_of};
 ghost use Rattle.replay_session.specs.Work.{work_on};
 ghost use Rattle.look_lines.specs.Looks.{look_refusal};
 ghost use Rattle.looks.specs.Views.{giving, LookMoves, looks, marking, Tells};
@@ -35,7 +36,7 @@ fn giving(asked: Result<Edit, Fault>) -> Result<Command, Fault>
 
 /// Writes the reply to a look into an empty text.
 fn show(session: &mut Session<'_>, look: Look, text: &mut Vec<u8>) -> Result<(), AllocError>
-    requires taken { look_refusal look ≡ None }
+    requires taken { look_refusal (limit_of (scenario_of session.old)) look ≡ None }
     requires empty { text.old.items ≡ [] }
     ensures tells { OnOk result (Tells (scenario_of session.old) look text.new.items) }
     ensures turn { turn_of session.new ≡ turn_of session.old }
@@ -149,7 +150,7 @@ impl<'a> Viewer<'a> {
     /// Replies to a look.
     #[tactic(auto, unfolding(crate::specs::Views::reply_of))]
     fn show(&mut self, look: Look)
-        requires { look_refusal look ≡ None }
+        requires { look_refusal (limit_of (scenario_of self.old.session)) look ≡ None }
         ensures { Looked (stage_of self.old.session) (Ok look) (reply_of self.new) (stage_of self.new.session) }
     {
         self.shown.clear();
@@ -161,9 +162,9 @@ impl<'a> Viewer<'a> {
 
     /// Answers a line that looks.
     fn look(&mut self, line: &[u8])
-        ensures { Looked (stage_of self.old.session) (asked line.now) (reply_of self.new) (stage_of self.new.session) }
+        ensures { Looked (stage_of self.old.session) (asked (limit_of (scenario_of self.old.session)) line.now) (reply_of self.new) (stage_of self.new.session) }
     {
-        match asked(line) {
+        match asked(self.session.limit(), line) {
             Ok(look) => self.show(look),
             Err(fault) => self.refuse(fault),
         }
@@ -172,10 +173,11 @@ impl<'a> Viewer<'a> {
     /// Answers a line that alters the machine at a step: as a session answers an edit.
     #[tactic(auto, unfolding(crate::specs::Views::reply_of))]
     fn alter(&mut self, line: &[u8])
-        ensures { RepliesAs (stage_of self.old.session) (accepted_as (turn_of self.old.session) line.now (marking (alteration_asked line.now))) (reply_of self.new) (stage_of self.new.session) }
+        ensures { RepliesAs (stage_of self.old.session) (accepted_as (turn_of self.old.session) line.now (marking (alteration_asked (limit_of (scenario_of self.old.session)) line.now))) (reply_of self.new) (stage_of self.new.session) }
     {
+        let asked = alteration_asked(self.session.limit(), line);
         self.texts
-            .answer_as(&mut self.session, line, marking(alteration_asked(line)));
+            .answer_as(&mut self.session, line, marking(asked));
         self.is_shown = false;
     }
 

@@ -15,7 +15,7 @@ use Rattle.scenario.specs.Edits.{row}
 use Rattle.scenario.specs.Scenario.{Scenario}
 use Rattle.replay_session.specs.Turns.{Turn, accepted, applied}
 use Rattle.replay_session.specs.Session.{TakesMemory}
-use Rattle.replay_session.specs.Stages.{Stage, fresh}
+use Rattle.replay_session.specs.Stages.{Stage, fresh_apart}
 use Rattle.replay_session.specs.Work.{LineMoves, MayShorten}
 use Rattle.commands.specs.declared.command.Command.{Command}
 use Rattle.commands.specs.declared.command.Command.TheVariants.{Edit, Worked}
@@ -98,12 +98,12 @@ told stage next line text asks (inr wants, moves, shortens) =
     absurd (subst P asks wants.0)
 
 pub tells_work : TellsWork
-tells_work turn lines replies stage next line text leads wanted whole asks answered =
+tells_work s turn lines replies stage next line text pos leads wanted whole asks answered =
     let is = told stage next line text asks answered in
     let short : next.short ≡ stage.short = subst
     (λ (r : Result Command Fault). MayShorten stage.turn.scenario r stage.short next.short) asks answered.2 in
     let moved = subst (λ (r : Result Command Fault). LineMoves stage.turn.scenario r stage.work next.work) asks
     (answered.1 (no-refusal next.work.made text is) (short ∙ whole)) in
-    let made = made_by_lines turn lines stage.work
-    (lines-moved (fresh turn) stage lines replies leads wanted whole).1 in
-    (made.0, made.1, is ∙ ap worked_line (moved.1 ∙ made.2))
+    let made = made_by_lines s turn lines stage.work pos
+    (lines-moved (fresh_apart s turn) stage lines replies leads wanted whole).1 in
+    (made.0, made.1, is ∙ ap worked_line (moved.0.1 ∙ made.2))

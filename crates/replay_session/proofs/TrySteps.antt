@@ -1,5 +1,5 @@
 -- What edits that give the input bytes leave, and what is known of a run to which such an edit leads.
-use Rattle.std.proofs.Common.{◌≡◌, ℕ, Bool, true, false, List, length, refl, sym, cond, nat_lt}
+use Rattle.std.proofs.Common.{◌≡◌, ◌≤◌, ℕ, arith, Bool, true, false, List, length, refl, sym, cond, nat_lt}
 use Rattle.std.proofs.Math.Path.{transport}
 use Rattle.checkpoints.specs.Effects.{IsOfSetup, LeadsTo, Run}
 use Rattle.checkpoints.specs.declared.effect.Effect.{Effect}
@@ -11,7 +11,7 @@ use Rattle.commands.specs.declared.edit.Edit.TheVariants.{Unmark, Switch, Add, C
 use Rattle.guest_machine.specs.declared.setup.Setup.{Setup}
 use Rattle.run_values.specs.declared.alteration.Alteration.{Alteration}
 use Rattle.scenario.specs.Edits.{alike, input_effect, row, with_input}
-use Rattle.scenario.specs.Scenario.{Scenario, first_state, run_of}
+use Rattle.scenario.specs.Scenario.{Scenario, first_state, limit_of, run_of}
 use Rattle.replay_session.specs.Trying.{GivesInput}
 
 -- where another input shows, only the setup changes
@@ -52,6 +52,28 @@ same-step sc (Callers n) = refl
 same-step sc (Redzone n) = refl
 same-step sc (Volume n) = refl
 same-step sc (Show kinds) = refl
+
+-- an edit leaves the greatest step, too
+same-limit : (sc : Scenario) (edit : Edit) → (row sc edit).after.limit ≡ sc.limit
+same-limit sc (Input offset byte) = refl
+same-limit sc (Append byte) = refl
+same-limit sc Cut = refl
+same-limit sc (Overwrite offset bytes) = refl
+same-limit sc (Give bytes) = refl
+same-limit sc (Patch addr word) = refl
+same-limit sc (PatchHalf addr half) = refl
+same-limit sc (Mark mark) = refl
+same-limit sc (Unmark index) = refl
+same-limit sc (Switch index on) = refl
+same-limit sc (Add rule) = refl
+same-limit sc (Callers n) = refl
+same-limit sc (Redzone n) = refl
+same-limit sc (Volume n) = refl
+same-limit sc (Show kinds) = refl
+
+pub stays-near : (sc : Scenario) (edit : Edit) → sc.step ≤ limit_of sc
+    → (row sc edit).after.step ≤ limit_of (row sc edit).after
+stays-near sc edit near = omega (arith, near, same-step sc edit, same-limit sc edit)
 
 -- what holds of each run that an effect leads to holds of a scenario's run
 pub led : (effect : Effect) (one : Run) (sc : Scenario) (setup : Setup) (marks : List Alteration) (step : ℕ)

@@ -1,12 +1,13 @@
 -- How many steps lines cost, by the list of lines only: where machines are held when a line is given, and from which of
 -- them a report continues. No trail is in it.
-use Rattle.std.specs.Prelude.{◌≡◌, ℕ, ◌+◌, ◌-◌, ◌%◌, ◌≤◌, ◌⊎◌, ◌↔◌, false, List, [], ◌∷◌, ◌++◌, Result, Ok, length, min}
+use Rattle.std.specs.Prelude.{◌≡◌, ℕ, ◌+◌, ◌-◌, ◌%◌, ◌<◌, ◌≤◌, ◌⊎◌, ◌↔◌, false, List, [], ◌∷◌, ◌++◌, Result, Ok}
+use Rattle.std.specs.Prelude.{length, min}
 use Rattle.std.specs.List.{All}
 use Rattle.checkpoints.specs.FirstEffects.{IsBelowFirst}
-use Rattle.replay_session.specs.Turns.{Turn, accepted, applied}
 use Rattle.checkpoints.specs.Work.{Work}
+use Rattle.replay_session.specs.Turns.{Turn, accepted, applied}
 use Rattle.replay_session.specs.Replies.{Answers, HadMemory, Replies, worked_line}
-use Rattle.replay_session.specs.Stages.{Stage, fresh}
+use Rattle.replay_session.specs.Stages.{Stage, fresh_apart}
 use Rattle.replay_session.specs.Work.{ShowsAt, LineMoves, no_work}
 use Rattle.commands.specs.declared.fault.Fault.{Fault}
 use Rattle.commands.specs.declared.command.Command.{Command}
@@ -39,25 +40,27 @@ abbrev pub IsKept : List Given → ℕ → Type 0
 IsKept [] h = ⊥
 IsKept (line ∷ later) h = (Reaches h line × All (Spares h) later) ⊎ IsKept later h
 
--- a machine is held at a step after these lines: at 0, and at each multiple of 1024 that was reached and kept
-abbrev pub IsHeldAfter : List Given → ℕ → Type 0
-IsHeldAfter lines h = (h % 1024 ≡ 0) × ((h ≡ 0) ⊎ IsKept lines h)
+-- a machine is held at a step after these lines: at 0, and at each multiple of their distance that was
+-- reached and kept
+abbrev pub IsHeldAfter : ℕ → List Given → ℕ → Type 0
+IsHeldAfter s lines h = (h % s ≡ 0) × ((h ≡ 0) ⊎ IsKept lines h)
 
 -- the last of these steps that isn't above n
-abbrev pub IsLastHeld : List Given → ℕ → ℕ → Type 0
-IsLastHeld lines n h = IsHeldAfter lines h × (h ≤ n) × ((k : ℕ) → IsHeldAfter lines k → k ≤ n → k ≤ h)
+abbrev pub IsLastHeld : ℕ → List Given → ℕ → ℕ → Type 0
+IsLastHeld s lines n h = IsHeldAfter s lines h × (h ≤ n) × ((k : ℕ) → IsHeldAfter s lines k → k ≤ n → k ≤ h)
 
 -- the number of steps that an outcome adds after some lines: for a report at step n, those from the last held step that
 -- isn't above n, and for all else none
-abbrev pub Adds : List Given → Turn → Result Command Fault → ℕ → Type 0
-Adds past turn (Ok Report) steps = (h : ℕ) × IsLastHeld past turn.scenario.step h × (steps ≡ turn.scenario.step - h)
-Adds past turn outcome steps = steps ≡ 0
+abbrev pub Adds : ℕ → List Given → Turn → Result Command Fault → ℕ → Type 0
+Adds s past turn (Ok Report) steps =
+    (h : ℕ) × IsLastHeld s past turn.scenario.step h × (steps ≡ turn.scenario.step - h)
+Adds s past turn outcome steps = steps ≡ 0
 
 -- the number of steps that lines add, one after another, after those before them
-abbrev pub AddUp : List Given → List Given → ℕ → Type 0
-AddUp past [] steps = steps ≡ 0
-AddUp past (given ∷ later) steps =
-    (first rest : ℕ) × Adds past given.turn (outcome_of given) first × AddUp (past ++ given ∷ []) later rest
+abbrev pub AddUp : ℕ → List Given → List Given → ℕ → Type 0
+AddUp s past [] steps = steps ≡ 0
+AddUp s past (given ∷ later) steps =
+    (first rest : ℕ) × Adds s past given.turn (outcome_of given) first × AddUp s (past ++ given ∷ []) later rest
     × (steps ≡ first + rest)
 
 -- lines move the work, one after another
@@ -69,16 +72,18 @@ LinesMove turn (line ∷ lines) old new =
 -- the law of held machines: after any lines, they are held up to the last step that the work has, at each step that the
 -- list of lines says and at no other
 abbrev pub HeldByLines : Type 0
-HeldByLines = (turn : Turn) (lines : List (List ℕ)) (work : Work) → LinesMove turn lines no_work work
-    → (h : ℕ) → h % 1024 ≡ 0 → (h ≤ work.last) ↔ IsHeldAfter (given_from turn lines) h
+HeldByLines = (s : ℕ) (turn : Turn) (lines : List (List ℕ)) (work : Work) → 0 < s
+    → LinesMove turn lines (no_work s) work
+    → (h : ℕ) → h % s ≡ 0 → (h ≤ work.last) ↔ IsHeldAfter s (given_from turn lines) h
 
 -- the law of work: the steps executed are those that the list of lines says, and it says one number
 abbrev pub MadeByLines : Type 0
-MadeByLines = (turn : Turn) (lines : List (List ℕ)) (work : Work) → LinesMove turn lines no_work work
-    → (steps : ℕ) × AddUp [] (given_from turn lines) steps × (work.made ≡ min steps 18446744073709551615)
+MadeByLines = (s : ℕ) (turn : Turn) (lines : List (List ℕ)) (work : Work) → 0 < s
+    → LinesMove turn lines (no_work s) work
+    → (steps : ℕ) × AddUp s [] (given_from turn lines) steps × (work.made ≡ min steps 18446744073709551615)
 
 abbrev pub WorkIsOne : Type 0
-WorkIsOne = (past lines : List Given) (m n : ℕ) → AddUp past lines m → AddUp past lines n → m ≡ n
+WorkIsOne = (s : ℕ) (past lines : List Given) (m n : ℕ) → AddUp s past lines m → AddUp s past lines n → m ≡ n
 
 -- lines were answered one after another, from a stage to a stage
 abbrev pub Leads : Stage → List (List ℕ) → List (List ℕ) → Stage → Type 0
@@ -96,7 +101,7 @@ AnswersLead =
 -- the law of `worked`: after lines of which none was answered `refused 1`, and if the trail isn't short, it prints the
 -- steps that the list of lines says
 abbrev pub TellsWork : Type 0
-TellsWork = (turn : Turn) (lines replies : List (List ℕ)) (stage next : Stage) (line text : List ℕ)
-    → Leads (fresh turn) lines replies stage → All HadMemory replies → stage.short ≡ false
+TellsWork = (s : ℕ) (turn : Turn) (lines replies : List (List ℕ)) (stage next : Stage) (line text : List ℕ)
+    → 0 < s → Leads (fresh_apart s turn) lines replies stage → All HadMemory replies → stage.short ≡ false
     → accepted stage.turn line ≡ Ok Worked → Replies stage line text next
-    → (steps : ℕ) × AddUp [] (given_from turn lines) steps × (text ≡ worked_line (min steps 18446744073709551615))
+    → (steps : ℕ) × AddUp s [] (given_from turn lines) steps × (text ≡ worked_line (min steps 18446744073709551615))

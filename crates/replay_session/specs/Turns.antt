@@ -7,7 +7,7 @@ use Rattle.line_protocol.specs.Lines.{longest_line}
 use Rattle.suppressions.specs.Rules.{Rule}
 use Rattle.scenario.specs.Edits.{row}
 use Rattle.scenario.specs.Limits.{most_steps}
-use Rattle.scenario.specs.Scenario.{Scenario, begun, at_step}
+use Rattle.scenario.specs.Scenario.{Scenario, at_step, begun_within, limit_of}
 use Rattle.commands.specs.Commands.{parsed}
 use Rattle.commands.specs.Faults.{fault_of}
 use Rattle.commands.specs.declared.command.Command.{Command}
@@ -26,7 +26,7 @@ most_lines = 100000
 
 -- why a command is rejected, if it is: a step above the limit, and an edit as its row says
 abbrev pub command_refusal : Scenario → Command → Option Fault
-command_refusal sc (Goto n) = if nat_lt most_steps n then Some StepLimit else None
+command_refusal sc (Goto n) = if nat_lt (limit_of sc) n then Some StepLimit else None
 command_refusal sc (Edit edit) = option_map fault_of (row sc edit).refusal
 command_refusal sc Report = None
 command_refusal sc Worked = None
@@ -86,6 +86,10 @@ applied_as turn outcome = passed turn (after turn.scenario outcome)
 abbrev pub applied : Turn → List ℕ → Turn
 applied turn line = applied_as turn (accepted turn line)
 
--- what a session of a program, an input and suppressions begins with
+-- what a session of a program, an input and suppressions begins with, by the greatest step that may be chosen, and with
+-- the usual one
+abbrev pub opening_within : ℕ → Image → List ℕ → List Rule → Turn
+opening_within limit image input rules = record { scenario = begun_within limit image input rules; lines = 0 }
+
 abbrev pub opening : Image → List ℕ → List Rule → Turn
-opening image input rules = record { scenario = begun image input rules; lines = 0 }
+opening image input rules = opening_within most_steps image input rules

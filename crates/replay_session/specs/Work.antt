@@ -2,7 +2,7 @@
 use Rattle.std.specs.Prelude.{◌≡◌, ℕ, Bool, false, List, Result, Ok, Err}
 use Rattle.checkpoints.specs.Edits.{MayShorten as ShortenedBy}
 use Rattle.checkpoints.specs.Effects.{EffectShows}
-use Rattle.checkpoints.specs.Trails.{last_held, meter_of, is_short}
+use Rattle.checkpoints.specs.Trails.{last_held, meter_of, is_short, spacing_of}
 use Rattle.checkpoints.specs.Work.{Work, ReportMoves, EditMoves, LeavesWork}
 use Rattle.checkpoints.specs.declared.trail.Trail.{Trail}
 use Rattle.scenario.specs.Edits.{row}
@@ -23,11 +23,11 @@ ShowsAt sc _ k = ⊥
 
 -- how far the work on a trail has come
 abbrev pub work_on : Trail → Work
-work_on trail = record { last = last_held trail; made = meter_of trail }
+work_on trail = record { apart = spacing_of trail; last = last_held trail; made = meter_of trail }
 
--- what a session begins with
-abbrev pub no_work : Work
-no_work = record { last = 0; made = 0 }
+-- what a session begins with, whose machines are held this many steps apart
+abbrev pub no_work : ℕ → Work
+no_work s = record { apart = s; last = 0; made = 0 }
 
 -- a report moves the work by the steps that it executed, each other command by its first effect, if it has one
 abbrev pub MovesWork : Scenario → Command → Work → Work → Type 0

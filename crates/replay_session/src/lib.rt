@@ -111,7 +111,7 @@ mod trying;
 pub use commands::{BeginFault, Fault, number};
 pub use line_protocol::{READS, Sent, ServeFault, send};
 pub use reply::Reply;
-pub use scenario::{LONGEST_INPUT, MOST_STEPS, setup_with};
+pub use scenario::{FURTHEST_STEP, LONGEST_INPUT, MOST_STEPS, setup_with};
 pub use serving::reply_texts::Texts;
 pub use serving::serve;
 pub use session::Session;

@@ -3,13 +3,12 @@ ghost use Rattle.std.specs.Prelude.{◌≡◌, ◌≤◌};
 ghost use Rattle.checkpoints.specs.Edits.{IsRightForRun};
 ghost use Rattle.checkpoints.specs.OneProof.{right-prop};
 ghost use Rattle.checkpoints.specs.Trails.{LoadsAs};
-ghost use Rattle.scenario.specs.Limits.{most_steps};
-ghost use Rattle.scenario.specs.Scenario.{run_of};
+ghost use Rattle.scenario.specs.Scenario.{limit_of, run_of};
 
 use crate::reply::Reply;
 use crate::trying::{Compared, ForkPoint, Tried, compare_edit, try_edit};
 use checkpoints::laws::keeps_lower;
-use checkpoints::{Effect, Happened, Sides, Sought, Trail};
+use checkpoints::{Effect, Happened, Sides, Sought, Trail, spacing_for};
 use clean_reports::{certify, push_verdict};
 use commands::{BeginFault, Command, Edit, Fault, parse};
 use guest_elf::Image;
@@ -31,7 +30,7 @@ pub struct Session<'a> {
     trail: Trail,
     ghost loads: { LoadsAs trail scenario.image },
     ghost right: { IsRightForRun trail (run_of scenario) } by { right-prop trail (run_of scenario) },
-    ghost near: { scenario.step ≤ most_steps },
+    ghost near: { scenario.step ≤ limit_of scenario },
     lines: u32,
 }
 
@@ -45,14 +44,15 @@ impl<'a> Session<'a> {
     ghost use Rattle.checkpoints.specs.Work.{ForkMoves, ReportMoves, reached};
     ghost use Rattle.replay_report.specs.Report.{AppendsReport};
     ghost use Rattle.scenario.specs.Edits.{row, IsTaken};
-    ghost use Rattle.scenario.specs.Limits.{longest_input, most_steps};
+    ghost use Rattle.scenario.specs.Limits.{furthest_step, longest_input};
     ghost use Rattle.guest_machine.specs.Shows.{Shows};
-    ghost use Rattle.scenario.specs.Scenario.{IsReportOf, chosen_state};
+    ghost use Rattle.checkpoints.specs.Work.{spacing_for};
+    ghost use Rattle.scenario.specs.Scenario.{IsReportOf, chosen_state, limit_of};
     ghost use Rattle.commands.specs.Commands.{Reads};
     ghost use Rattle.replay_session.specs.Replies.{is_over};
     ghost use Rattle.replay_session.specs.Session.{Carried, Finds, happened_of, IsSidesOf, IsVerdictOf, Meets, MeetsAs, scenario_of, turn_of, trail_of, work_of};
     ghost use Rattle.replay_session.specs.Trying.{GivesInput, IsCompared, IsForkPoint, IsTried};
-    ghost use Rattle.replay_session.specs.Turns.{accepted, accepted_as, changed, command_refusal, counted, if_command, line_refusal, opening, passed};
+    ghost use Rattle.replay_session.specs.Turns.{accepted, accepted_as, changed, command_refusal, counted, if_command, line_refusal, opening, opening_within, passed};
     ghost use Rattle.replay_session.specs.Work.{MayShorten, MovesWork, Works, WorksAs, WorksLine, work_on, no_work};
 
     /// Returns the session of a program with an input and suppressions, without edits and with step 0 chosen. A failure drops the
@@ -65,15 +65,33 @@ impl<'a> Session<'a> {
         suppressions: Vec<Suppression>,
     ) -> Result<Self, BeginFault>
         ensures ok { IfOk result (λ session. turn_of session ≡ opening image.entry input.items suppressions.items) }
-        ensures work { IfOk result (λ session. work_on (trail_of session) ≡ no_work) }
+        ensures work { IfOk result (λ session. work_on (trail_of session) ≡ no_work 1024) }
+        ensures whole { IfOk result (λ session. is_short (trail_of session) ≡ false) }
+        ensures large { (result ≡ Err BeginFault.InputTooLarge) ↔ (longest_input < length input.items) }
+    {
+        Session::begin_within(alloc, image, input, suppressions, MOST_STEPS)
+    }
+
+    /// The same, with another greatest step that may be chosen or marked. The greater it is, the further apart machines are held.
+    #[tactic(auto, unfolding(crate::specs::Session::turn_of, crate::specs::Session::trail_of))]
+    pub fn begin_within(
+        alloc: Global,
+        image: Image<'a>,
+        input: Vec<u8>,
+        suppressions: Vec<Suppression>,
+        limit: u32,
+    ) -> Result<Self, BeginFault>
+        requires { limit ≤ furthest_step }
+        ensures ok { IfOk result (λ session. turn_of session ≡ opening_within limit image.entry input.items suppressions.items) }
+        ensures work { IfOk result (λ session. work_on (trail_of session) ≡ no_work (spacing_for limit)) }
         ensures whole { IfOk result (λ session. is_short (trail_of session) ≡ false) }
         ensures large { (result ≡ Err BeginFault.InputTooLarge) ↔ (longest_input < length input.items) }
     {
         if input.len() > LONGEST_INPUT {
             return Err(BeginFault::InputTooLarge);
         }
-        let trail = Trail::begin(alloc, &image)?;
-        let scenario = Scenario::begin(alloc, image, input, suppressions)?;
+        let trail = Trail::begin_apart(alloc, &image, spacing_for(limit))?;
+        let scenario = Scenario::begin_within(alloc, image, input, suppressions, limit)?;
         Ok(Session {
             alloc,
             scenario,
@@ -118,7 +136,7 @@ impl<'a> Session<'a> {
     {
         match command {
             Command::Goto(step) => {
-                if *step > MOST_STEPS {
+                if *step > self.scenario.limit() {
                     Some(Fault::StepLimit)
                 } else {
                     None
@@ -192,7 +210,7 @@ impl<'a> Session<'a> {
     /// Chooses a step.
     #[tactic(auto, unfolding(crate::specs::Session::turn_of, crate::specs::Session::trail_of))]
     fn choose(&mut self, step: u32)
-        requires { step ≤ most_steps }
+        requires { step ≤ limit_of (scenario_of self.old) }
         ensures turn { turn_of self.new ≡ record (turn_of self.old) { scenario = changed (turn_of self.old).scenario (Command.Goto step) } }
         ensures trail { trail_of self.new ≡ trail_of self.old }
     {
@@ -412,6 +430,14 @@ impl<'a> Session<'a> {
         compare_edit(self.alloc, &mut self.scenario, edit, &fork_point.fork, most)
     }
 
+    /// Returns the greatest step that may be chosen or marked.
+    #[tactic(auto, unfolding(crate::specs::Session::turn_of))]
+    pub fn limit(&self) -> u32
+        ensures { result ≡ limit_of (scenario_of self.now) }
+    {
+        self.scenario.limit()
+    }
+
     /// Returns the number of bytes of the input.
     #[tactic(auto, unfolding(crate::specs::Session::turn_of))]
     pub fn input_len(&self) -> u64
@@ -434,7 +460,8 @@ impl<'a> Session<'a> {
     pub fn certify(&mut self, out: &mut Vec<u8>) -> Result<(), AllocError>
         ensures turn { turn_of self.new ≡ turn_of self.old }
         ensures tells { OnOk result (AppendsReport (IsVerdictOf (scenario_of self.old)) out.old.items out.new.items) }
-        ensures work { OnOk result ((work_on (trail_of self.new)).last ≡ reached (work_on (trail_of self.old)).last (scenario_of self.old).step) }
+        ensures work { OnOk result (((work_on (trail_of self.new)).last ≡ reached (work_on (trail_of self.old)).apart (work_on (trail_of self.old)).last (scenario_of self.old).step)
+            × ((work_on (trail_of self.new)).apart ≡ (work_on (trail_of self.old)).apart)) }
         ensures short { is_short (trail_of self.new) ≡ is_short (trail_of self.old) }
     {
         let verdict = certify(

@@ -20,9 +20,9 @@ use Rattle.checkpoints.specs.Effects.{LeadsTo, code_effect}
 use Rattle.checkpoints.specs.declared.effect.Effect.{Effect}
 use Rattle.checkpoints.specs.declared.effect.Effect.TheVariants.{Nowhere, After, Input as InputFrom, End, Heap}
 use Rattle.checkpoints.specs.declared.effect.Effect.TheVariants.{Patch as PatchAt, Anew}
-use Rattle.scenario.specs.Limits.{longest_input, most_steps, most_marks, longest_mark, most_callers, largest_redzone}
+use Rattle.scenario.specs.Limits.{longest_input, most_marks, longest_mark, most_callers, largest_redzone}
 use Rattle.scenario.specs.Limits.{largest_volume}
-use Rattle.scenario.specs.Scenario.{Scenario, run_of}
+use Rattle.scenario.specs.Scenario.{Scenario, limit_of, run_of}
 use Rattle.commands.specs.declared.edit.Edit.{Edit}
 use Rattle.commands.specs.declared.edit.Edit.TheVariants.{Input, Append, Cut, Patch, Mark, Unmark, Switch, Add, Callers}
 use Rattle.commands.specs.declared.edit.Edit.TheVariants.{PatchHalf, Redzone, Volume, Show, Overwrite, Give}
@@ -49,10 +49,11 @@ is_bad_range (Write addr width value) = nat_lt (2 ^ 32) (addr + width_len width)
 is_bad_range (Turn addr mask) = nat_lt (2 ^ 32) (addr + 4)
 is_bad_range _ = false
 
--- why a mark is rejected for this number of marks so far, in order: its step, its range, too many marks
-unfoldable pub mark_refusal : ℕ → Alteration → Option Refusal
-mark_refusal marks mark =
-    if nat_lt most_steps mark.step then Some StepLimit
+-- why a mark is rejected up to this step and for this number of marks so far, in order: its step, its range, too many
+-- marks
+unfoldable pub mark_refusal : ℕ → ℕ → Alteration → Option Refusal
+mark_refusal limit marks mark =
+    if nat_lt limit mark.step then Some StepLimit
     else if is_bad_range mark.act then Some BadRange
     else if nat_le most_marks marks then Some TooManyMarks
     else None
@@ -176,7 +177,7 @@ row sc (PatchHalf addr half) = record {
   back = None;
 }
 row sc (Mark mark) = record {
-  refusal = mark_refusal (length sc.marks) mark;
+  refusal = mark_refusal (limit_of sc) (length sc.marks) mark;
   after = record sc { marks = sc.marks ++ mark ∷ [] };
   effect = After mark.step;
   may_fail = true;

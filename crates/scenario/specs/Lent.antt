@@ -11,4 +11,5 @@ lent s = record {
   rules = s.suppressions.now;
   options = s.options.now;
   step = s.step;
+  limit = s.limit;
 }

@@ -7,9 +7,12 @@ use Rattle.call_stacks.specs.Frames.{longest_trace}
 abbrev pub longest_input : ℕ
 longest_input = 1048576
 
--- the greatest step that may be chosen or marked
+-- the greatest step that may be chosen or marked where no other is named, and the greatest that may be named
 abbrev pub most_steps : ℕ
 most_steps = 4194304
+
+abbrev pub furthest_step : ℕ
+furthest_step = 2147483647
 
 -- the greatest number of marks at one time, and of bytes of a mark
 abbrev pub most_marks : ℕ

@@ -1,5 +1,5 @@
 -- A run as a user has set it up, and its report. Nothing of earlier reports is in it.
-use Rattle.std.specs.Prelude.{ℕ, Bool, true, false, List, [], ◌∷◌, fold, length}
+use Rattle.std.specs.Prelude.{ℕ, Bool, true, false, List, [], ◌∷◌, fold, length, max, min}
 use Rattle.guest_elf.specs.declared.image.Image.{Image}
 use Rattle.guest_machine.specs.State.{State}
 use Rattle.guest_machine.specs.Run.{start_state, poked, post}
@@ -10,11 +10,12 @@ use Rattle.replay_report.specs.Report.{IsReport}
 use Rattle.replay_report.specs.declared.options.Options.{Options}
 use Rattle.suppressions.specs.Rules.{Rule}
 use Rattle.checkpoints.specs.Effects.{Run}
+use Rattle.scenario.specs.Limits.{furthest_step, most_steps}
 use Rattle.scenario.specs.Setups.{setup_with}
 use Rattle.scenario.specs.declared.written.Written.{Written}
 
 -- a program with the words and halves that were written into it, its input and heap settings, the marks, the
--- suppressions with their switches, the options of the report and the chosen step
+-- suppressions with their switches, the options of the report, the chosen step, and the greatest that may be chosen
 pub record Scenario : Type 0 where
   pub image : Image
   pub words : List Written
@@ -23,6 +24,11 @@ pub record Scenario : Type 0 where
   pub rules : List Rule
   pub options : Options
   pub step : ℕ
+  pub limit : ℕ
+
+-- the greatest step that may be chosen or marked
+abbrev pub limit_of : Scenario → ℕ
+limit_of sc = min sc.limit furthest_step
 
 -- a state with words written into it, in order
 abbrev pub with_words : State → List Written → State
@@ -48,9 +54,13 @@ IsReportOf sc text = IsReport (chosen_state sc) sc.image sc.rules sc.options sc.
 unfoldable pub IsOutlineOf : Bool → Scenario → List ℕ → Type 0
 IsOutlineOf with_output sc text = IsOutline (chosen_state sc) sc.image sc.rules sc.options with_output text
 
+-- the greatest step that may be chosen, where this one will be
+abbrev pub limit_for : ℕ → ℕ
+limit_for step = max most_steps step
+
 -- the scenario of a program, an input and suppressions: nothing written, no marks, Memcheck's options, step 0
-abbrev pub begun : Image → List ℕ → List Rule → Scenario
-begun image input rules =
+abbrev pub begun_within : ℕ → Image → List ℕ → List Rule → Scenario
+begun_within limit image input rules =
     record {
       image = image;
       words = [];
@@ -59,7 +69,12 @@ begun image input rules =
       rules = rules;
       options = record { callers = 12; show = true ∷ false ∷ true ∷ false ∷ [] };
       step = 0;
+      limit = limit;
     }
+
+-- with the usual limit
+abbrev pub begun : Image → List ℕ → List Rule → Scenario
+begun image input rules = begun_within most_steps image input rules
 
 -- a scenario with another step chosen
 abbrev pub at_step : Scenario → ℕ → Scenario

@@ -33,6 +33,8 @@ pub struct ScenarioRef<'a> {
     pub options: &'a Options,
     /// The chosen step.
     pub step: u32,
+    /// The greatest step that may be chosen. The report doesn't depend on it.
+    pub limit: u32,
 }
 
 impl<'a> ScenarioRef<'a> {

@@ -7,7 +7,7 @@
 //!
 //! | Call | What it does |
 //! |---|---|
-//! | [`Scenario::begin`] | returns the scenario of a program with an input and suppressions, without edits, at step 0 |
+//! | [`Scenario::begin`], [`Scenario::begin_within`] | return the scenario of a program with an input and suppressions, without edits, at step 0, with the usual greatest step or another one |
 //! | [`Scenario::choose`] | chooses a step |
 //! | [`Scenario::refusal`] | returns why an edit is rejected, if it is |
 //! | [`Scenario::effect`] | returns where an edit shows in the run |
@@ -48,7 +48,7 @@ mod written;
 
 pub use commands::{Edit, Refusal};
 pub use lent::ScenarioRef;
-pub use limits::{LONGEST_INPUT, MOST_STEPS};
+pub use limits::{FURTHEST_STEP, LONGEST_INPUT, MOST_STEPS, limit_for};
 pub use scenario::Scenario;
 pub use setups::setup_with;
 pub use written::Written;

@@ -5,11 +5,12 @@ ghost use Rattle.guest_machine.specs.State.{State};
 ghost use Rattle.replay_report.specs.Outlines.{IsOutline};
 ghost use Rattle.replay_report.specs.Report.{AppendsReport};
 ghost use Rattle.scenario.specs.Lent.{lent};
-ghost use Rattle.scenario.specs.Limits.{longest_input, most_callers};
-ghost use Rattle.scenario.specs.Scenario.{IsReportOf, begun, at_step, chosen_state, first_state};
+ghost use Rattle.scenario.specs.Limits.{furthest_step, longest_input, most_callers};
+ghost use Rattle.scenario.specs.Scenario.{IsReportOf, at_step, begun, begun_within, chosen_state, first_state, limit_of};
 ghost use Rattle.scenario.specs.Edits.{with_input};
 
 use crate::lent::ScenarioRef;
+use crate::limits::MOST_STEPS;
 use crate::setups::setup_with;
 use crate::written::Written;
 use guest_elf::Image;
@@ -31,18 +32,19 @@ pub struct Scenario<'a> {
     pub(crate) suppressions: Vec<Suppression>,
     pub(crate) options: Options,
     pub(crate) step: u32,
+    pub(crate) limit: u32,
 }
 
 impl<'a> Model for Scenario<'a> {
     ghost use Rattle.std.specs.Prelude.{◌≤◌, length};
-    ghost use Rattle.scenario.specs.Limits.{longest_input, most_callers};
+    ghost use Rattle.scenario.specs.Limits.{furthest_step, longest_input, most_callers};
     ghost use Rattle.scenario.specs.Scenario.{Scenario as ScenarioOf};
 
     ghost Value = { ScenarioOf };
 
-    ghost view = { λ a. record { image = a.image; words = a.words.items; setup = a.setup; marks = a.marks.items; rules = a.suppressions.items; options = a.options; step = a.step } };
+    ghost view = { λ a. record { image = a.image; words = a.words.items; setup = a.setup; marks = a.marks.items; rules = a.suppressions.items; options = a.options; step = a.step; limit = a.limit } };
 
-    ghost invariant = { λ a. (length a.setup.input ≤ longest_input) × (1 ≤ a.options.callers) × (a.options.callers ≤ most_callers) };
+    ghost invariant = { λ a. (length a.setup.input ≤ longest_input) × (1 ≤ a.options.callers) × (a.options.callers ≤ most_callers) × (a.limit ≤ furthest_step) };
 }
 
 impl<'a> Scenario<'a> {
@@ -56,6 +58,21 @@ impl<'a> Scenario<'a> {
         requires { length input.items ≤ longest_input }
         ensures { IfOk result (λ scenario. scenario ≡ begun image.entry input.items suppressions.items) }
     {
+        Scenario::begin_within(alloc, image, input, suppressions, MOST_STEPS)
+    }
+
+    /// The same, with another greatest step that may be chosen or marked.
+    pub fn begin_within(
+        alloc: Global,
+        image: Image<'a>,
+        input: Vec<u8>,
+        suppressions: Vec<Suppression>,
+        limit: u32,
+    ) -> Result<Self, AllocError>
+        requires short { length input.items ≤ longest_input }
+        requires limit { limit ≤ furthest_step }
+        ensures { IfOk result (λ scenario. scenario ≡ begun_within limit image.entry input.items suppressions.items) }
+    {
         let setup = setup_with(alloc, &image, input)?;
         Ok(Scenario {
             alloc,
@@ -66,6 +83,7 @@ impl<'a> Scenario<'a> {
             suppressions,
             options: Options::default(),
             step: 0,
+            limit,
         })
     }
 
@@ -74,6 +92,13 @@ impl<'a> Scenario<'a> {
         ensures { result.now ≡ self.now.image }
     {
         &self.image
+    }
+
+    /// Returns the greatest step that may be chosen or marked.
+    pub fn limit(&self) -> u32
+        ensures { result ≡ limit_of self.now }
+    {
+        self.limit
     }
 
     /// Returns the setup of its run.
@@ -141,6 +166,7 @@ impl<'a> Scenario<'a> {
             suppressions: &self.suppressions,
             options: &self.options,
             step: self.step,
+            limit: self.limit,
         }
     }
 

@@ -20,7 +20,7 @@ use Rattle.memory_map.specs.Regions.{heap_begin}
 use Rattle.memory_map.specs.declared.regions.Regions.{Regions}
 use Rattle.memory_map.specs.declared.regions.StackRegion.{StackRegion}
 use Rattle.report_lines.specs.Text.{address_text, newline}
-use Rattle.scenario.specs.Scenario.{Scenario, IsOutlineOf, at_step, begun}
+use Rattle.scenario.specs.Scenario.{Scenario, IsOutlineOf, at_step, begun_within, limit_for}
 use Rattle.suppressions.specs.Rules.{Rule}
 use Rattle.sweeps.specs.Covered.{FitsPlan, HasCovered, apart_in, table_of}
 use Rattle.sweeps.specs.Covered.{range_of as table_range}
@@ -265,7 +265,7 @@ abbrev pub case_with : List ℕ → List ℕ → ProgramImage → List ℕ → L
 case_with file text image input list words named part plan = record {
   head = head_text file input text (profile_of image) words plan named part;
   with_output = words.with_output;
-  sc = at_step (begun image input list) words.step;
+  sc = at_step (begun_within (limit_for words.step) image input list) words.step;
   plan = plan;
   from = part_from plan part;
   range = range_for words.with_sides plan image;

@@ -5,8 +5,8 @@ ghost use Rattle.guest_elf.specs.Images.{profile_of};
 ghost use Rattle.sweep_plans.specs.Planned.{IsPart, part_from, part_to};
 ghost use Rattle.sweep_tables.specs.SidesLines.{range_for};
 ghost use Rattle.sweep_tables.specs.Swept.{Case, HasTable, Sweeps, Writes, case_with, head_text};
-ghost use Rattle.scenario.specs.Limits.{longest_input, most_steps};
-ghost use Rattle.scenario.specs.Scenario.{at_step, begun};
+ghost use Rattle.scenario.specs.Limits.{furthest_step, longest_input};
+ghost use Rattle.scenario.specs.Scenario.{at_step, begun_within, limit_for};
 ghost use Rattle.sweeps.specs.Covered.{HasCovered, range_of};
 ghost use Rattle.sweeps.specs.Sweeps.{HasMet, scenario_of, tells_output};
 ghost use Rattle.sweeps.specs.Tables.{rows_text};
@@ -38,9 +38,9 @@ fn begin_table<'p>(
     out: &mut Vec<u8>,
 ) -> Result<Sweep<'p>, AllocError>
     requires short { length input.items ≤ longest_input }
-    requires near { words.now.step ≤ most_steps }
+    requires near { words.now.step ≤ furthest_step }
     requires empty { out.old.items ≡ [] }
-    ensures scenario { IfOk result (λ sweep. scenario_of sweep ≡ at_step (begun image.entry input.items suppressions.items) words.now.step) }
+    ensures scenario { IfOk result (λ sweep. scenario_of sweep ≡ at_step (begun_within (limit_for words.now.step) image.entry input.items suppressions.items) words.now.step) }
     ensures output { IfOk result (λ sweep. tells_output sweep ≡ words.now.with_output) }
     ensures range { IfOk result (λ sweep. range_of sweep ≡ range_for words.now.with_sides plan.now image.entry) }
     ensures covered { IfOk result (λ sweep. HasCovered sweep []) }
@@ -101,7 +101,7 @@ fn sweep_part<'a, W: Write>(
     writer: &mut W,
 ) -> Result<(), End<'a>>
     requires short { length input.items ≤ longest_input }
-    requires near { words.now.step ≤ most_steps }
+    requires near { words.now.step ≤ furthest_step }
     requires part { IsPart part }
     ensures { Writes (case_with file.now text.now image.entry input.items suppressions.items words.now named part plan.now)
         (part_to plan.now part - part_from plan.now part) (W.contents writer.old) (W.contents writer.new) (end_of result) }
@@ -141,7 +141,7 @@ pub fn sweep_program<'a, W: Write>(
     writer: &mut W,
 ) -> Result<(), End<'a>>
     requires short { length input.items ≤ longest_input }
-    requires near { words.now.step ≤ most_steps }
+    requires near { words.now.step ≤ furthest_step }
     requires part { IsPart request.part }
     ensures { Sweeps file.now text.now image.entry input.items suppressions.items words.now request (W.contents writer.old) (W.contents writer.new) (end_of result) }
 {

@@ -16,8 +16,8 @@ use Rattle.guest_elf.specs.Profiles.{has_halves}
 use Rattle.guest_elf.specs.declared.image.Image.{Image}
 use Rattle.run_values.specs.declared.alteration.Alteration.{Alteration}
 use Rattle.scenario.specs.Edits.{half_refusal, is_bad_range, mark_refusal, refused_if, row, IsTaken, TakesBack}
-use Rattle.scenario.specs.Limits.{most_marks, most_steps}
-use Rattle.scenario.specs.Scenario.{Scenario, first_state, run_of}
+use Rattle.scenario.specs.Limits.{most_marks}
+use Rattle.scenario.specs.Scenario.{Scenario, first_state, run_of, limit_of}
 use Rattle.commands.specs.declared.edit.Edit.TheVariants.{Input}
 use Rattle.commands.specs.declared.refusal.Refusal.{Refusal}
 use Rattle.commands.specs.declared.refusal.Refusal.TheVariants.{OutsideInput, NoHalves, NotPatchable}
@@ -52,7 +52,7 @@ abbrev half-test : Scenario → ℕ → Bool
 half-test sc addr = has_halves (profile_of sc.image).isa && is_half_word sc.image addr
 
 -- what is at a place stands there, and at a step that is below the chosen one
-module _ (sc : Scenario) (plan : Plan) (near : sc.step ≤ most_steps) (none : sc.marks ≡ []) where
+module _ (sc : Scenario) (plan : Plan) (near : sc.step ≤ limit_of sc) (none : sc.marks ≡ []) where
   step-there : (code : Option Range) (step : ℕ) (s : Standing) → standing_step sc code step ≡ Some s
       → (nat_lt step sc.step ≡ true)
       × (At.Step step (state_before sc step).core.pc (is_half_next (state_before sc step)) ≡ s)
@@ -154,11 +154,11 @@ unfolding is_bad_range
 good-range (Turn addr mask) right = grind (arith, nat_tests)
 good-range _ right = refl
 
-pub glitch-taken : (sc : Scenario) (step : ℕ) (glitch : Glitch) → step ≤ most_steps → length sc.marks < most_marks
+pub glitch-taken : (sc : Scenario) (step : ℕ) (glitch : Glitch) → step ≤ limit_of sc → length sc.marks < most_marks
     → IsRight glitch → IsTaken sc (glitch_edit step glitch)
 unfolding mark_refusal
 glitch-taken sc step glitch near room right =
-    let early : nat_lt most_steps step ≡ false = grind (arith, nat_tests) in
+    let early : nat_lt (limit_of sc) step ≡ false = grind (arith, nat_tests) in
     let few : nat_le most_marks (length sc.marks) ≡ false = grind (arith, nat_tests) in
     rw (early, good-range glitch right, few) refl
 
@@ -179,9 +179,9 @@ taken sc (At.Half addr old) (Half at value) h is =
     let there = loaded-half sc addr (At.Half addr old) h in
     ap (half_refusal sc.image) is ∙ half-taken sc.image addr there.0 there.1
 taken sc (At.Step step pc short) (Once at glitch) h is =
-    glitch-taken sc at glitch (subst (λ k. k ≤ most_steps) (sym is.0) h.0) h.1 is.1
+    glitch-taken sc at glitch (subst (λ k. k ≤ limit_of sc) (sym is.0) h.0) h.1 is.1
 taken sc (At.Step step pc short) (Twice at glitch later other) h is =
-    glitch-taken sc at glitch (subst (λ k. k ≤ most_steps) (sym is.0) h.0) h.1 is.1
+    glitch-taken sc at glitch (subst (λ k. k ≤ limit_of sc) (sym is.0) h.0) h.1 is.1
 taken sc _ _ h is = absurd is
 
 -- ---- what takes it back

@@ -1,7 +1,7 @@
 -- Another run of which a table says what it has executed.
-use Rattle.std.proofs.Common.{◌≡◌, ◌⊎◌, ℕ, zero, ◌+◌, ◌*◌, ◌-◌, ◌/◌, ◌<◌, ◌≤◌, ◌||◌, Bool, true, false, List, [], ◌∷◌}
+use Rattle.std.proofs.Common.{◌≡◌, ℕ, ◌+◌, ◌*◌, ◌<◌, ◌≤◌, ◌||◌, Bool, true, false, List, [], ◌∷◌}
 use Rattle.std.proofs.Common.{◌++◌, if◌then◌else◌}
-use Rattle.std.proofs.Common.{Option, Some, None, refl, ap, sym, ◌∙◌, subst, arith, inl, inr, length, get_or}
+use Rattle.std.proofs.Common.{Some, None, refl, ap, sym, ◌∙◌, subst, arith, inl, inr, length, get_or}
 use Rattle.std.proofs.Common.{append_assoc, append-nil}
 use Rattle.std.specs.List.{All, list_any}
 use Rattle.std.specs.Prelude.{nat_lt, slice_index_or}
@@ -23,13 +23,11 @@ use Rattle.checkpoints.specs.declared.sides.Sides.{Sides}
 use Rattle.checkpoints.proofs.AlsoSteps.{covers-on, or-or}
 use Rattle.run_values.specs.declared.span.Span.{Span}
 use Rattle.scenario.specs.Edits.{row}
-use Rattle.scenario.specs.Limits.{most_steps}
-use Rattle.scenario.specs.Scenario.{Scenario, first_state}
+use Rattle.scenario.specs.Scenario.{Scenario, first_state, limit_of}
 use Rattle.sweep_plans.specs.Changes.{edit_of, second_of}
 use Rattle.sweep_plans.specs.Plans.{HasNext, changes_of, has_only_bytes, place_at}
 use Rattle.sweep_plans.specs.declared.change.Change.{Change}
 use Rattle.sweep_plans.specs.declared.change.Change.TheVariants.{Byte}
-use Rattle.sweep_plans.specs.declared.plan.SweepPlace.{SweepPlace}
 use Rattle.sweep_plans.specs.declared.plan.Plan.{Plan}
 use Rattle.sweep_plans.specs.declared.standing.Standing.{Standing}
 use Rattle.sweep_plans.specs.declared.standing.Standing.TheVariants as At
@@ -69,7 +67,7 @@ pub byte-next : (standing : Standing) → IsByte standing → HasNext standing
 byte-next (At.Byte offset old) byte = tt
 byte-next _ byte = absurd byte
 
-pub byte-at : (sc : Scenario) (plan : Plan) (standing : Standing) → sc.step ≤ most_steps → sc.marks ≡ []
+pub byte-at : (sc : Scenario) (plan : Plan) (standing : Standing) → sc.step ≤ limit_of sc → sc.marks ≡ []
     → IsByte standing → All (IsAt sc standing) (changes_of plan standing)
 byte-at sc plan standing near none byte = all-at sc plan standing near none (byte-below sc.step standing byte)
 

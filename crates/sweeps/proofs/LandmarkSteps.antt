@@ -1,19 +1,17 @@
 -- Machines that are held along a run, and runs that meet it.
-use Rattle.std.proofs.Common.{◌≡◌, ◌⊎◌, ℕ, zero, suc, ◌+◌, ◌-◌, ◌*◌, ◌/◌, ◌<◌, ◌≤◌, ◌==◌, Bool, true, false, cond}
+use Rattle.std.proofs.Common.{◌≡◌, ◌⊎◌, ℕ, ◌+◌, ◌-◌, ◌*◌, ◌/◌, ◌<◌, ◌≤◌, ◌==◌, Bool, true, false, cond}
 use Rattle.std.proofs.Common.{List, [], ◌∷◌, ◌++◌, length, Some, inl, inr, refl, ap, sym, subst, ◌∙◌, append-nil, arith}
 use Rattle.std.specs.List.{slice_get}
 use Rattle.std.proofs.lemmas.Bool.{cases_lt}
 use Rattle.std.proofs.lemmas.Bool.Decides.{nat_tests}
-use Rattle.std.proofs.lemmas.Option.{same_Some}
 use Rattle.std.proofs.Math.Path.{transport}
 use Rattle.checkpoints.specs.Effects.{LeadsTo, Run}
 use Rattle.checkpoints.specs.Forks.{IsForkFor, ShowsEdited}
 use Rattle.checkpoints.specs.declared.effect.Effect.{Effect}
 use Rattle.checkpoints.specs.declared.forks.Fork.{Fork}
-use Rattle.checkpoints.proofs.MarkSteps.{after-no_marks, after-none, made-until}
-use Rattle.guest_machine.specs.Exec.{exec}
+use Rattle.checkpoints.proofs.MarkSteps.{after-no_marks, made-until}
 use Rattle.pruning.proofs.ApartSteps.{steps-on}
-use Rattle.pruning.proofs.CourseSteps.{get-push, get-within}
+use Rattle.pruning.proofs.CourseSteps.{get-push}
 use Rattle.guest_machine.specs.Run.{marks_at, post, pre}
 use Rattle.guest_machine.specs.Shows.{Shows}
 use Rattle.guest_machine.specs.State.{State}

@@ -5,8 +5,8 @@ use Rattle.std.specs.List.{All, flat_map}
 use Rattle.std.proofs.lemmas.Bool.Decides.{nat_tests}
 use Rattle.std.proofs.lemmas.List.Elements.{All-append, All-cons, All-head, All-map, All-nil, All-push, All-tail}
 use Rattle.std.proofs.lemmas.List.Elements.{All-weaker}
-use Rattle.scenario.specs.Limits.{most_steps}
-use Rattle.scenario.specs.Scenario.{Scenario}
+use Rattle.scenario.specs.Limits.{furthest_step}
+use Rattle.scenario.specs.Scenario.{Scenario, limit_of}
 use Rattle.sweep_plans.specs.Glitches.{bits_of, flip_of, flips_at, glitches_at, register_flips, register_sets}
 use Rattle.sweep_plans.specs.Glitches.{skip_at, when, word_flips}
 use Rattle.sweep_plans.specs.Numbers.{below}
@@ -45,7 +45,7 @@ IsGood (Register r) = r < 32
 IsGood Pc = Unit {0}
 IsGood (WordAt addr) = addr + 4 ≤ 2 ^ 32
 
-module _ (sc : Scenario) (step pc : ℕ) (short : Bool) (near : sc.step ≤ most_steps) (none : sc.marks ≡ [])
+module _ (sc : Scenario) (step pc : ℕ) (short : Bool) (near : sc.step ≤ limit_of sc) (none : sc.marks ≡ [])
     (low : step < sc.step) where
   abbrev P : Change → Type 0
   P change = IsAt sc (At.Step step pc short) change
@@ -106,7 +106,7 @@ module _ (sc : Scenario) (step pc : ℕ) (short : Bool) (near : sc.step ≤ most
       (all-when models.zero (register_sets step 0) (all-sets 0)))
       (all-when models.ones (register_sets step 4294967295) (all-sets 4294967295))
 
-pub all-at : (sc : Scenario) (plan : Plan) (standing : Standing) → sc.step ≤ most_steps → sc.marks ≡ []
+pub all-at : (sc : Scenario) (plan : Plan) (standing : Standing) → sc.step ≤ limit_of sc → sc.marks ≡ []
     → IsBelow sc.step standing → All (IsAt sc standing) (changes_of plan standing)
 unfolding changes_of
 all-at sc plan (At.Byte offset old) near none low =
@@ -120,6 +120,6 @@ all-at sc plan (At.Half addr old) near none low =
 all-at sc plan (At.Step step pc short) near none low = all-glitches sc step pc short near none low plan.models
 
 -- a step below the chosen one has a next step
-pub next-below : (last : ℕ) (standing : Standing) → last ≤ most_steps → IsBelow last standing → HasNext standing
+pub next-below : (last : ℕ) (standing : Standing) → last ≤ furthest_step → IsBelow last standing → HasNext standing
 next-below last (At.Step step pc short) near low = omega arith
 next-below last _ near low = tt

@@ -1,5 +1,5 @@
 -- What the runs of a sweep have executed.
-use Rattle.std.specs.Prelude.{◌≡◌, ℕ, ◌+◌, ◌*◌, ◌<◌, ◌||◌, ◌⊎◌, Bool, true, List, [], ◌∷◌, ◌++◌, length, slice_index_or}
+use Rattle.std.specs.Prelude.{◌≡◌, ℕ, ◌+◌, ◌*◌, ◌<◌, ◌||◌, ◌⊎◌, Bool, true, List, [], ◌++◌, length, slice_index_or}
 use Rattle.std.specs.List.{list_any}
 use Rattle.guest_elf.specs.Profiles.{unit}
 use Rattle.checkpoints.specs.Known.{covers}

@@ -1,10 +1,13 @@
 -- What a sweep finds at a place: what is there, and the machine from which each run continues that is changed there.
 use Rattle.std.specs.Prelude.{◌≡◌, ℕ, ◌<◌, ◌≤◌, Bool, [], Option, Some, None}
-use Rattle.checkpoints.specs.Effects.{LeadsTo, Run}
+use Rattle.checkpoints.specs.Effects.{LeadsTo, Run, code_effect}
 use Rattle.checkpoints.specs.Forks.{IsForkFor}
 use Rattle.checkpoints.specs.declared.effect.Effect.TheVariants.{After}
 use Rattle.checkpoints.specs.declared.forks.Fork.{Fork}
+use Rattle.guest_elf.specs.Images.{profile_of}
 use Rattle.guest_machine.specs.Shows.{Shows}
+use Rattle.instructions.specs.Codes.{len_of}
+use Rattle.instructions.specs.declared.code.Code.{Code}
 use Rattle.scenario.specs.Edits.{row}
 use Rattle.scenario.specs.Scenario.{Scenario, run_of}
 use Rattle.sweep_plans.specs.Changes.{edit_of}
@@ -21,6 +24,12 @@ abbrev pub Continues : Scenario → Standing → Fork → Type 0
 Continues sc standing fork =
     (change : Change) → IsAt sc standing change
     → IsForkFor (row sc (edit_of change)).effect (run_of sc) sc.step fork
+
+-- each run that has another code of this length at an address continues from a fork
+abbrev pub ForksEachCode : Scenario → ℕ → ℕ → Fork → Type 0
+ForksEachCode sc addr len fork =
+    (code : Code) → len_of code ≡ len
+    → IsForkFor (code_effect (profile_of sc.image).isa sc.marks addr code) (run_of sc) sc.step fork
 
 -- this is found where something is, and nothing else
 abbrev pub IsFoundAt : Scenario → Option Standing → Option Site → Type 0

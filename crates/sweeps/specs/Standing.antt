@@ -11,8 +11,8 @@ use Rattle.guest_machine.specs.Exec.{half_at, is_running}
 use Rattle.guest_machine.specs.Run.{pre}
 use Rattle.guest_machine.specs.State.{Core, State}
 use Rattle.scenario.specs.Edits.{IsTaken, row}
-use Rattle.scenario.specs.Limits.{most_marks, most_steps}
-use Rattle.scenario.specs.Scenario.{Scenario, first_state}
+use Rattle.scenario.specs.Limits.{most_marks}
+use Rattle.scenario.specs.Scenario.{Scenario, first_state, limit_of}
 use Rattle.commands.specs.declared.edit.Edit.TheVariants.{Input}
 use Rattle.sweep_plans.specs.Changes.{IsRight, glitch_edit}
 use Rattle.sweep_plans.specs.Plans.{changes_of, place_at}
@@ -130,13 +130,13 @@ abbrev pub Stands : Scenario → Standing → Type 0
 Stands sc (At.Byte offset old) = standing_byte sc offset ≡ Some (At.Byte offset old)
 Stands sc (At.Word addr old) = standing_word sc addr ≡ Some (At.Word addr old)
 Stands sc (At.Half addr old) = standing_half sc addr ≡ Some (At.Half addr old)
-Stands sc (At.Step step pc half) = (step ≤ most_steps) × (length sc.marks < most_marks)
+Stands sc (At.Step step pc half) = (step ≤ limit_of sc) × (length sc.marks < most_marks)
 
 -- a second glitch may follow one at a step: at a step up to the chosen one, with room for its mark
 pub record MayFollow (sc : Scenario) (step later : ℕ) : Type 0 where
   pub forward : step ≤ later
   pub within : later ≤ sc.step
-  pub near : later ≤ most_steps
+  pub near : later ≤ limit_of sc
   pub room : length sc.marks + 1 < most_marks
 
 -- a change is one at this place

@@ -3,18 +3,18 @@ ghost use Rattle.std.specs.Prelude.{◌≡◌, ◌≤◌, ◌++◌, [], ℕ, Lis
 ghost use Rattle.checkpoints.specs.Edits.{IsRightForRun};
 ghost use Rattle.checkpoints.specs.Trails.{LoadsAs};
 ghost use Rattle.guest_machine.specs.Shows.{Shows};
-ghost use Rattle.scenario.specs.Limits.{longest_input};
-ghost use Rattle.scenario.specs.Scenario.{IsOutlineOf, at_step, begun, first_state, run_of};
+ghost use Rattle.scenario.specs.Limits.{furthest_step, longest_input};
+ghost use Rattle.scenario.specs.Scenario.{IsOutlineOf, at_step, begun_within, first_state, limit_for, run_of};
 ghost use Rattle.sweeps.specs.Sweeps.{Counted};
 ghost use Rattle.sweeps.specs.Tables.{rows_text};
 
 use crate::counting::Counts;
 use crate::recall::{Recall, SharedOutcome};
 use crate::rows::push_first;
-use checkpoints::Trail;
+use checkpoints::{Trail, spacing_for};
 use guest_elf::Image;
 use guest_machine::Machine;
-use scenario::Scenario;
+use scenario::{Scenario, limit_for};
 use std::alloc::{AllocError, Global};
 use suppressions::Suppression;
 use texts::Tallies;
@@ -27,10 +27,11 @@ pub(crate) fn scenario_at<'a>(
     suppressions: Vec<Suppression>,
     step: u32,
 ) -> Result<Scenario<'a>, AllocError>
-    requires { length input.items ≤ longest_input }
-    ensures { IfOk result (λ scenario. scenario ≡ at_step (begun image.entry input.items suppressions.items) step) }
+    requires short { length input.items ≤ longest_input }
+    requires near { step ≤ furthest_step }
+    ensures { IfOk result (λ scenario. scenario ≡ at_step (begun_within (limit_for step) image.entry input.items suppressions.items) step) }
 {
-    let mut scenario = Scenario::begin(alloc, image, input, suppressions)?;
+    let mut scenario = Scenario::begin_within(alloc, image, input, suppressions, limit_for(step))?;
     scenario.choose(step);
     Ok(scenario)
 }
@@ -95,7 +96,7 @@ pub(crate) fn unedited_run(
         × (out.new.items ≡ out.old.items ++ rows_text first [])) }
 {
     let start = Machine::start(alloc, scenario.image())?;
-    let mut trail = Trail::begin(alloc, scenario.image())?;
+    let mut trail = Trail::begin_apart(alloc, scenario.image(), spacing_for(scenario.limit()))?;
     let counts = count_unedited(alloc, &mut trail, scenario, with_output, out)?;
     Ok((start, trail, counts))
 }

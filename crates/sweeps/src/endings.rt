@@ -7,8 +7,7 @@ ghost use Rattle.checkpoints.specs.declared.effect.Effect.TheVariants.{After};
 ghost use Rattle.guest_machine.specs.Run.{pre};
 ghost use Rattle.guest_machine.specs.Shows.{Shows};
 ghost use Rattle.guest_machine.specs.State.{State};
-ghost use Rattle.scenario.specs.Limits.{most_steps};
-ghost use Rattle.scenario.specs.Scenario.{IsOutlineOf, run_of};
+ghost use Rattle.scenario.specs.Scenario.{IsOutlineOf, run_of, limit_of};
 ghost use Rattle.sweep_plans.specs.Changes.{IsRight};
 ghost use Rattle.sweep_plans.specs.declared.change.Change.TheVariants.{Once};
 ghost use Rattle.sweeps.specs.Landmarks.{AreEnds, EndsIn, IsPursued, NoneFrom, Outlines};
@@ -229,7 +228,7 @@ pub(crate) fn outcome_of_glitch(
     with_output: bool,
 ) -> Result<SharedOutcome, AllocError>
     requires unmarked { scenario.old.marks ≡ [] }
-    requires near { step ≤ most_steps }
+    requires near { step ≤ limit_of scenario.old }
     requires below { step < scenario.old.step }
     requires right { IsRight glitch }
     requires fork { IsForkFor (After step) (run_of scenario.old) scenario.old.step fork.now }

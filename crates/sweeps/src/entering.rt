@@ -6,8 +6,7 @@ ghost use Rattle.checkpoints.specs.Effects.{IsOfSetup, LeadsTo, Run};
 ghost use Rattle.checkpoints.specs.Forks.{IsForkFor};
 ghost use Rattle.checkpoints.specs.Merged.{AlsoEnters};
 ghost use Rattle.scenario.specs.Edits.{row};
-ghost use Rattle.scenario.specs.Limits.{most_steps};
-ghost use Rattle.scenario.specs.Scenario.{IsOutlineOf, run_of};
+ghost use Rattle.scenario.specs.Scenario.{IsOutlineOf, run_of, limit_of};
 ghost use Rattle.sweep_plans.specs.Changes.{edit_of};
 ghost use Rattle.sweeps.specs.Covered.{AreCovered, CoversMore, IsByte, MayCover};
 ghost use Rattle.sweeps.specs.Outcomes.{IsOutcome};
@@ -186,7 +185,7 @@ fn try_byte(
     with_output: bool,
     out: &mut Vec<u8>,
 ) -> Result<(), AllocError>
-    requires near { scenario.old.step ≤ most_steps }
+    requires near { scenario.old.step ≤ limit_of scenario.old }
     requires unmarked { scenario.old.marks ≡ [] }
     requires stands { Stands scenario.old site.now.standing }
     requires byte { IsByte site.now.standing }
@@ -221,7 +220,7 @@ pub(crate) fn try_site(
     with_output: bool,
     out: &mut Vec<u8>,
 ) -> Result<(), AllocError>
-    requires near { scenario.old.step ≤ most_steps }
+    requires near { scenario.old.step ≤ limit_of scenario.old }
     requires unmarked { scenario.old.marks ≡ [] }
     requires stands { Stands scenario.old site.now.standing }
     requires below { IsBelow scenario.old.step site.now.standing }

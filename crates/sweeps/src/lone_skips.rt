@@ -1,10 +1,10 @@
 //! What each skip of a run leads to by itself. Most runs in which an instruction is left out soon show a state of the run in which none is,
 //! one step ahead of it, as a skip needs no step. From there a second skip leads to what the skip of the step after it leads to by itself.
 ghost use Rattle.std.specs.Prelude.{◌≡◌, ◌+◌, ◌-◌, ◌<◌, ◌≤◌, [], IfOk, IsTrue, OnOk, Some, length, slice_get};
+ghost use Rattle.scenario.specs.Scenario.{limit_of};
 ghost use Rattle.guest_machine.specs.Run.{pre};
 ghost use Rattle.guest_machine.specs.Shows.{Shows};
 ghost use Rattle.guest_machine.specs.State.{State};
-ghost use Rattle.scenario.specs.Limits.{most_steps};
 ghost use Rattle.sweeps.specs.Landmarks.{Outlines};
 ghost use Rattle.sweeps.specs.LoneSkips.{IsFound, IsLone, left_out, struck_pc, strikes};
 ghost use Rattle.sweeps.specs.declared.lone_skips.LoneSkip.{LoneSkip as LoneSkipOf};
@@ -141,7 +141,7 @@ impl LoneSkips {
         with_output: bool,
     ) -> Result<LoneSkips, AllocError>
         requires within { end ≤ scenario.now.step }
-        requires near { scenario.now.step ≤ most_steps }
+        requires near { scenario.now.step ≤ limit_of scenario.now }
         ensures { IfOk result (λ skips. AreForeseen with_output scenario.now skips) }
     {
         let mut skips = LoneSkips::begin(alloc, first);

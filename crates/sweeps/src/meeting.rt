@@ -3,8 +3,7 @@ ghost use Rattle.std.specs.Prelude.{◌≡◌, ◌≤◌, ◌∷◌, [], OnOk, S
 ghost use Rattle.std.specs.List.{All};
 ghost use Rattle.checkpoints.specs.Forks.{IsForkFor};
 ghost use Rattle.scenario.specs.Edits.{row};
-ghost use Rattle.scenario.specs.Limits.{most_steps};
-ghost use Rattle.scenario.specs.Scenario.{run_of};
+ghost use Rattle.scenario.specs.Scenario.{run_of, limit_of};
 ghost use Rattle.sweep_plans.specs.Changes.{edit_of};
 ghost use Rattle.sweep_plans.specs.Plans.{changes_of};
 ghost use Rattle.sweeps.specs.Sites.{Continues};
@@ -119,7 +118,7 @@ fn try_all(
     with_output: bool,
     out: &mut Vec<u8>,
 ) -> Result<(), AllocError>
-    requires near { scenario.old.step ≤ most_steps }
+    requires near { scenario.old.step ≤ limit_of scenario.old }
     requires unmarked { scenario.old.marks ≡ [] }
     requires stands { Stands scenario.old site.now.standing }
     requires below { IsBelow scenario.old.step site.now.standing }
@@ -143,7 +142,7 @@ pub(crate) fn try_place(
     with_output: bool,
     out: &mut Vec<u8>,
 ) -> Result<(), AllocError>
-    requires near { scenario.old.step ≤ most_steps }
+    requires near { scenario.old.step ≤ limit_of scenario.old }
     requires unmarked { scenario.old.marks ≡ [] }
     requires stands { Stands scenario.old site.now.standing }
     requires below { IsBelow scenario.old.step site.now.standing }

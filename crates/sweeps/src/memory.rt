@@ -1,7 +1,7 @@
 //! The flips of the bytes that the run reads later.
 ghost use Rattle.std.specs.Prelude.{◌≡◌, ◌≤◌, ◌+◌, ◌-◌, ◌^◌, ◌%◌, [], IfOk, OnOk};
+ghost use Rattle.scenario.specs.Scenario.{limit_of};
 ghost use Rattle.std.specs.List.{All};
-ghost use Rattle.scenario.specs.Limits.{most_steps};
 ghost use Rattle.sweeps.specs.Accesses.{IsTable, TurnsOn};
 ghost use Rattle.sweeps.specs.Memory.{memory_at};
 ghost use Rattle.sweeps.specs.Recall.{IsTouched};
@@ -149,7 +149,7 @@ pub(crate) fn try_memory(
     with_output: bool,
     out: &mut Vec<u8>,
 ) -> Result<(), AllocError>
-    requires near { scenario.old.step ≤ most_steps }
+    requires near { scenario.old.step ≤ limit_of scenario.old }
     requires unmarked { scenario.old.marks ≡ [] }
     requires stands { Stands scenario.old site.now.standing }
     requires below { IsBelow scenario.old.step site.now.standing }

@@ -4,8 +4,8 @@ ghost use Rattle.checkpoints.specs.Effects.{LeadsTo, Run};
 ghost use Rattle.checkpoints.specs.Forks.{IsForkFor, ShowsEdited};
 ghost use Rattle.checkpoints.specs.declared.effect.Effect.TheVariants.{After};
 ghost use Rattle.scenario.specs.Edits.{row};
-ghost use Rattle.scenario.specs.Limits.{most_marks, most_steps};
-ghost use Rattle.scenario.specs.Scenario.{Scenario as ScenarioOf, IsOutlineOf, run_of};
+ghost use Rattle.scenario.specs.Limits.{most_marks};
+ghost use Rattle.scenario.specs.Scenario.{Scenario as ScenarioOf, IsOutlineOf, run_of, limit_of};
 ghost use Rattle.sweeps.specs.Landmarks.{NoneFrom};
 ghost use Rattle.sweeps.specs.Outcomes.{IsOutcome};
 ghost use Rattle.sweep_plans.specs.Changes.{IsRight, edit_of, glitch_edit, second_of};
@@ -161,7 +161,7 @@ fn outcome_of_second(
 ) -> Result<Vec<u8>, AllocError>
     requires forward { fork.now.step ≤ later }
     requires within { later ≤ scenario.old.step }
-    requires near { later ≤ most_steps }
+    requires near { later ≤ limit_of scenario.old }
     requires room { length scenario.old.marks < most_marks }
     requires right { IsRight other }
     ensures same { scenario.new ≡ scenario.old }

@@ -3,8 +3,8 @@ ghost use Rattle.std.specs.Prelude.{◌≡◌, ◌≤◌, ◌<◌, ◌+◌, ◌-
 ghost use Rattle.checkpoints.specs.Forks.{IsForkFor};
 ghost use Rattle.checkpoints.specs.declared.effect.Effect.TheVariants.{After};
 ghost use Rattle.guest_machine.specs.Shows.{Shows};
-ghost use Rattle.scenario.specs.Limits.{most_marks, most_steps};
-ghost use Rattle.scenario.specs.Scenario.{Scenario as ScenarioOf, run_of};
+ghost use Rattle.scenario.specs.Limits.{most_marks};
+ghost use Rattle.scenario.specs.Scenario.{Scenario as ScenarioOf, run_of, limit_of};
 ghost use Rattle.sweep_plans.specs.declared.change.Change.TheVariants.{Once, Twice};
 ghost use Rattle.sweep_plans.specs.declared.change.Glitch.TheVariants.{Skip};
 ghost use Rattle.sweeps.specs.Landmarks.{NoneFrom};
@@ -68,7 +68,7 @@ fn try_pair(
     later: u32,
     out: &mut Vec<u8>,
 ) -> Result<(), AllocError>
-    requires near { later ≤ most_steps }
+    requires near { later ≤ limit_of scenario.old }
     requires room { length scenario.old.marks < most_marks }
     requires fork { IsForkFor (After later) (run_of scenario.old) scenario.old.step fork.now }
     ensures same { scenario.new ≡ scenario.old }
@@ -97,7 +97,7 @@ fn try_later(
     later: u32,
     out: &mut Vec<u8>,
 ) -> Result<Fork, AllocError>
-    requires near { scenario.old.step ≤ most_steps }
+    requires near { scenario.old.step ≤ limit_of scenario.old }
     requires below { later < scenario.old.step }
     requires room { length scenario.old.marks < most_marks }
     requires last_fork { (before : ℕ) × (later ≡ before + 1) × IsForkFor (After before) (run_of scenario.old) scenario.old.step last_fork.now }
@@ -180,7 +180,7 @@ fn try_until(
     end: u32,
     out: &mut Vec<u8>,
 ) -> Result<(), AllocError>
-    requires near { scenario.old.step ≤ most_steps }
+    requires near { scenario.old.step ≤ limit_of scenario.old }
     requires below { first.step < scenario.old.step }
     requires forward { first.step + 1 ≤ end }
     requires within { end ≤ scenario.old.step }
@@ -211,7 +211,7 @@ fn try_after(
     end: u32,
     out: &mut Vec<u8>,
 ) -> Result<(), AllocError>
-    requires near { scenario.old.step ≤ most_steps }
+    requires near { scenario.old.step ≤ limit_of scenario.old }
     requires unmarked { scenario.old.marks ≡ [] }
     requires below { first.step < scenario.old.step }
     requires forward { first.step + 1 ≤ end }
@@ -244,7 +244,7 @@ pub(crate) fn try_pairs(
     with_output: bool,
     out: &mut Vec<u8>,
 ) -> Result<(), AllocError>
-    requires near { scenario.old.step ≤ most_steps }
+    requires near { scenario.old.step ≤ limit_of scenario.old }
     requires unmarked { scenario.old.marks ≡ [] }
     requires below { IsBelow scenario.old.step site.now.standing }
     requires fork { Continues scenario.old site.now.standing site.now.fork }

@@ -2,8 +2,7 @@
 //! and after it. One of a register that the step overwrites has the outcome of the unedited run.
 ghost use Rattle.std.specs.Prelude.{◌≡◌, ◌+◌, [], Bool, IfOk, IfSome, IsTrue, None, OnOk, length, true, ◌≤◌};
 ghost use Rattle.guest_machine.specs.Exec.{is_running};
-ghost use Rattle.scenario.specs.Limits.{most_steps};
-ghost use Rattle.scenario.specs.Scenario.{Scenario as ScenarioOf};
+ghost use Rattle.scenario.specs.Scenario.{Scenario as ScenarioOf, limit_of};
 ghost use Rattle.sweep_plans.specs.declared.change.Change.TheVariants.{Once};
 ghost use Rattle.sweeps.specs.Outcomes.{IsOutcome};
 ghost use Rattle.sweeps.specs.Standing.{state_before};
@@ -143,7 +142,7 @@ impl Recall {
         with_output: bool,
     ) -> Result<(), AllocError>
         requires within { end ≤ scenario.now.step }
-        requires near { scenario.now.step ≤ most_steps }
+        requires near { scenario.now.step ≤ limit_of scenario.now }
         ensures { OnOk result (Recalls with_output scenario.now self.old → Recalls with_output scenario.now self.new) }
     {
         let step = before.step;

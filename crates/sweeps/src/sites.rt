@@ -2,18 +2,13 @@
 ghost use Rattle.std.specs.Prelude.{◌≡◌, ◌≤◌, ◌<◌, ◌+◌, ◌^◌, ℕ, IfOk, MatchOption, None, Some, length, true};
 ghost use Rattle.checkpoints.specs.Edits.{IsRightForRun};
 ghost use Rattle.checkpoints.specs.Forks.{IsForkFor};
-ghost use Rattle.checkpoints.specs.Effects.{code_effect};
-ghost use Rattle.guest_elf.specs.Images.{profile_of};
 ghost use Rattle.checkpoints.specs.Trails.{LoadsAs, loaded_of};
 ghost use Rattle.checkpoints.specs.Words.{IsCodeIn};
 ghost use Rattle.checkpoints.specs.declared.effect.Effect.TheVariants.{After, Input};
 ghost use Rattle.guest_machine.specs.Shows.{Shows};
 ghost use Rattle.guest_machine.specs.State.{State};
-ghost use Rattle.instructions.specs.Codes.{len_of};
-ghost use Rattle.instructions.specs.declared.code.Code.{Code};
-ghost use Rattle.scenario.specs.Limits.{most_steps};
-ghost use Rattle.scenario.specs.Scenario.{first_state, run_of};
-ghost use Rattle.sweeps.specs.Sites.{Continues, IsFoundAt, IsLastFork};
+ghost use Rattle.scenario.specs.Scenario.{first_state, run_of, limit_of};
+ghost use Rattle.sweeps.specs.Sites.{Continues, ForksEachCode, IsFoundAt, IsLastFork};
 ghost use Rattle.sweeps.specs.Standing.{is_half_next, is_in_code, standing_byte, standing_half, standing_in, standing_step, standing_word, state_before};
 
 use checkpoints::{Fork, Trail};
@@ -117,7 +112,7 @@ pub(crate) fn standing_step(
 
 /// Returns the machine from which each run continues that has another byte at an offset.
 fn byte_fork(trail: &mut Trail, scenario: &Scenario, offset: u32) -> Result<Fork, AllocError>
-    requires near { scenario.now.step ≤ most_steps }
+    requires near { scenario.now.step ≤ limit_of scenario.now }
     requires loads { LoadsAs trail.old scenario.now.image }
     requires right { IsRightForRun trail.old (run_of scenario.now) }
     ensures fork { IfOk result (λ fork. IsForkFor (Input offset) (run_of scenario.now) scenario.now.step fork) }
@@ -134,11 +129,11 @@ fn code_fork(
     addr: u32,
     len: u32,
 ) -> Result<Fork, AllocError>
-    requires near { scenario.now.step ≤ most_steps }
+    requires near { scenario.now.step ≤ limit_of scenario.now }
     requires loads { LoadsAs trail.old scenario.now.image }
     requires right { IsRightForRun trail.old (run_of scenario.now) }
     requires code { IsCodeIn (loaded_of trail.old) addr len }
-    ensures fork { IfOk result (λ fork. (code : Code) → len_of code ≡ len → IsForkFor (code_effect (profile_of scenario.now.image).isa scenario.now.marks addr code) (run_of scenario.now) scenario.now.step fork) }
+    ensures fork { IfOk result (ForksEachCode scenario.now addr len) }
     ensures loads { LoadsAs trail.new scenario.now.image }
     ensures right { IsRightForRun trail.new (run_of scenario.now) }
 {
@@ -165,7 +160,7 @@ fn next_fork(scenario: &Scenario, last_fork: &Fork, step: u32) -> Result<Fork, A
 
 /// Returns the fork before a step, from the trail.
 fn trail_fork(trail: &mut Trail, scenario: &Scenario, step: u32) -> Result<Fork, AllocError>
-    requires near { scenario.now.step ≤ most_steps }
+    requires near { scenario.now.step ≤ limit_of scenario.now }
     requires within { step ≤ scenario.now.step }
     requires loads { LoadsAs trail.old scenario.now.image }
     requires right { IsRightForRun trail.old (run_of scenario.now) }
@@ -185,7 +180,7 @@ fn step_fork(
     last_fork: &Option<Fork>,
     step: u32,
 ) -> Result<Fork, AllocError>
-    requires near { scenario.now.step ≤ most_steps }
+    requires near { scenario.now.step ≤ limit_of scenario.now }
     requires within { step ≤ scenario.now.step }
     requires loads { LoadsAs trail.old scenario.now.image }
     requires right { IsRightForRun trail.old (run_of scenario.now) }
@@ -211,7 +206,7 @@ fn find_byte(
     input: &[u8],
     offset: u32,
 ) -> Result<Option<Site>, AllocError>
-    requires near { scenario.now.step ≤ most_steps }
+    requires near { scenario.now.step ≤ limit_of scenario.now }
     requires input { input.now ≡ scenario.now.setup.input }
     requires loads { LoadsAs trail.old scenario.now.image }
     requires right { IsRightForRun trail.old (run_of scenario.now) }
@@ -233,7 +228,7 @@ fn find_word(
     start: &Machine,
     addr: u32,
 ) -> Result<Option<Site>, AllocError>
-    requires near { scenario.now.step ≤ most_steps }
+    requires near { scenario.now.step ≤ limit_of scenario.now }
     requires starts { Shows start.now (first_state scenario.now) }
     requires loads { LoadsAs trail.old scenario.now.image }
     requires right { IsRightForRun trail.old (run_of scenario.now) }
@@ -255,7 +250,7 @@ fn find_half(
     start: &Machine,
     addr: u32,
 ) -> Result<Option<Site>, AllocError>
-    requires near { scenario.now.step ≤ most_steps }
+    requires near { scenario.now.step ≤ limit_of scenario.now }
     requires starts { Shows start.now (first_state scenario.now) }
     requires loads { LoadsAs trail.old scenario.now.image }
     requires right { IsRightForRun trail.old (run_of scenario.now) }
@@ -278,7 +273,7 @@ fn find_step(
     code: Option<Range>,
     step: u32,
 ) -> Result<Option<Site>, AllocError>
-    requires near { scenario.now.step ≤ most_steps }
+    requires near { scenario.now.step ≤ limit_of scenario.now }
     requires loads { LoadsAs trail.old scenario.now.image }
     requires right { IsRightForRun trail.old (run_of scenario.now) }
     requires last_fork { IsLastFork scenario.now last_fork.old }
@@ -320,7 +315,7 @@ pub(crate) fn find(
     plan: &Plan,
     place: SweepPlace,
 ) -> Result<Option<Site>, AllocError>
-    requires near { scenario.now.step ≤ most_steps }
+    requires near { scenario.now.step ≤ limit_of scenario.now }
     requires input { origin.now.input.now ≡ scenario.now.setup.input }
     requires starts { Shows origin.now.start.now (first_state scenario.now) }
     requires loads { LoadsAs trail.old scenario.now.image }

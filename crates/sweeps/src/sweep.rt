@@ -4,8 +4,8 @@ ghost use Rattle.checkpoints.specs.Edits.{IsRightForRun};
 ghost use Rattle.checkpoints.specs.OneProof.{right-prop, shows-prop};
 ghost use Rattle.checkpoints.specs.Trails.{LoadsAs};
 ghost use Rattle.guest_machine.specs.Shows.{Shows};
-ghost use Rattle.scenario.specs.Limits.{most_steps};
-ghost use Rattle.scenario.specs.Scenario.{first_state, run_of};
+ghost use Rattle.scenario.specs.Limits.{furthest_step};
+ghost use Rattle.scenario.specs.Scenario.{first_state, run_of, limit_of};
 ghost use Rattle.sweeps.specs.LastForks.{last-fork-prop};
 ghost use Rattle.sweeps.specs.Sites.{IsLastFork};
 
@@ -30,7 +30,7 @@ pub struct Sweep<'a> {
     trail: Trail,
     ghost loads: { LoadsAs trail scenario.image },
     ghost right: { IsRightForRun trail (run_of scenario) } by { right-prop trail (run_of scenario) },
-    ghost near: { scenario.step ≤ most_steps },
+    ghost near: { scenario.step ≤ limit_of scenario },
     ghost unmarked: { scenario.marks ≡ [] },
     last_fork: Option<Fork>,
     ghost continued: { IsLastFork scenario last_fork } by { last-fork-prop scenario last_fork },
@@ -46,8 +46,8 @@ pub struct Sweep<'a> {
 
 impl<'a> Sweep<'a> {
     ghost use Rattle.std.specs.Prelude.{◌≡◌, ◌≤◌, ◌++◌, [], ℕ, List, IfOk, OnOk, length, map};
-    ghost use Rattle.scenario.specs.Limits.{longest_input};
-    ghost use Rattle.scenario.specs.Scenario.{at_step, begun};
+    ghost use Rattle.scenario.specs.Limits.{furthest_step, longest_input};
+    ghost use Rattle.scenario.specs.Scenario.{at_step, begun_within, limit_for};
     ghost use Rattle.sweep_plans.specs.declared.change.Change.{Change};
     ghost use Rattle.sweeps.specs.Covered.{FitsPlan, HasCovered, apart_in, range_of, table_of};
     ghost use Rattle.sweeps.specs.Outcomes.{Met};
@@ -69,8 +69,8 @@ impl<'a> Sweep<'a> {
         out: &mut Vec<u8>,
     ) -> Result<Self, AllocError>
         requires short { length input.items ≤ longest_input }
-        requires near { step ≤ most_steps }
-        ensures scenario { IfOk result (λ sweep. scenario_of sweep ≡ at_step (begun image.entry input.items suppressions.items) step) }
+        requires near { step ≤ furthest_step }
+        ensures scenario { IfOk result (λ sweep. scenario_of sweep ≡ at_step (begun_within (limit_for step) image.entry input.items suppressions.items) step) }
         ensures output { IfOk result (λ sweep. tells_output sweep ≡ with_output) }
         ensures met { IfOk result (λ sweep. (first : List ℕ) × HasMet sweep first [] × (out.new.items ≡ out.old.items ++ rows_text first [])) }
         ensures range { IfOk result (λ sweep. range_of sweep ≡ range) }
@@ -91,7 +91,7 @@ impl<'a> Sweep<'a> {
         range: Span,
         out: &mut Vec<u8>,
     ) -> Result<Self, AllocError>
-        requires near { scenario.step ≤ most_steps }
+        requires near { scenario.step ≤ limit_of scenario }
         requires unedited { scenario.words ≡ [] }
         requires unmarked { scenario.marks ≡ [] }
         requires copied { input.items ≡ scenario.setup.input }

@@ -1,6 +1,7 @@
 -- How tries move the work, one after another.
-use Rattle.std.proofs.Common.{◌≡◌, ◌+◌, ◌++◌, ◌∙◌, ℕ, List, [], ◌∷◌, ap, arith, subst, sym}
-use Rattle.checkpoints.specs.Work.{ForkMoves, Work}
+use Rattle.std.proofs.Common.{◌≡◌, ◌+◌, ◌++◌, ◌∙◌, ℕ, List, [], ◌∷◌, ap, arith, refl, subst, sym}
+use Rattle.checkpoints.specs.Work.{ForkMoves, Work, floor, next_held}
+use Rattle.checkpoints.proofs.SpacingSteps.{next-floor}
 use Rattle.looks.specs.Views.{Leaves}
 use Rattle.replay_session.specs.Stages.{Stage}
 use Rattle.replay_session.specs.Turns.{Turn}
@@ -10,15 +11,19 @@ use Rattle.tries.specs.declared.plans.Attempt.{Attempt}
 -- after a fork another one leaves the work
 pub rests : (n : ℕ) (old new : Work) → ForkMoves n old new → ForkMoves n new new
 rests n old new moves =
-    let last = moves.0 in
-    let made = moves.1 in (omega arith, omega arith)
+    let there : floor new.apart (next_held new.apart n) ≡ floor old.apart (next_held old.apart n) =
+    ap (λ s. floor s (next_held s n)) moves.1 in
+    let next = next-floor new.apart n in
+    ((omega (arith, moves.0.0, there), omega (arith, moves.0.0, moves.0.1, there, next)), refl)
 
 fork-on : (n : ℕ) (a b c : Work) → ForkMoves n a b → ForkMoves n b c → ForkMoves n a c
 fork-on n a b c one two =
-    let last = one.0 in
-    let made = one.1 in
-    let next = two.0 in
-    let more = two.1 in (omega arith, omega arith)
+    let there : floor b.apart (next_held b.apart n) ≡ floor a.apart (next_held a.apart n) =
+    ap (λ s. floor s (next_held s n)) one.1 in
+    let next = next-floor b.apart n in (
+      (omega (arith, one.0.0, two.0.0, there), omega (arith, one.0.0, one.0.1, two.0.1, there, next)),
+      two.1 ∙ one.1,
+    )
 
 same-step : (a b : Stage) → Leaves a b → b.turn.scenario.step ≡ a.turn.scenario.step
 same-step a b same = ap (λ (turn : Turn). turn.scenario.step) same.turn

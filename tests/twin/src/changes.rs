@@ -27,6 +27,18 @@ pub enum Change {
     Skip,
 }
 
+impl Change {
+    /// Whether it writes a byte of a range.
+    pub fn writes_in(&self, start: u32, len: u32) -> bool {
+        let (first, count) = match *self {
+            Change::FlipBytes { start, .. } => (start, 4),
+            Change::Write { start, len, .. } => (start, len),
+            _ => return false,
+        };
+        first.wrapping_sub(start) < len || start.wrapping_sub(first) < count
+    }
+}
+
 impl Machine {
     /// Makes a change. A machine that has ended takes marks only.
     pub fn change(&mut self, change: Change) {

@@ -38,19 +38,53 @@ impl Run<'_> {
 
     /// The machine after so many steps, and after what is changed before the next one.
     pub fn at(&self, steps: u64) -> Machine {
-        let mut machine = (self.start)();
-        for step in 0..steps {
+        let (mut machine, mut step) = ((self.start)(), 0);
+        while step < steps && machine.status == Status::Running {
             self.change(&mut machine, step);
             go_on(&mut machine);
+            step += 1;
         }
-        self.change(&mut machine, steps);
+        for change in self.changes.range(step..=steps).flat_map(|it| it.1) {
+            machine.change(*change);
+        }
         machine
+    }
+
+    /// The first step below another one that uses a byte of a range: it executes an instruction there, reads one or writes one.
+    pub fn first_use(&self, range: (u32, u32), end: u64) -> Option<u64> {
+        let uses = |machine: &Machine| ["run", "read", "write"].iter().any(|kind| does(machine, kind, range));
+        self.first(end, uses)
+    }
+
+    /// The first step below another one that reads the byte of the input at an offset.
+    pub fn first_read(&self, offset: u32, end: u64) -> Option<u64> {
+        let has_read = |machine: &Machine| machine.position > offset as usize;
+        self.first(end + 1, has_read).map(|step| step - 1)
+    }
+
+    /// The first step below another one before which the machine is such a one.
+    fn first(&self, end: u64, is_one: impl Fn(&Machine) -> bool) -> Option<u64> {
+        let mut machine = (self.start)();
+        for step in 0..end {
+            self.change(&mut machine, step);
+            if is_one(&machine) {
+                return Some(step);
+            }
+            if machine.status != Status::Running {
+                return None;
+            }
+            go_on(&mut machine);
+        }
+        None
     }
 
     /// The steps that do something with a range, in order, among some of the run.
     fn those_that_do(&self, kind: &str, range: (u32, u32), steps: Range<u64>) -> Vec<u64> {
         let (mut machine, mut found) = ((self.start)(), Vec::new());
         for step in 0..steps.end {
+            if machine.status != Status::Running {
+                break;
+            }
             self.change(&mut machine, step);
             let (pc, errors, does) = (machine.pc, raised(&machine), does(&machine, kind, range));
             let known = (kind == "shadow").then(|| shadows(&machine, range));
@@ -133,6 +167,9 @@ fn blocks(machine: &Machine, from: u32) -> String {
 fn calls(run: &Run, steps: Range<u64>) -> String {
     let (mut machine, mut text, mut events) = ((run.start)(), String::new(), 0);
     for step in 0..steps.end {
+        if machine.status != Status::Running {
+            break;
+        }
         run.change(&mut machine, step);
         let (heap_calls, depth, position, output) = (machine.heap_calls, machine.stack.depth(), machine.position, machine.output);
         go_on(&mut machine);
@@ -194,6 +231,9 @@ pub fn state(machine: &Machine) -> String {
 fn sides(run: &Run, steps: u64, start: u32, len: u32) -> String {
     let (mut machine, mut met) = ((run.start)(), BTreeMap::<u32, u32>::new());
     for step in 0..steps {
+        if machine.status != Status::Running {
+            break;
+        }
         run.change(&mut machine, step);
         let (pc, taken) = (machine.pc, machine.taken());
         go_on(&mut machine);

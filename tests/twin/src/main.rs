@@ -33,6 +33,7 @@ mod suppressions;
 mod sweep;
 #[cfg(test)]
 mod tests;
+mod work;
 
 use elf::Image;
 use isa::Isa;
@@ -40,7 +41,7 @@ use looks::Run;
 use machine::{Machine, Status};
 use regions::Regions;
 use request::Request;
-use session::Session;
+use session::{LAST_STEP, Session};
 use std::collections::BTreeMap;
 use std::rc::Rc;
 use std::time::Instant;
@@ -57,6 +58,8 @@ const MEMORY: u32 = 0x2000;
 struct Setup {
     isa: Isa,
     regions: Regions,
+    /// The greatest step of a session.
+    limit: u32,
 }
 
 fn main() {
@@ -87,7 +90,7 @@ fn main() {
             _ => no_words(),
         },
         (2 | 3, None, _) if words[0] == "session" => {
-            with_files(&setup, &words[1..], |image, input| hold(Session::new(setup.isa, image, input)));
+            with_files(&setup, &words[1..], |image, input| hold(Session::new(setup.isa, image, input, setup.limit)));
         }
         (3 | 4, None, Some(steps)) if words[0] == "summary" => {
             with_files(&setup, &words[2..], |image, input| summarize(setup.isa, steps, image, input));
@@ -105,7 +108,7 @@ fn main() {
         },
         _ => println!(
             "usage: twin STEPS | twin STEPS MEMORY FILE | twin looks MEMORY FILE | twin clean STEPS MEMORY FILE \
-             | twin session PROGRAM [INPUT] | twin summary STEPS PROGRAM [INPUT] | twin errors STEPS PROGRAM [INPUT] \
+             | twin session PROGRAM [INPUT] [--limit N] | twin summary STEPS PROGRAM [INPUT] | twin errors STEPS PROGRAM [INPUT] \
              | twin streams STEPS PROGRAM [INPUT] | twin halves \
              | twin sweep PROGRAM --at A..B --faults LIST [--code-range LO..HI] [--pairs skip] \
              [--step N] [--input F] [--supp F] [--with-output] [--part I/N]; each with [--isa rv32im|rv32imc|rv32imac] \
@@ -143,7 +146,9 @@ fn take_setup(words: &mut Vec<String>) -> Result<Setup, String> {
     let [heap, stack] = regions::OPTIONS.map(|name| take(words, name));
     let [moved, output] = regions::LIMITS.map(|name| take(words, name));
     let regions = Regions::of(heap?.as_deref(), stack?.as_deref())?.limited(moved?.as_deref(), output?.as_deref())?;
-    Ok(Setup { isa, regions })
+    let limit = take(words, "limit")?.map_or(Some(LAST_STEP), |text| text.parse().ok());
+    let limit = limit.filter(|limit| (1..1 << 31).contains(limit)).ok_or("--limit is a number from 1 to 2147483647")?;
+    Ok(Setup { isa, regions, limit })
 }
 
 /// Writes the table of a sweep, and answers the exit status.

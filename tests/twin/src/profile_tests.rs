@@ -8,7 +8,7 @@ use crate::looks::Access;
 use crate::machine::{Bits, Machine, Status};
 use crate::memory::RangeKind;
 use crate::regions::Regions;
-use crate::session::Session;
+use crate::session::{LAST_STEP, Session};
 
 const START: u32 = 0x0001_0000;
 /// Where a program's data is, behind its code.
@@ -269,7 +269,7 @@ fn patches_are_at_each_half_and_later_ones_are_over_earlier_ones() {
         regions: Regions::default(),
     };
     for isa in [Isa::Rv32imc, Isa::Rv32imac] {
-        let mut session = Session::new(isa, image(), Vec::new());
+        let mut session = Session::new(isa, image(), Vec::new(), LAST_STEP);
         for (line, reply) in [
             ("patch 0x10002 0x04030201", "ok"),
             ("patch16 0x10004 0xffff", "ok"),
@@ -287,7 +287,7 @@ fn patches_are_at_each_half_and_later_ones_are_over_earlier_ones() {
             assert_eq!(session.reply(line), reply, "{line}");
         }
     }
-    let mut usual = Session::new(Isa::Rv32im, image(), Vec::new());
+    let mut usual = Session::new(Isa::Rv32im, image(), Vec::new(), LAST_STEP);
     for line in ["patch16 0x10000 0", "patch16 0x10001 0x10000", "patch16"] {
         assert_eq!(usual.reply(line), "refused 2", "{line}");
     }

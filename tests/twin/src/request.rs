@@ -4,7 +4,7 @@ use crate::isa::Isa;
 use crate::models::{MODELS, Model};
 use crate::regions::Regions;
 
-const LAST_STEP: u32 = 4_194_304;
+const LAST_STEP: u32 = 2_147_483_647;
 const DEFAULT_STEP: u32 = 1_048_576;
 const MOST_PARTS: u64 = 1_000_000;
 

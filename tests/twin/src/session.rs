@@ -7,16 +7,19 @@ use crate::isa::{HALF, Isa, WORD};
 use crate::looks::{self, Run};
 use crate::machine::{Bits, Machine};
 use crate::memory::RangeKind;
+use crate::work::Work;
 use std::collections::BTreeMap;
 use std::rc::Rc;
 
-const LAST_STEP: u32 = 4_194_304;
+/// The greatest step of a session without another limit.
+pub const LAST_STEP: u32 = 4_194_304;
 const MOST_CHANGES: usize = 4096;
 const LONGEST_MARK: u32 = 1_048_576;
 const LONGEST_VIEW: u32 = 4096;
 
 /// The numbers of refusals.
 const BAD_LINE: u32 = 2;
+const NO_BYTE: u32 = 3;
 const NO_WORD: u32 = 4;
 const BAD_STEP: u32 = 5;
 const BAD_RANGE: u32 = 6;
@@ -35,11 +38,15 @@ pub struct Session {
     /// In the order of their lines, each with its step.
     changes: Vec<(u32, Change)>,
     step: u32,
+    /// The greatest step.
+    limit: u32,
+    work: Work,
 }
 
 impl Session {
-    pub fn new(isa: Isa, image: Image, input: Vec<u8>) -> Session {
-        Session { isa, image, input: input.into(), patches: BTreeMap::new(), changes: Vec::new(), step: 0 }
+    pub fn new(isa: Isa, image: Image, input: Vec<u8>, limit: u32) -> Session {
+        let (patches, changes) = (BTreeMap::new(), Vec::new());
+        Session { isa, image, input: input.into(), patches, changes, step: 0, limit, work: Work::new(limit) }
     }
 
     /// Returns the reply to a line.
@@ -57,8 +64,13 @@ impl Session {
         match fields {
             ["look", look @ ..] => return self.look(look),
             ["report"] => return Ok(self.report()),
-            ["worked"] | ["input" | "option" | "supp", _, ..] => return Ok(UNKNOWN.to_string()),
-            ["goto", step] => self.step = step_of(number(step)?)?,
+            ["worked"] if self.isa.unit() == WORD => return Ok(format!("worked {}", self.work.made())),
+            ["worked"] | ["input", "append" | "cut", ..] | ["option" | "supp", _, ..] => return Ok(UNKNOWN.to_string()),
+            ["goto", step] => self.step = step_of(number(step)?, self.limit)?,
+            ["input", offset, byte] => {
+                let (offset, byte) = (number(offset)?, number(byte)?);
+                self.overwrite(offset, u8::try_from(byte).map_err(|_| BAD_LINE)?)?;
+            }
             ["patch", addr, word] => {
                 self.patch(number(addr)?, number(word)?, WORD)?;
             }
@@ -70,12 +82,14 @@ impl Session {
             ["unmark", place] => {
                 let place = number(place)? as usize;
                 require(place < self.changes.len(), NO_MARK)?;
-                self.changes.remove(place);
+                let (step, _) = self.changes.remove(place);
+                self.work.keep(step.into());
             }
             _ => {
-                let change = change_of(fields)?;
+                let change = change_of(fields, self.limit)?;
                 require(self.changes.len() < MOST_CHANGES, TOO_MANY)?;
                 self.changes.push(change);
+                self.work.keep(change.0.into());
             }
         }
         Ok("ok".to_string())
@@ -84,30 +98,58 @@ impl Session {
     /// Puts the lowest bytes of a number at an address at which an instruction can be, over earlier patches there.
     fn patch(&mut self, addr: u32, value: u32, len: u32) -> Result<(), u32> {
         require(addr % self.isa.unit() == 0 && self.image.has_bytes(addr, len), NO_WORD)?;
+        let is_changed = self.changes.iter().any(|(_, change)| change.writes_in(addr, len));
+        let shown = if is_changed { Some(0) } else { self.with_run(|run| run.first_use((addr, len), self.work.last())) };
+        self.work.keep(shown.unwrap_or(self.work.last()));
         self.patches.extend((addr..=addr + (len - 1)).zip(value.to_le_bytes()));
         Ok(())
     }
 
-    fn look(&self, fields: &[&str]) -> Result<String, u32> {
+    /// Gives the input another byte.
+    fn overwrite(&mut self, offset: u32, byte: u8) -> Result<(), u32> {
+        require((offset as usize) < self.input.len(), NO_BYTE)?;
+        let shown = self.with_run(|run| run.first_read(offset, self.work.last()));
+        self.work.keep(shown.unwrap_or(self.work.last()));
+        let mut input = self.input.to_vec();
+        input[offset as usize] = byte;
+        self.input = input.into();
+        Ok(())
+    }
+
+    fn look(&mut self, fields: &[&str]) -> Result<String, u32> {
         match fields {
-            ["registers" | "controls"] => {}
+            ["registers" | "controls" | "stack"] => {}
+            ["blocks", start] => {
+                number(start)?;
+            }
+            ["calls", first, end] => {
+                let (first, end) = (number(first)?, number(end)?);
+                step_of(first, self.limit)?;
+                step_of(end, self.limit)?;
+            }
             ["memory" | "sides", start, len] => {
                 let (start, len) = (number(start)?, number(len)?);
                 require(is_range(start, len) && len <= LONGEST_VIEW, BAD_RANGE)?;
             }
             ["next" | "last", kind @ ("run" | "read" | "write" | "shadow" | "error"), start, len, bound] => {
                 let (start, len, bound) = (number(start)?, number(len)?, number(bound)?);
-                step_of(bound)?;
+                step_of(bound, self.limit)?;
                 require(is_range(start, len) && (*kind != "shadow" || len <= LONGEST_VIEW), BAD_RANGE)?;
             }
             ["input" | "certify"] | ["output", _, _] => return Ok(UNKNOWN.to_string()),
             _ => return Err(BAD_LINE),
         }
+        match fields {
+            ["sides", ..] => {}
+            ["calls", _, end] => self.work.show(self.step.min(number(end)?).into()),
+            _ => self.work.show(self.step.into()),
+        }
         self.with_run(|run| looks::look(run, self.step.into(), fields)).ok_or(BAD_LINE)
     }
 
     /// The report, if the run has no error by then: of an error the twin has neither a trace nor a place's name.
-    fn report(&self) -> String {
+    fn report(&mut self) -> String {
+        self.work.show(self.step.into());
         let machine = self.with_run(|run| run.at(self.step.into()));
         if !machine.errors.is_empty() {
             return UNKNOWN.to_string();
@@ -140,8 +182,8 @@ fn number(field: &str) -> Result<u32, u32> {
     u32::from_str_radix(digits, base).map_err(|_| BAD_LINE)
 }
 
-fn step_of(step: u32) -> Result<u32, u32> {
-    require(step <= LAST_STEP, BAD_STEP)?;
+fn step_of(step: u32, limit: u32) -> Result<u32, u32> {
+    require(step <= limit, BAD_STEP)?;
     Ok(step)
 }
 
@@ -169,7 +211,7 @@ fn kind(field: &str) -> Result<RangeKind, u32> {
 }
 
 /// The step and the change that a line asks for. A bad field is refused first, then a step, then a range or a value.
-fn change_of(fields: &[&str]) -> Result<(u32, Change), u32> {
+fn change_of(fields: &[&str], limit: u32) -> Result<(u32, Change), u32> {
     let (step, change, is_right) = match *fields {
         ["mark", step, start, len, how] => {
             let (step, start, len) = (number(step)?, number(start)?, number(len)?);
@@ -200,7 +242,7 @@ fn change_of(fields: &[&str]) -> Result<(u32, Change), u32> {
         ["skip", step] => (number(step)?, Change::Skip, true),
         _ => return Err(BAD_LINE),
     };
-    step_of(step)?;
+    step_of(step, limit)?;
     require(is_right, BAD_RANGE)?;
     Ok((step, change))
 }

@@ -10,8 +10,9 @@ use crate::machine::{Bits, Machine, Status};
 use crate::memory::RangeKind;
 use crate::regions::Regions;
 use crate::request::Request;
-use crate::session::Session;
+use crate::session::{LAST_STEP, Session};
 use crate::suppressions::{self, Target};
+use crate::work::Work;
 use std::collections::BTreeMap;
 use std::rc::Rc;
 
@@ -129,7 +130,12 @@ fn a_machine_that_has_ended_takes_marks_only() {
 /// A session on the program that waits, whose segment has so many bytes.
 fn session(len: u32) -> Session {
     let segments = vec![Segment { start: START, bytes: 0x6Fu32.to_le_bytes().to_vec(), len }];
-    Session::new(Isa::Rv32im, Image { segments, entry: START, functions: Vec::new(), regions: Regions::default() }, vec![1, 2, 3])
+    Session::new(
+        Isa::Rv32im,
+        Image { segments, entry: START, functions: Vec::new(), regions: Regions::default() },
+        vec![1, 2, 3],
+        LAST_STEP,
+    )
 }
 
 #[test]
@@ -179,6 +185,48 @@ fn a_line_is_refused_for_its_form_then_its_step_then_its_range_then_the_number_o
         assert_eq!(session.reply(line), format!("refused {number}"), "{line}");
     }
     assert_eq!((session.reply("unmark 4095"), session.reply("skip 1")), ("ok".to_string(), "ok".to_string()));
+}
+
+#[test]
+fn a_session_ends_at_its_limit() {
+    let segments = vec![Segment { start: START, bytes: 0x6Fu32.to_le_bytes().to_vec(), len: 0x1000 }];
+    let image = Image { segments, entry: START, functions: Vec::new(), regions: Regions::default() };
+    let mut session = Session::new(Isa::Rv32im, image, vec![1, 2, 3], 5_000_000);
+    for line in
+        ["goto 5000001", "skip 5000001", "mark 5000001 0 1 defined", "look next run 0 4 5000001", "look last run 0 4 5000001"]
+    {
+        assert_eq!(session.reply(line), "refused 5", "{line}");
+    }
+    let replies =
+        ["goto 5000", "input 3 0", "input 0 256", "input 0 9", "skip 5000000", "look next run 0x10000 4 5000000", "worked"];
+    let wanted = ["ok", "refused 3", "refused 2", "ok", "ok", "step 5000", "worked 5000"];
+    assert_eq!(replies.map(|line| session.reply(line)), wanted);
+    // Machines are 2,048 apart, so that one is held at step 4,096.
+    let replies = ["look calls 0 5000001", "look calls 0 100", "look sides 0x10000 4", "look stack", "look blocks 0", "worked"];
+    let wanted = ["refused 5", "end", "sides 2", "stack 0x00010000", "end", "worked 6908"];
+    assert_eq!(replies.map(|line| session.reply(line)), wanted);
+}
+
+/// The steps of a session that goes to step 20,000,000, again after each of some marks, with machines 8,192 apart: 2,441 times that is
+/// 19,996,672. A mark at the step of a held machine leaves that one.
+#[test]
+fn machines_are_as_far_apart_as_the_limit_asks_for() {
+    let mut work = Work::new(30_000_000);
+    work.show(20_000_000);
+    assert_eq!((work.made(), work.last()), (20_000_000, 19_996_672));
+    for (mark, made) in [(19_996_671, 20_011_520), (19_996_672, 20_014_848), (8192, 40_006_656), (8191, 60_006_656)] {
+        work.keep(mark);
+        work.show(20_000_000);
+        assert_eq!(work.made(), made, "{mark}");
+    }
+    for (limit, last) in [(1, 1024), (4_194_304, 1024), (4_194_305, 0), (2_147_483_647, 0)] {
+        let mut work = Work::new(limit);
+        work.show(1500);
+        assert_eq!(work.last(), last, "{limit}");
+    }
+    let mut furthest = Work::new(2_147_483_647);
+    furthest.show(2_147_483_647);
+    assert_eq!(furthest.last(), 4095 << 19);
 }
 
 #[test]

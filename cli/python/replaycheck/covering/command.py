@@ -7,7 +7,7 @@ from fnmatch import fnmatchcase
 from replaycheck.demangling import Demangler
 from replaycheck.endings import Fault, tell, write
 from replaycheck.guest.code import Code
-from replaycheck.options import LAST_STEP, USUAL_STEP, BadValue, Reader, number
+from replaycheck.options import USUAL_STEP, BadValue, Reader
 from replaycheck.places import Paths, Places
 from replaycheck.refusals import Ended, Refused
 from replaycheck.whole_files import rights_of, rights_of_new, same_file, write_whole
@@ -34,7 +34,8 @@ def options_of(page):
     reader.option("--output")
     reader.repeated("--include", type=pattern)
     reader.repeated("--exclude", type=pattern)
-    reader.option("--step", type=number(0, LAST_STEP), default=USUAL_STEP)
+    reader.step_option("--step", default=USUAL_STEP)
+    reader.limit_option()
     reader.isa_option()
     reader.region_options()
     options = reader.read()

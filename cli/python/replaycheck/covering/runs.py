@@ -80,7 +80,7 @@ def parts_reached(session, sides: Sides, step) -> List[int]:
 
 def run(file, given, options, sides: Sides) -> Made:
     """Makes a run up to the chosen step, and adds what it did."""
-    session = Session(file, given, command="look", isa=options.isa, regions=options.regions)
+    session = Session(file, given, command="look", isa=options.isa, regions=options.regions, limit=options.limit)
     reached = list(sides.parts) if len(sides.parts) <= FEW else parts_reached(session, sides, options.step)
     session.accepted(f"goto {options.step}")
     found = {begin: session.accepted(f"look sides 0x{begin:x} {sides.length(begin)}")[0] for begin in reached}

@@ -26,6 +26,7 @@ def options_of(page):
     reader.option("--supp")
     reader.isa_option()
     reader.region_options()
+    reader.limit_option()
     reader.option("--port", type=number(0, 65535))
     reader.option("--commands", is_flag=True)
     options = reader.read()
@@ -38,7 +39,7 @@ def debug(options):
     if options.commands:
         write(COMMANDS)
         return 0
-    run = Run(options.file, options.input, options.supp, options.isa, options.regions)
+    run = Run(options.file, options.input, options.supp, options.isa, options.regions, options.limit)
     run.registers()  # what keeps the program from its work is told before gdb is answered
     alterer = Alterer(run)
     goer = Goer(run, alterer)

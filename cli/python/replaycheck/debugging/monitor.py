@@ -7,11 +7,10 @@ from replaycheck import options
 from replaycheck.endings import Fault, start
 from replaycheck.guest.elf import Elf
 from replaycheck.looking import DEFINED, NO_ACCESS
-from replaycheck.options import LAST_STEP
 from replaycheck.origins.image import LONGEST_FILE
 from replaycheck.programs import TOP
 from replaycheck.reports import SUMS
-from replaycheck.sessions import isa_words, path_of
+from replaycheck.sessions import isa_words, limit_words, path_of
 
 from .altering import register_of
 from .registers import NAMES
@@ -79,7 +78,7 @@ class Monitor:
 
     def goto(self, word, *words):
         taken(words, 1, 1, word)
-        self.run.step = number(words[0], LAST_STEP)
+        self.run.step = number(words[0], self.run.limit)
         return self.where()
 
     def end(self, word, *words):
@@ -111,9 +110,9 @@ class Monitor:
         file, given, supp = self.run.files
         asked = ["--input", path_of(given)] if given is not None else []
         asked += ["--supp", path_of(supp)] if supp is not None else []
-        asked += [*isa_words(self.run.isa), *self.run.regions.words]
+        asked += [*isa_words(self.run.isa), *self.run.regions.words, *limit_words(self.run.limit)]
         asked += [it for line in self.run.edits for it in ("--line", line)]
-        asked += [f"--last={min(self.run.step + 1, LAST_STEP)}", f"--error={number(words[0]) if words else 1}"]
+        asked += [f"--last={min(self.run.step + 1, self.run.limit)}", f"--error={number(words[0]) if words else 1}"]
         child = start([f"{TOP}/cli/bin/replaycheck-origin", path_of(file), *asked], stdin=subprocess.DEVNULL,
                       stdout=subprocess.PIPE, stderr=subprocess.STDOUT, env={**os.environ, "COLUMNS": "100"})
         return child.communicate()[0].decode("utf-8", "surrogateescape")

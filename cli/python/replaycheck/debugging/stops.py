@@ -2,8 +2,7 @@
 from dataclasses import dataclass
 
 from replaycheck.guest.regions import meets
-from replaycheck.looking import REACHES, TOP
-from replaycheck.options import LAST_STEP
+from replaycheck.looking import TOP
 
 SOFTWARE, HARDWARE, WRITE, READ, ACCESS = range(5)  # the sorts of points, by their numbers in packets
 KINDS = {SOFTWARE: ("run",), HARDWARE: ("run",), WRITE: ("write",), READ: ("read",), ACCESS: ("write", "read")}
@@ -67,8 +66,8 @@ class Goer:
     def forward(self, within=None):
         """Goes on to the first stop: within a range of addresses, to the first step outside of it."""
         here = self.run.step
-        for reach in REACHES:
-            edge = min(LAST_STEP, here + reach)
+        for reach in self.run.reaches():
+            edge = min(self.run.limit, here + reach)
             stop = self.first(here, edge, within)
             if stop or edge >= self.run.known_end():
                 break
@@ -77,7 +76,7 @@ class Goer:
     def back(self):
         """Goes back to the last stop."""
         here = self.run.step
-        for reach in REACHES:
+        for reach in self.run.reaches():
             edge = max(0, here - reach)
             stop = self.last(here, edge)
             if stop or edge == 0:
@@ -124,7 +123,7 @@ class Goer:
     def step(self):
         """One step on."""
         here = self.run.step
-        if not self.run.registers().runs or here == LAST_STEP:
+        if not self.run.registers().runs or here == self.run.limit:
             return self.stopped(Stop(here, END))
         point = self.accessed_in(here)
         return self.stopped(Stop(here, point.word) if point else Stop(here + 1))

@@ -3,6 +3,7 @@ from typing import Dict, Iterable, List, Optional, Set, Tuple
 
 from replaycheck.disassembly import texts_at
 from replaycheck.guest.lines import shown_name
+from replaycheck.options import limit_for
 from replaycheck.sessions import Session
 
 from .steps import PAIR, steps_in
@@ -37,23 +38,24 @@ class Instructions:
 
     def learn_runs(self, runs: Iterable[Tuple[Optional[int], Set[int]]]) -> None:
         """Looks at steps of the unedited run, which is that without a skip, and of runs with a skip, that weren't looked at before."""
-        session = None
+        session, runs = None, list(runs)
+        limit = limit_for(max((max(steps, default=0) for _, steps in runs), default=0))
         for skipped, steps in runs:
             new = sorted(it for it in steps if (it, skipped) not in self.addresses)
             for begin in range(0, len(new), AT_ONCE):
                 if session is None or self.asked > MOST_LINES:
-                    session = self.opened(session)
+                    session = self.opened(session, limit)
                 self.look(session, skipped, new[begin:begin + AT_ONCE])
         if session is not None:
             session.end()
 
-    def opened(self, before: Optional[Session]) -> Session:
+    def opened(self, before: Optional[Session], limit: int) -> Session:
         """A session in the place of one that has had its lines."""
         if before is not None:
             before.end()
         self.asked = 0
         program, given, supp = (it.path or None for it in self.request.files)
-        return Session(program, given, supp, command="look", isa=self.request.isa, regions=self.request.regions)
+        return Session(program, given, supp, command="look", isa=self.request.isa, regions=self.request.regions, limit=limit)
 
     def look(self, session: Session, skipped: Optional[int], steps: List[int]) -> None:
         """Looks at steps, by lines that go together into a pipe. Of a program that doesn't have skips nothing is learnt."""

@@ -8,7 +8,7 @@ from replaycheck.covering import lcov
 from replaycheck.endings import Fault, flush, write
 from replaycheck.file_heaps import heap_of_run
 from replaycheck.guest.lines import shown_name
-from replaycheck.options import LAST_STEP, Reader, number
+from replaycheck.options import FURTHEST_STEP, Reader, number
 from replaycheck.programs import ISAS
 from replaycheck.sessions import program
 
@@ -37,7 +37,8 @@ def options_of(page):
         reader.option(name)
     reader.option("--isa", choices=ISAS)
     reader.region_options()
-    reader.option("--step", type=number(0, LAST_STEP))
+    reader.option("--step", type=number(0, FURTHEST_STEP))
+    reader.option("--limit", type=number(1, FURTHEST_STEP))
     reader.option("--bytes", type=range_of)
     reader.option("--words", type=words_of)
     reader.option("--values", type=values_reader(BYTES, 256))
@@ -63,13 +64,14 @@ def check(reader, options):
     """Rejects what doesn't go together."""
     printed = [f"--{it}" for it in OUTPUTS if getattr(options, it) == "-"]
     words = options.words is not None or options.code is not None and options.at is None
-    making = [it for it in ("--bytes", "--words", "--code", "--values", "--words-values", "--at", "--faults", "--code-range", "--pairs",
-                            "--with-output", "--jobs", "--parts", "--keep", "--sshlogin", "--script")
+    making = [it for it in ("--limit", "--bytes", "--words", "--code", "--values", "--words-values", "--at", "--faults", "--code-range",
+                            "--pairs", "--with-output", "--jobs", "--parts", "--keep", "--sshlogin", "--script")
               if getattr(options, it[2:].replace("-", "_")) not in (None, False)]
     faults = [(options.file is None and not options.tables, "no FILE, and no --from"),
               (options.file is None and (options.input or options.supp), "--input and --supp go with a FILE"),
               *((options.file is None and getattr(options, name) is not None, f"--{name.replace('_', '-')} goes with a FILE")
                 for name in ("isa", "heap_region", "stack_region", "most_moved", "most_output")),
+              (options.limit is not None and options.step is not None, "--step and --limit at once"),
               (options.tables and making, f"--from takes tables that are there: {' '.join(making)} makes them"),
               (options.at is None and options.code is not None and options.words is not None, "--code and --words at once"),
               (options.code is not None and options.code_range is not None, "--code and --code-range at once"),

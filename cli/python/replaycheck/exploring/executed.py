@@ -15,6 +15,7 @@ from replaycheck.endings import Fault
 from replaycheck.guest.code import Code
 from replaycheck.guest.elf import Elf
 from replaycheck.guest.lines import shown_name
+from replaycheck.options import limit_for
 from replaycheck.places import Paths, Places
 from replaycheck.records import Record
 from replaycheck.refusals import Ended, Refused
@@ -178,7 +179,8 @@ class Executed:
 
     def session(self) -> Session:
         program, given, supp = (it.path or None for it in self.request.files)
-        return Session(program, given, supp, command="look", isa=self.request.isa, regions=self.request.regions)
+        return Session(program, given, supp, command="look", isa=self.request.isa, regions=self.request.regions,
+                       limit=limit_for(self.step))
 
     def opened(self) -> Session:
         """A session at the step."""

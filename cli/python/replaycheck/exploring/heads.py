@@ -7,7 +7,7 @@ from typing import Callable, List, Optional, Tuple, Union
 
 from replaycheck.guest.lines import NUMBER, BadTable, shown
 from replaycheck.guest.regions import GREATEST_MOVED, GREATEST_OUTPUT, USUAL_MOVED, USUAL_OUTPUT, USUAL_REGIONS, Regions, is_heap, is_stack
-from replaycheck.options import LAST_STEP
+from replaycheck.options import FURTHEST_STEP
 from replaycheck.programs import ISAS, unit_of
 
 from .ranges import Code, Range
@@ -259,9 +259,9 @@ def read_head(lines):
     ranges: List[Union[Range, Steps, None]] = [read_range(lines, "bytes", BYTES, LONGEST_INPUT - 1, 255),
                                                read_range(lines, "words", WORDS, 0xFFFFFFFF, 0xFFFFFFFF,
                                                           form_of_words(isa)),
-                                               read_steps(lines, version, LAST_STEP, isa, regions)]
+                                               read_steps(lines, version, FURTHEST_STEP, isa, regions)]
     has_sides = read_sides(lines, version, ranges)
-    step = at_most(lines, lines.must(STEP, "`step N`")[1], LAST_STEP, "a step")
+    step = at_most(lines, lines.must(STEP, "`step N`")[1], FURTHEST_STEP, "a step")
     has_output = lines.must(OUTPUT, "`output yes` or `output no`")[1] == b"yes"
     before = tuple(taken)
     part = lines.must(PART, "`part I/N`")

@@ -9,12 +9,13 @@ from dataclasses import dataclass, replace
 from replaycheck.endings import Fault
 from replaycheck.guest.elf import Elf, refusals
 from replaycheck.guest.lines import shown_name
-from replaycheck.options import BadValue
+from replaycheck.looking import TOP
+from replaycheck.options import LAST_STEP, BadValue, limit_for
 from replaycheck.programs import USUAL, isa_words, unit_of
 from replaycheck.sessions import path_of
 
 from .heads import form_of_words, told_isa, told_places, told_regions
-from .ranges import Code, Loaded, Range
+from .ranges import WORD, Code, Loaded, Range
 from .steps import Steps, models_fault
 from .tables import EDGES
 from .unedited import Unedited, default_step
@@ -124,26 +125,40 @@ class Request:
         words = code if options.at is None and options.code is not None else options.words
         self.at = options.at
         if not options.tables:
-            self.choose(options, bool(options.bytes or not words and not options.at))
+            self.choose(options, bool(options.bytes or not words and not options.at), words, code)
         if words:
             self.ranges.append(self.known(form_of_words(self.isa)("words", *words, options.words_values or "skip")))
         if self.at and not options.tables:
             self.ranges.append(self.steps_range(options.faults, code, options.pairs is not None))
 
-    def choose(self, options, has_bytes):
+    def choose(self, options, has_bytes, words, code):
         """Chooses the step, the bytes and the last step that is altered, by what the unedited run does."""
         is_open = self.at is not None and self.at[1] is None
         if has_bytes:
             self.check_input()
         elif self.step is not None and not is_open:
             return
-        with Unedited(self.program.path, self.input.path or None, self.supp.path or None, self.isa, self.regions) as run:
+        limit = limit_for(self.step) if self.step is not None else options.limit or LAST_STEP
+        with Unedited(self.program.path, self.input.path or None, self.supp.path or None, self.isa, self.regions, limit) as run:
             if self.step is None:
-                self.step, self.step_note = default_step(run.end())
+                offset = (options.bytes or (0, None))[0] if has_bytes else None
+                self.step, self.step_note = default_step(run.end(), lambda end: self.first_shown(run, end, offset, words, code), limit)
             if is_open:
                 self.at = self.steps_to_end(self.at[0], run.end())
             if has_bytes:
                 self.ranges.append(self.bytes_range(options.bytes, options.values or "all", run.bytes_read(self.step)))
+
+    def first_shown(self, run, end, offset, words, code):
+        """The first step of the unedited run whose outcome an edit may change, or the end of that run."""
+        shown = [end]
+        if offset is not None:
+            shown.append(run.first_read(offset, end))
+        if words:
+            first = -(-words[0] // self.unit) * self.unit
+            shown.append(run.first_use(first, min(words[1] + WORD, TOP) - first, end))
+        if self.at:
+            shown.append(run.first_altered(self.at[0], code, self.unit, end))
+        return min(shown)
 
     # ---- the steps at which the machine is altered
 

@@ -16,7 +16,8 @@ def options_of(page):
     reader.program_options()
     reader.repeated("--line", type=edit)
     reader.option("--error", type=number(1, LAST_STEP), default=1)
-    reader.option("--last", type=number(1, LAST_STEP), default=USUAL_STEP)
+    reader.step_option("--last", 1, USUAL_STEP)
+    reader.limit_option()
     reader.option("--short", is_flag=True)
     reader.option("--long", is_flag=True)
     options = reader.read()
@@ -26,7 +27,7 @@ def options_of(page):
 
 
 def origin(options):
-    trials = Trials(options.file, options.input, options.supp, options.line, options.isa, options.regions)
+    trials = Trials(options.file, options.input, options.supp, options.line, options.isa, options.regions, options.limit)
     try:
         errors = errors_of(trials.report(options.last))
         if len(errors) < options.error:

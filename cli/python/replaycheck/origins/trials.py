@@ -35,15 +35,15 @@ class Progress:
 class Trials:
     """A session with the lines of the user. A mark is a step, a first address, the one behind the last, and a kind."""
 
-    def __init__(self, file, given, supp, lines, isa, regions):
-        self.words, self.user, self.isa, self.regions = (file, given, supp), lines, isa, regions
+    def __init__(self, file, given, supp, lines, isa, regions, limit):
+        self.words, self.user, self.isa, self.regions, self.limit = (file, given, supp), lines, isa, regions, limit
         self.reports, self.doing, self.progress = 0, "the error", Progress()
         self.open()
         self.first = sum(MARKING.get(line.split(" ")[0], 0) for line in lines)
         self.room = MOST_MARKS - self.first
 
     def open(self):
-        self.session = Session(*self.words, command="look", isa=self.isa, regions=self.regions)
+        self.session = Session(*self.words, command="look", isa=self.isa, regions=self.regions, limit=self.limit)
         self.marks, self.asked = [], len(self.user)
         for line in self.user:
             self.session.accepted(line)

@@ -9,7 +9,7 @@ from typing import Iterator, List, Optional, Tuple, Union
 
 from replaycheck.guest.regions import USUAL_MOVED, USUAL_OUTPUT, USUAL_REGIONS
 from replaycheck.looking import ALL, MOST_SEEN, TOP
-from replaycheck.options import LAST_STEP
+from replaycheck.options import FURTHEST_STEP, LAST_STEP
 from replaycheck.programs import ISAS
 from replaycheck.reports import Address, Lines, NoReport, Report, read_report
 from replaycheck.scripting.errors import Error, Usage
@@ -46,9 +46,9 @@ class Run:
     """A run of a program on an input. `program`, `input` and `suppressions` are paths, or bytes that take the place of a file; each is read
     once, when the run is opened. `isa` is the instruction set that the program is read for. `heap_region` is where the heap's region
     begins, and `stack_region` where the stack's begins and ends. One call moves at most `most_moved` bytes, and the program writes at most
-    `most_output` in all, with None for no limit. Edits change the run, and reports and looks show it with all of them. It is a context
-    manager; `close` ends it otherwise. A run belongs to one thread at a time, and to the process that opened it; different runs don't share
-    anything.
+    `most_output` in all, with None for no limit. `limit` is the last step that there is. Edits change the run, and reports and looks show
+    it with all of them. It is a context manager; `close` ends it otherwise. A run belongs to one thread at a time, and to the process that
+    opened it; different runs don't share anything.
 
     # Errors
 
@@ -59,8 +59,9 @@ class Run:
     def __init__(self, program: Source, input: Optional[Source] = None,  # noqa: A002
                  suppressions: Optional[Source] = None, *, isa: str = ISAS[0],
                  heap_region: int = USUAL_REGIONS.heap, stack_region: Tuple[int, int] = USUAL_REGIONS.stack,
-                 most_moved: int = USUAL_MOVED, most_output: Optional[int] = USUAL_OUTPUT) -> None:
-        self._talk = Talk(program, input, suppressions, isa, regions_for(isa, heap_region, stack_region, most_moved, most_output))
+                 most_moved: int = USUAL_MOVED, most_output: Optional[int] = USUAL_OUTPUT, limit: int = LAST_STEP) -> None:
+        regions = regions_for(isa, heap_region, stack_region, most_moved, most_output)
+        self._talk = Talk(program, input, suppressions, isa, regions, number("limit", limit, 1, FURTHEST_STEP))
         self._name = self._talk.names["image"]
 
     def __repr__(self) -> str:
@@ -191,6 +192,11 @@ class Run:
 
     # ---- reports
 
+    @property
+    def limit(self) -> int:
+        """The last step that there is."""
+        return self._open().limit
+
     def report(self, step: Optional[int] = None) -> Report:
         """Returns the report at a step: without one, at the last that there is. Its `text` is what `replaycheck run` prints."""
         talk = self._at(step)
@@ -232,7 +238,7 @@ class Run:
 
     def certify(self, step: Optional[int] = None) -> Certificate:
         """Returns whether anything that uninitialised, freed or unmapped memory holds has an influence on the run up to a step, without
-        one up to `LAST_STEP`."""
+        one up to `limit`."""
         return Certificate(self._at(step).look("certify")[0], step is not None)
 
     # ---- looks
@@ -242,12 +248,12 @@ class Run:
 
         # Errors
 
-        What is asked of it fails with `Refused` and the number 5 if it is above `LAST_STEP`."""
+        What is asked of it fails with `Refused` and the number 5 if it is above `limit`."""
         return Step(self, number("step", step))
 
     def _at(self, step: Optional[int]) -> Talk:
         talk = self._open()
-        talk.at(LAST_STEP if step is None else number("step", step))
+        talk.at(talk.limit if step is None else number("step", step))
         return talk
 
     def _seen(self, step: int) -> List[str]:
@@ -273,18 +279,18 @@ class Run:
     # ---- which step does something
 
     def next(self, kind: str, address: Optional[Place] = None, length: int = 1, start: int = 0,
-             end: int = LAST_STEP) -> Optional[int]:
+             end: Optional[int] = None) -> Optional[int]:
         """Returns the first step from `start` on and below `end` that does something with bytes, or None. "run" executes an instruction
         there, "read" and "write" access one, "shadow" changes what is known of one, "error" executes an instruction there and makes an
-        error. Without an address all memory is meant."""
-        return self._search("next", kind, address, length, start, end)
+        error. Without an address all memory is meant, and without an end all steps up to `limit`."""
+        return self._search("next", kind, address, length, start, self.limit if end is None else end)
 
-    def last(self, kind: str, address: Optional[Place] = None, length: int = 1, before: int = LAST_STEP,
+    def last(self, kind: str, address: Optional[Place] = None, length: int = 1, before: Optional[int] = None,
              start: int = 0) -> Optional[int]:
-        """Returns the last step below `before` and from `start` on that does this."""
-        return self._search("last", kind, address, length, before, start)
+        """Returns the last step below `before`, or below `limit`, and from `start` on that does this."""
+        return self._search("last", kind, address, length, self.limit if before is None else before, start)
 
-    def last_write(self, address: Place, length: int = 1, before: int = LAST_STEP) -> Optional[int]:
+    def last_write(self, address: Place, length: int = 1, before: Optional[int] = None) -> Optional[int]:
         """Returns the last step before another one that writes one of some bytes, or None."""
         return self.last("write", address, length, before)
 
@@ -302,15 +308,15 @@ class Run:
             yield step
             step = self.next("run", function, WORD, step + 1)
 
-    def happened(self, start: int = 0, end: int = LAST_STEP) -> List[Happened]:
-        """Returns what happens in the steps from `start` on and below `end`, in order: calls and returns, calls of the heap, input that is
-        read and output that is written."""
-        first = number("start", start)
-        return [happened_in(row.split()) for row in self._at(end).listed("calls", first, end)]
+    def happened(self, start: int = 0, end: Optional[int] = None) -> List[Happened]:
+        """Returns what happens in the steps from `start` on and below `end`, or below `limit`, in order: calls and returns, calls of the
+        heap, input that is read and output that is written."""
+        first, last = number("start", start), self.limit if end is None else end
+        return [happened_in(row.split()) for row in self._at(last).listed("calls", first, last)]
 
     @property
     def end(self) -> int:
-        """The step at which the program has ended, or `LAST_STEP` if it still runs there."""
+        """The step at which the program has ended, or `limit` if it still runs there."""
         return self._open().end()
 
     # ---- names

@@ -23,7 +23,7 @@ class Talk(looking.Run):
     """The lines of `replaycheck look` on the files of a run. `scenario` is the edited run; the session follows it when something is asked.
     A session whose state isn't known, as what was asked it was interrupted, isn't asked anything more."""
 
-    def __init__(self, program: Source, given: Source | None, supp: Source | None, isa: str, regions: Regions) -> None:
+    def __init__(self, program: Source, given: Source | None, supp: Source | None, isa: str, regions: Regions, limit: int) -> None:
         sources = {"image": program, "input": b"" if given is None else given, "suppressions": supp}
         there = {what: source for what, source in sources.items() if source is not None}
         data = {what: read(what, source) for what, source in there.items()}
@@ -37,7 +37,7 @@ class Talk(looking.Run):
             for what in data:
                 self.rooms[what] = Room(what, data[what])
             paths = {what: room.path for what, room in self.rooms.items()}
-            super().__init__(paths["image"], paths["input"], paths.get("suppressions"), isa, regions)
+            super().__init__(paths["image"], paths["input"], paths.get("suppressions"), isa, regions, limit)
         except OSError as fault:
             self.close()
             raise self.told(fault) from None
@@ -86,7 +86,7 @@ class Talk(looking.Run):
             lent = [it.number for it in self.rooms.values()]
             program, given, supp = self.files
             session = self.session = Session(program, given, supp, keeps_status=True, lends=lent, command="look", path=built_program(),
-                                             isa=self.isa, regions=self.regions)
+                                             isa=self.isa, regions=self.regions, limit=self.limit)
             session.accept_all(lines)
         except (Fault, OSError) as fault:
             self.drop()

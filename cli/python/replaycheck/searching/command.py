@@ -16,11 +16,11 @@ from replaycheck.exploring.executed import told as executed_told
 from replaycheck.exploring.keeping import Room
 from replaycheck.exploring.outputs import Output, is_one
 from replaycheck.exploring.summary import SourceLines
-from replaycheck.exploring.unedited import Unedited, default_step
+from replaycheck.exploring.unedited import Unedited, times_the_end
 from replaycheck.file_heaps import heap_of_run
 from replaycheck.guest.code import Code
 from replaycheck.guest.lines import shown_name
-from replaycheck.options import LAST_STEP, Reader, number
+from replaycheck.options import Reader, number
 from replaycheck.places import Paths, Places
 from replaycheck.sessions import Session
 
@@ -48,7 +48,8 @@ def options_of(page):
         reader.option(name)
     reader.isa_option()
     reader.region_options()
-    reader.option("--step", type=number(0, LAST_STEP))
+    reader.step_option("--step")
+    reader.limit_option()
     reader.option("--time", type=number(1, MOST))
     reader.option("--runs", type=number(1, MOST))
     reader.option("--jobs", type=number(1, 1000))
@@ -102,13 +103,13 @@ class Search:
         """Chooses the step where none is asked for. Rejects a program that reads nothing, or doesn't end."""
         options = self.options
         name = f"the run of {shown_name(self.seeds[0][0])}" if self.seeds[0][0] else "the run without an input"
-        with Unedited(options.file, self.seed, options.supp, options.isa, options.regions) as run:
+        with Unedited(options.file, self.seed, options.supp, options.isa, options.regions, options.limit) as run:
             if options.step is None:
                 end = run.end()
                 if end is None:
-                    raise Fault(f"{name} doesn't end by step {LAST_STEP}: --step N says how far each run goes, or another seed comes "
+                    raise Fault(f"{name} doesn't end by step {options.limit}: --step N says how far each run goes, or another seed comes "
                                 "first")
-                options.step, self.step_note = default_step(end, name)
+                options.step, self.step_note = times_the_end(end, name, options.limit)
             run.run.at(options.step)
             _, read, _, has_asked = run.run.look("input")[0].split()
             if read == "0" and has_asked == "no":
@@ -139,7 +140,7 @@ class Search:
             with open(path, "wb") as file:
                 file.write(content)
         options = self.options
-        return Session(options.file, path, options.supp, command=COMMAND, isa=options.isa, regions=options.regions)
+        return Session(options.file, path, options.supp, command=COMMAND, isa=options.isa, regions=options.regions, limit=options.limit)
 
     def plan(self) -> Plan:
         options, goal = self.options, self.options.goal

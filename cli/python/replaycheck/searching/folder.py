@@ -141,7 +141,7 @@ def session_lines(seed: bytes, content: bytes, step: int) -> List[str]:
 
 def report_of(path: str, options, step: int) -> List[str]:
     """The report of a run on an input, asked of a session of its own."""
-    session = Session(options.file, path, options.supp, command="look", isa=options.isa, regions=options.regions)
+    session = Session(options.file, path, options.supp, command="look", isa=options.isa, regions=options.regions, limit=options.limit)
     lines = session.report_at(step)
     session.end()
     return lines

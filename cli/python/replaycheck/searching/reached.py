@@ -54,7 +54,8 @@ class Reached:
             self.end()
         if self.session is None:
             options = self.options
-            self.session, self.lines = Session(options.file, command="look", isa=options.isa, regions=options.regions), 1
+            self.session = Session(options.file, command="look", isa=options.isa, regions=options.regions, limit=options.limit)
+            self.lines = 1
             self.session.accepted(f"goto {options.step}")
         self.lines += 1
         looks = [(begin, f"look sides 0x{begin:x} {self.sides.length(begin)}") for begin in self.sides.parts]

@@ -3,7 +3,7 @@ ghost use Rattle.std.specs.Prelude.{◌≡◌, ◌+◌, ◌^◌, nat_lt};
 ghost use Rattle.scenario.specs.Edits.{is_bad_range, is_too_wide, mark_refusal};
 
 use crate::edits::refused_if;
-use crate::limits::{LONGEST_MARK, MOST_MARKS, MOST_STEPS};
+use crate::limits::{LONGEST_MARK, MOST_MARKS};
 use crate::scenario::Scenario;
 use checkpoints::Effect;
 use commands::Refusal;
@@ -45,12 +45,12 @@ fn is_bad_range(act: &Act) -> bool
     }
 }
 
-/// Returns why a mark is rejected, for this number of marks so far.
+/// Returns why a mark is rejected, up to this step and for this number of marks so far.
 #[tactic(auto, unfolding(crate::specs::Edits::mark_refusal))]
-fn refusal_of(marks: usize, mark: &Alteration) -> Option<Refusal>
-    ensures { result ≡ mark_refusal marks mark.now }
+fn refusal_of(limit: u32, marks: usize, mark: &Alteration) -> Option<Refusal>
+    ensures { result ≡ mark_refusal limit marks mark.now }
 {
-    if mark.step > MOST_STEPS {
+    if mark.step > limit {
         Some(Refusal::StepLimit)
     } else if is_bad_range(&mark.act) {
         Some(Refusal::BadRange)
@@ -69,7 +69,7 @@ impl<'a> Scenario<'a> {
     pub(crate) fn mark_refusal(&self, mark: &Alteration) -> Option<Refusal>
         ensures { result ≡ (row self.now (MarkEdit mark.now)).refusal }
     {
-        refusal_of(self.marks.len(), mark)
+        refusal_of(self.limit, self.marks.len(), mark)
     }
 
     pub(crate) fn unmark_refusal(&self, index: u32) -> Option<Refusal>

@@ -19,6 +19,7 @@ halve-preserved-then-branch c =
       held = c.in_ok-is_clean_at.ensures.held;
       short = c.is_clean_at.ensures.short;
       loaded = c.is_clean_at.ensures.loaded;
+      spacing = c.is_clean_at.ensures.spacing;
     }) (omega arith) (let order = c.halve.invariant.order in omega arith) c.if-branch.true
 
 pub halve-preserved : goal.halve-preserved
@@ -31,6 +32,7 @@ halve-preserved c =
       held = c.in_ok-is_clean_at.ensures.held;
       short = c.is_clean_at.ensures.short;
       loaded = c.is_clean_at.ensures.loaded;
+      spacing = c.is_clean_at.ensures.spacing;
     }) (omega arith) (let order = c.halve.invariant.order in omega arith) c.if-branch.false
 
 pub returns-clause-raises : goal.returns-clause-raises

@@ -8,15 +8,15 @@ pub returns-clause-shape : goal.returns-clause-shape
 returns-clause-shape c =
     IfOk-weaker c.arg-3.result _ _ (λ command added. added.shape c.default_option.ensures.local
     ∙ ap₂ with_rule (c.in_ok-command-4.ensures.shape c.option.ensures.local
-    ∙ ap₂ with_rule (c.in_ok-command-3.ensures.shape c.step_argument.ensures.local
+    ∙ ap₂ with_rule (c.in_ok-command-3.ensures.shape c.default_number.ensures.local
     ∙ ap₂ with_rule (c.in_ok-command-2.ensures.shape ∙ ap with_limits c.in_ok-command.ensures.shape)
-    c.step_argument.ensures.rule) c.option.ensures.rule)
+    c.default_number.ensures.rule) c.option.ensures.rule)
     c.default_option.ensures.rule) c.arg-3.ensures
 
 pub returns-clause-globals : goal.returns-clause-globals
 returns-clause-globals c =
     IfOk-weaker c.arg-3.result _ _ (λ command added. added.globals
     ∙ ap₂ ◌||◌ (c.in_ok-command-4.ensures.globals ∙ ap₂ ◌||◌ (c.in_ok-command-3.ensures.globals
-    ∙ ap₂ ◌||◌ (c.in_ok-command-2.ensures.globals ∙ c.in_ok-command.ensures.globals) c.step_argument.ensures.local)
+    ∙ ap₂ ◌||◌ (c.in_ok-command-2.ensures.globals ∙ c.in_ok-command.ensures.globals) c.default_number.ensures.local)
     c.option.ensures.local)
     c.default_option.ensures.local) c.arg-3.ensures

@@ -1,13 +1,10 @@
 use Rattle.std.proofs.Common.{◌∙◌, ap, ap₂}
 use Rattle.std.proofs.lemmas.Result.{IfOk-weaker}
 use Rattle.clap.specs.Words.{App, with_subcommand}
-use Rattle.command_line.specs.Orders.{with_limits}
 use Rattle.command_line.proofs.arguments.with_look.Goals as goal
 
 pub returns : goal.returns
 returns c =
-    IfOk-weaker c.subcommand.result _ _ (λ command added. added.shape
-    (c.in_ok-look-2.ensures.globals ∙ c.in_ok-look.ensures.globals)
-    ∙ ap₂ with_subcommand c.in_ok-with_session.ensures
-    (ap (λ (app : App). app.top) (c.in_ok-look-2.ensures.shape ∙ ap with_limits c.in_ok-look.ensures.shape)))
+    IfOk-weaker c.subcommand.result _ _ (λ command added. added.shape c.in_ok-look.ensures.globals
+    ∙ ap₂ with_subcommand c.in_ok-with_session.ensures (ap (λ (app : App). app.top) c.in_ok-look.ensures.shape))
     c.subcommand.ensures

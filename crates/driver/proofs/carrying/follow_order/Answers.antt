@@ -77,7 +77,7 @@ returns-in-Look g c =
     c.in_ok-profile.ensures.ok c.in_ok-file.ensures.ok
     c.deref.ensures.value c.in_ok-image.ensures.image
     c.in_ok-suppressions.ensures.ok c.in_ok-input.ensures.ok
-    (does-same _ Look _ _ _ _ _ _ c.in-Look.is c.serve_looks.ensures)
+    (does-same _ (Look c.in-Look.asked) _ _ _ _ _ _ c.in-Look.is c.serve_looks.ensures)
 
 pub returns-in-Tries : goal.returns-in-Tries
 returns-in-Tries g c =
@@ -85,7 +85,7 @@ returns-in-Tries g c =
     c.in_ok-profile.ensures.ok c.in_ok-file.ensures.ok
     c.deref.ensures.value c.in_ok-image.ensures.image
     c.in_ok-suppressions.ensures.ok c.in_ok-input.ensures.ok
-    (does-same _ Tries _ _ _ _ _ _ c.in-Tries.is c.serve_tries.ensures)
+    (does-same _ (Tries c.in-Tries.asked) _ _ _ _ _ _ c.in-Tries.is c.serve_tries.ensures)
 
 pub returns : goal.returns
 returns g c =

@@ -1,4 +1,3 @@
-use Rattle.std.proofs.Common.{refl}
 use Rattle.std.proofs.lemmas.Result.{IfOk-weaker}
 use Rattle.scenario.specs.Scenario.{IsOutlineOf, chosen_state}
 use Rattle.sweeps.proofs.CoverSteps.{entered-for}

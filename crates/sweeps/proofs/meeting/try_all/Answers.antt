@@ -1,4 +1,4 @@
-use Rattle.std.proofs.Common.{◌∙◌, sym, subst, List}
+use Rattle.std.proofs.Common.{arith, ◌∙◌, sym, subst, List}
 use Rattle.std.proofs.lemmas.Result.{on_ok_weaker}
 use Rattle.std.specs.List.{All}
 use Rattle.sweep_plans.specs.declared.change.Change.{Change}
@@ -9,7 +9,8 @@ use Rattle.sweeps.proofs.Steps.{counts-same}
 use Rattle.sweeps.proofs.meeting.try_all.Goals as goal
 
 pub changes-requires : goal.changes-requires
-changes-requires c = next-below c.args.scenario.now.step c.args.site.now.standing c.requires.near c.requires.below
+changes-requires c =
+    next-below c.args.scenario.now.step c.args.site.now.standing (omega (arith, c.requires.near)) c.requires.below
 
 pub try_there-requires-clause-at : goal.try_there-requires-clause-at
 try_there-requires-clause-at c =

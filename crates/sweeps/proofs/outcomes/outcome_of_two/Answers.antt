@@ -4,8 +4,8 @@ use Rattle.checkpoints.specs.Effects.{LeadsTo}
 use Rattle.checkpoints.specs.Forks.{IsForkFor}
 use Rattle.checkpoints.specs.declared.effect.Effect.TheVariants.{After}
 use Rattle.scenario.specs.Edits.{row, IsTaken}
-use Rattle.scenario.specs.Limits.{most_marks, most_steps}
-use Rattle.scenario.specs.Scenario.{Scenario, IsOutlineOf, run_of}
+use Rattle.scenario.specs.Limits.{most_marks}
+use Rattle.scenario.specs.Scenario.{Scenario, IsOutlineOf, run_of, limit_of}
 use Rattle.sweeps.specs.Outcomes.{IsOutcome}
 use Rattle.sweep_plans.specs.Changes.{glitch_edit}
 use Rattle.sweeps.proofs.ChangeSteps.{glitch-taken, marks-more, with-mark}
@@ -16,7 +16,7 @@ pub edit-requires-2 : goal.edit-requires-2
 edit-requires-2 c =
     let may = c.requires.may in
     let few : length c.args.scenario.now.marks < most_marks = omega (arith, may.room) in
-    let near : c.args.step ≤ most_steps = omega (arith, may.forward, may.near) in
+    let near : c.args.step ≤ limit_of c.args.scenario.now = omega (arith, may.forward, may.near) in
     subst (IsTaken c.args.scenario.now) (sym c.edit.ensures)
     (glitch-taken c.args.scenario.now c.args.step c.args.glitch near few c.requires.first)
 
@@ -70,7 +70,7 @@ returns-clause-outcome c =
     let after : c.edit-2.new.self ≡ (row sc edit).after = c.in_ok-edit.ensures.ok
     ∙ ap (λ e. (row sc e).after) c.edit.ensures in
     let few : length sc.marks < most_marks = omega (arith, may.room) in
-    let near : c.args.step ≤ most_steps = omega (arith, may.forward, may.near) in
+    let near : c.args.step ≤ limit_of c.args.scenario.now = omega (arith, may.forward, may.near) in
     let leads = c.edits_follow.ensures sc edit (glitch-taken sc c.args.step c.args.glitch near few c.requires.first) in
     IfOk-weaker c.outcome_of_second-told.result _ _
     (λ text told. subst (λ (s : Scenario). IsOutlineOf c.args.with_output

@@ -4,8 +4,8 @@ use Rattle.checkpoints.specs.Effects.{LeadsTo}
 use Rattle.checkpoints.specs.Forks.{IsForkFor}
 use Rattle.checkpoints.specs.declared.effect.Effect.TheVariants.{After}
 use Rattle.scenario.specs.Edits.{row, IsTaken}
-use Rattle.scenario.specs.Limits.{most_marks, most_steps}
-use Rattle.scenario.specs.Scenario.{Scenario, run_of}
+use Rattle.scenario.specs.Limits.{most_marks}
+use Rattle.scenario.specs.Scenario.{Scenario, run_of, limit_of}
 use Rattle.sweep_plans.specs.Changes.{glitch_edit}
 use Rattle.sweep_plans.specs.declared.change.Glitch.TheVariants.{Skip}
 use Rattle.sweeps.specs.Landmarks.{NoneFrom}
@@ -18,7 +18,7 @@ pub edit-requires-2 : goal.edit-requires-2
 edit-requires-2 c =
     let size = ap length c.requires.unmarked in
     let few : length c.args.scenario.now.marks < most_marks = omega (arith, size) in
-    let near : c.args.first.step ≤ most_steps = omega (arith, c.requires.below, c.requires.near) in
+    let near : c.args.first.step ≤ limit_of c.args.scenario.now = omega (arith, c.requires.below, c.requires.near) in
     subst (IsTaken c.args.scenario.now) (sym c.edit.ensures)
     (glitch-taken c.args.scenario.now c.args.first.step Skip near few tt)
 
@@ -32,7 +32,7 @@ try_until-met-requires-clause-led c =
     let edit = glitch_edit c.args.first.step Skip in
     let size = ap length c.requires.unmarked in
     let few : length sc.marks < most_marks = omega (arith, size) in
-    let near : c.args.first.step ≤ most_steps = omega (arith, c.requires.below, c.requires.near) in
+    let near : c.args.first.step ≤ limit_of c.args.scenario.now = omega (arith, c.requires.below, c.requires.near) in
     let after : c.edit-2.new.self ≡ (row sc edit).after = c.in_ok-edit.ensures.ok
     ∙ ap (λ e. (row sc e).after) c.edit.ensures in
     let leads = c.edits_follow.ensures sc edit (glitch-taken sc c.args.first.step Skip near few tt) in (

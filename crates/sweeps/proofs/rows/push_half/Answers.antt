@@ -1,4 +1,4 @@
-use Rattle.std.proofs.Common.{◌≡◌, ℕ, ◌/◌, ◌%◌, ◌^◌, ◌++◌, ◌∷◌, [], append_assoc, ap, arith, codes, false, ◌∙◌}
+use Rattle.std.proofs.Common.{◌≡◌, ℕ, ◌/◌, ◌%◌, ◌++◌, ◌∷◌, [], append_assoc, ap, arith, codes, false, ◌∙◌}
 use Rattle.std.specs.Fmt.{digit_glyph}
 use Rattle.std.proofs.lemmas.Result.{on_ok_weaker}
 use Rattle.report_lines.specs.Text.{byte_text}

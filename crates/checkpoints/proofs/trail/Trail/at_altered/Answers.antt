@@ -11,4 +11,5 @@ returns c = record {
   meter = c.in_ok-machine.ensures.meter;
   short = c.in_ok-machine.ensures.short;
   loaded = c.in_ok-machine.ensures.loaded;
+  spacing = c.in_ok-machine.ensures.spacing;
 }

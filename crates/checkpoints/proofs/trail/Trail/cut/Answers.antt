@@ -12,13 +12,13 @@ returns-clause-right c start setup other marks edited d h =
       heap = c.keeps_heap.ensures;
     })
     c.args.effect c.args.self.now _ c.held_before-kept.result c.keep.ensures.machines c.keep.ensures.table
-    c.held_before-kept.ensures.some start setup other marks edited
+    c.keep.ensures.spacing c.held_before-kept.ensures.some start setup other marks edited
     (c.held_before-kept.ensures.last start setup marks h) d h
 
 pub returns-clause-kept : goal.returns-clause-kept
 returns-clause-kept c start setup marks h =
     keeps-cut (EffectShows c.args.effect start setup marks) c.args.self.now _ c.held_before-kept.result
-    c.keep.ensures.machines c.held_before-kept.ensures.some
+    c.keep.ensures.machines c.keep.ensures.spacing c.held_before-kept.ensures.some
     (λ i up l. c.held_before-kept.ensures.from i up l start setup marks h)
     (c.held_before-kept.ensures.last start setup marks h)
 

@@ -9,4 +9,5 @@ returns c = record {
   meter = c.in_ok-_machine.ensures.meter;
   short = c.in_ok-_machine.ensures.short;
   loaded = c.in_ok-_machine.ensures.loaded;
+  spacing = c.in_ok-_machine.ensures.spacing;
 }

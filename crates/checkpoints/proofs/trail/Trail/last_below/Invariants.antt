@@ -1,7 +1,7 @@
 use Rattle.std.proofs.Common.{ℕ, ◌+◌, ◌-◌, ◌<◌, ◌≤◌}
 use Rattle.guest_machine.specs.State.{State}
 use Rattle.checkpoints.specs.Searches.{Hits}
-use Rattle.checkpoints.specs.Trails.{IsRightFor}
+use Rattle.checkpoints.specs.Trails.{IsRightFor, spacing_of}
 use Rattle.checkpoints.specs.Work.{floor}
 use Rattle.checkpoints.proofs.trail.Trail.last_below.Given as goal
 
@@ -11,7 +11,7 @@ invariant-loop-end l = record {
   unhit : (start : State) → IsRightFor l.self start l.setup l.marks
       → (j : ℕ) → l.from ≤ j → l.end ≤ j → j < l.before → Hits l.sought start l.setup l.marks j → ⊥;
   price : l.meter ≤ l.fn.meter + (l.before - l.end);
-  made : l.before - l.end ≤ l.before - floor l.from;
+  made : l.before - l.end ≤ l.before - floor (spacing_of l.self) l.from;
   metered : l.meter ≤ 18446744073709551615;
 }
 

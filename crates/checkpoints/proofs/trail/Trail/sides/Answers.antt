@@ -1,12 +1,17 @@
-use Rattle.std.proofs.Common.{◌≡◌, ◌+◌, ◌*◌, ◌<◌, ◌∙◌, ap, get_or, length, rules, subst, sym}
+use Rattle.std.proofs.Common.{◌≡◌, ◌+◌, ◌*◌, ◌<◌, ◌∙◌, ap, get_or, subst, sym}
 use Rattle.guest_elf.specs.Profiles.{unit}
 use Rattle.guest_machine.specs.Run.{pre}
 use Rattle.guest_machine.specs.Shows.{Shows}
 use Rattle.checkpoints.specs.Entering.{IsApart}
 use Rattle.checkpoints.specs.Sides.{RowTells, places, sided}
-use Rattle.checkpoints.specs.Trails.{machines_of}
+use Rattle.checkpoints.specs.Trails.{machines_of, spacing_of}
+use Rattle.std.proofs.Math.Nat.{mul-zero}
 use Rattle.checkpoints.proofs.SideSteps.{apart, tells-none}
+use Rattle.checkpoints.proofs.TrailSteps.{some-held}
 use Rattle.checkpoints.proofs.trail.Trail.sides.Goals as goal
+
+pub warm_copy-requires : goal.warm_copy-requires
+warm_copy-requires c = some-held c.args.self.now
 
 pub rows-requires : goal.rows-requires
 rows-requires c = subst IsApart (sym c.unit-apart.ensures) (apart c.isa.result)
@@ -21,9 +26,11 @@ returns c start right =
     let marks = c.args.marks.now in
     let first = c.args.range.start in
     let copy = c.in_ok-machine.machine in
-    let some : 0 < length (machines_of c.args.self.now) = search rules in
+    let some = some-held c.args.self.now in
     let shows : Shows copy (pre start setup marks 0) =
-    c.in_ok-machine.ensures copy _ (right.held 0 copy some) in
+    c.in_ok-machine.ensures copy _
+    (subst (λ k. Shows (get_or (machines_of c.args.self.now) 0 copy) (pre start setup marks k))
+    (mul-zero (spacing_of c.args.self.now)) (right.held 0 copy some)) in
     let far : c.unit-apart.result ≡ unit start.core.isa = c.unit-apart.ensures ∙ ap unit (c.isa.ensures _ shows) in
     record {
       rows =

@@ -2,13 +2,12 @@ use Rattle.std.proofs.Common.{◌≡◌, ◌-◌, ◌≤◌, ap, length, refl, s
 use Rattle.checkpoints.specs.Effects.{EffectShows, IsWrite}
 use Rattle.checkpoints.specs.Work.{EditMoves}
 use Rattle.checkpoints.specs.declared.effect.Effect.{Effect}
-use Rattle.scenario.specs.Limits.{most_steps}
-use Rattle.scenario.specs.Scenario.{Scenario, first_state}
+use Rattle.scenario.specs.Scenario.{Scenario, first_state, limit_of}
 use Rattle.replay_session.specs.Session.{turn_of, trail_of}
 use Rattle.replay_session.specs.Work.{work_on}
 use Rattle.scenario.proofs.TrailFacts.{within}
 use Rattle.replay_session.proofs.SessionSteps.{an-error, followed, loads-followed, no-error, word-dropped, writes-need}
-use Rattle.replay_session.proofs.TrySteps.{same-step}
+use Rattle.replay_session.proofs.TrySteps.{stays-near}
 use Rattle.replay_session.proofs.WorkSteps.{moves-followed}
 use Rattle.replay_session.proofs.session.Session.edit.Goals as goal
 
@@ -31,8 +30,8 @@ invariant_of-self-else-is_err c = record {
       (no-error c.follow.result (sym c.is_err.ensures.value ∙ c.if-is_err.false) c.follow.ensures.right)
       c.args.self.now.right;
   near =
-      subst (λ (sc : Scenario). sc.step ≤ most_steps) (sym c.in_ok-edit.ensures.ok)
-      (subst (λ n. n ≤ most_steps) (sym (same-step c.args.self.now.scenario c.args.edit)) c.args.self.now.near);
+      subst (λ (sc : Scenario). sc.step ≤ limit_of sc) (sym c.in_ok-edit.ensures.ok)
+      (stays-near c.args.self.now.scenario c.args.edit c.args.self.now.near);
 }
 
 pub invariant_of-self-then-is_err : goal.invariant_of-self-then-is_err
@@ -72,7 +71,7 @@ returns-clause-moves c = λ whole.
     subst P c.effect-effect.ensures.effect
     (moves-followed c.keeps_lower.ensures _ sc _ _ c.args.self.now.right
     (no-error c.follow.result (sym c.is_err.ensures.value ∙ c.if-is_err.false) c.follow.ensures.kept)
-    c.follow.ensures.meter whole)
+    c.follow.ensures.spacing c.follow.ensures.meter whole)
 
 pub invariant_of-self : goal.invariant_of-self
 invariant_of-self c =

@@ -2,8 +2,7 @@ use Rattle.std.proofs.Common.{◌≡◌, ◌≤◌, ap, sym, ◌∙◌, ◌++◌
 use Rattle.checkpoints.specs.Edits.{IsRightForRun}
 use Rattle.checkpoints.specs.Trails.{LoadsAs}
 use Rattle.guest_machine.specs.Shows.{Shows}
-use Rattle.scenario.specs.Limits.{most_steps}
-use Rattle.scenario.specs.Scenario.{Scenario, first_state, run_of}
+use Rattle.scenario.specs.Scenario.{Scenario, first_state, run_of, limit_of}
 use Rattle.sweep_plans.specs.declared.change.Change.{Change}
 use Rattle.sweeps.specs.Covered.{AreCovered, range_of, table_of}
 use Rattle.sweeps.specs.Sites.{IsLastFork}
@@ -98,7 +97,7 @@ invariant_of-self-in-Break-branch-2 c =
     record {
       loads = subst (λ (s : Scenario). LoadsAs c.find.new.trail s.image) same c.find.ensures.loads;
       right = subst (λ (s : Scenario). IsRightForRun c.find.new.trail (run_of s)) same c.find.ensures.right;
-      near = subst (λ (s : Scenario). s.step ≤ most_steps) same self.near;
+      near = subst (λ (s : Scenario). s.step ≤ limit_of s) same self.near;
       unmarked = subst (λ (s : Scenario). s.marks ≡ []) same self.unmarked;
       continued = subst (λ (s : Scenario). IsLastFork s c.find.new.last_fork) same c.find.ensures.last_fork;
       starts = subst (λ (s : Scenario). Shows self.start (first_state s)) same self.starts;
@@ -112,7 +111,7 @@ invariant_of-self-2 c =
     record {
       loads = subst (λ (s : Scenario). LoadsAs c.find.new.trail s.image) same c.find.ensures.loads;
       right = subst (λ (s : Scenario). IsRightForRun c.find.new.trail (run_of s)) same c.find.ensures.right;
-      near = subst (λ (s : Scenario). s.step ≤ most_steps) same self.near;
+      near = subst (λ (s : Scenario). s.step ≤ limit_of s) same self.near;
       unmarked = subst (λ (s : Scenario). s.marks ≡ []) same self.unmarked;
       continued = c.keep_last_fork.ensures;
       starts = subst (λ (s : Scenario). Shows self.start (first_state s)) same self.starts;

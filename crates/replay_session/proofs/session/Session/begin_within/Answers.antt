@@ -1,9 +1,8 @@
 use Rattle.std.proofs.Common.{◌≤◌, arith, sym, subst}
 use Rattle.checkpoints.specs.Edits.{IsRightForRun}
 use Rattle.checkpoints.specs.Trails.{LoadsAs}
-use Rattle.scenario.specs.Limits.{most_steps}
-use Rattle.scenario.specs.Scenario.{Scenario, first_state, run_of}
-use Rattle.replay_session.proofs.session.Session.begin.Goals as goal
+use Rattle.scenario.specs.Scenario.{Scenario, first_state, limit_of, run_of}
+use Rattle.replay_session.proofs.session.Session.begin_within.Goals as goal
 
 pub invariant_of-result : goal.invariant_of-result
 unfolding first_state
@@ -14,5 +13,5 @@ invariant_of-result c = record {
   right =
       subst (λ (sc : Scenario). IsRightForRun c.in_ok-trail.trail (run_of sc)) (sym c.in_ok-scenario.ensures)
       (c.in_ok-trail.ensures.right _ _);
-  near = subst (λ (sc : Scenario). sc.step ≤ most_steps) (sym c.in_ok-scenario.ensures) (omega arith);
+  near = subst (λ (sc : Scenario). sc.step ≤ limit_of sc) (sym c.in_ok-scenario.ensures) (omega arith);
 }
