@@ -7,7 +7,7 @@ for folder in ("tests/program", "tests/page", "tests/support", "build", "cli/pyt
     sys.path.insert(0, os.path.realpath(f"{__file__}/../../{folder}"))
 
 from guest_files import ENTRY, elf  # noqa: E402
-from replaycheck.guest.assembly import ECALL, addi, branch, load, load_number, of_registers  # noqa: E402
+from replaycheck.guest.rv32 import ECALL, addi, branch, load, load_number, of_registers  # noqa: E402
 
 READ = 63
 T0, S1, A0, A1, A2, A7 = 5, 9, 10, 11, 12, 17

@@ -50,7 +50,8 @@ class GateCheck:
 
     `seconds` is about how long one of the longest takes: these begin first. `without_proofs` is its command line in a lane that proves
     nothing, if that is another one. `quick` leaves it out if `is_quick` is false. One whose rows stop processes at a time by the clock runs
-    alone, after the others."""
+    alone, after the others. `of_proved` says why it needs the proved program, which is fast, if it does: without that `quick` leaves it
+    out."""
 
     line: str
     proves: bool = False
@@ -58,59 +59,68 @@ class GateCheck:
     without_proofs: str = ""
     is_quick: bool = True
     is_alone: bool = False
+    of_proved: str = ""
+
+    @property
+    def name(self) -> str:
+        return os.path.basename(self.line.split()[0])
 
     def check(self, program: str, is_proving: bool = True) -> Check:
         """Returns the check of a program, in a lane that proves or in one that proves nothing."""
         line = self.line if is_proving else self.without_proofs or self.line
         words = [program if it == "PROGRAM" else it for it in line.split()]
-        return Check(os.path.basename(words[0]), [words], is_alone=self.is_alone)
+        return Check(self.name, [words], is_alone=self.is_alone)
 
 
+# Why a check needs the proved program, which is some 40 times faster than one that is built without a proof.
+LONG, MANY = "some runs are long", "it makes thousands of runs"
 # The checks of the gate beside `rt ci`.
 GATE = (
     GateCheck("tests/proofs/try-bodies", proves=True),
     GateCheck("tests/proofs/test-bodies", proves=True),
-    GateCheck("tests/program/test-program PROGRAM"),
+    GateCheck("tests/program/test-program PROGRAM", of_proved="it limits memory, and some runs are long"),
+    GateCheck("tests/program/test-combinations PROGRAM"),
     GateCheck("tests/program/test-guests PROGRAM"),
     GateCheck("tests/program/test-files PROGRAM"),
-    GateCheck("tests/program/test-sessions PROGRAM"),
+    GateCheck("tests/program/test-sessions PROGRAM", of_proved=MANY),
     GateCheck("tests/proofs/check-definitions"),
     GateCheck("tests/format/check-format"),
     GateCheck("tests/docs/check-pages"),
     GateCheck("tests/proofs/try-bodies --applies"),
     GateCheck("tests/instructions/test-halves"),
     GateCheck("tests/instructions/test-extensions"),
-    GateCheck("tests/instructions/test-profiles PROGRAM", seconds=60),
+    GateCheck("tests/instructions/test-profiles PROGRAM", seconds=60, of_proved=MANY),
     GateCheck("tests/lanes/test-lanes"),
     GateCheck("tests/launcher/test-launcher", seconds=100, is_alone=True),
-    GateCheck("tests/tools/test-tools PROGRAM", seconds=65),
-    GateCheck("tests/exec/test-exec PROGRAM"),
-    GateCheck("tests/python/test-python PROGRAM"),
-    GateCheck("tests/examples/test-runners PROGRAM", seconds=55),
+    GateCheck("tests/tools/test-tools PROGRAM", seconds=65, of_proved=LONG),
+    GateCheck("tests/exec/test-exec PROGRAM", of_proved=LONG),
+    GateCheck("tests/python/test-python PROGRAM", of_proved=LONG),
+    GateCheck("tests/examples/test-runners PROGRAM", seconds=55, of_proved="its tests have a time limit"),
     GateCheck("tests/examples/test-rust PROGRAM"),
-    GateCheck("tests/explore/test-explore PROGRAM", seconds=200),
-    GateCheck("tests/sweep/test-sweep-table PROGRAM"),
-    GateCheck("tests/docs/test-manual PROGRAM"),
-    GateCheck("tests/package/test-man PROGRAM"),
-    GateCheck("tests/adopt/test-adopt PROGRAM", seconds=55),
-    GateCheck("tests/origin/test-origin PROGRAM"),
-    GateCheck("tests/coverage/test-coverage PROGRAM"),
-    GateCheck("tests/search/test-search PROGRAM"),
-    GateCheck("tests/program/test-look PROGRAM"),
-    GateCheck("tests/program/test-tries PROGRAM"),
-    GateCheck("tests/program/test-changes PROGRAM 15"),
-    GateCheck("tests/sweep/test-faults PROGRAM 15"),
+    GateCheck("tests/explore/test-explore PROGRAM", seconds=200, of_proved=MANY),
+    GateCheck("tests/sweep/test-sweep-table PROGRAM", of_proved=MANY),
+    GateCheck("tests/docs/test-manual PROGRAM", of_proved=MANY),
+    GateCheck("tests/package/test-man PROGRAM", of_proved=MANY),
+    GateCheck("tests/adopt/test-adopt PROGRAM", seconds=55, of_proved=LONG),
+    GateCheck("tests/origin/test-origin PROGRAM", of_proved=LONG),
+    GateCheck("tests/coverage/test-coverage PROGRAM", of_proved=LONG),
+    GateCheck("tests/search/test-search PROGRAM", of_proved=MANY),
+    GateCheck("tests/program/test-look PROGRAM", of_proved=LONG),
+    GateCheck("tests/program/test-tries PROGRAM", of_proved=MANY),
+    GateCheck("tests/program/test-changes PROGRAM 15", of_proved=LONG),
+    GateCheck("tests/sweep/test-faults PROGRAM 15", of_proved=MANY),
     GateCheck("tests/program/test-clean PROGRAM"),
-    GateCheck("tests/gdb/test-gdb PROGRAM", seconds=40),
-    GateCheck("tests/page/test-page PROGRAM", seconds=270, without_proofs="tests/page/test-page --kept PROGRAM"),
-    GateCheck("tests/examples/test-firmware PROGRAM"),
+    GateCheck("tests/gdb/test-gdb PROGRAM", seconds=40, of_proved=LONG),
+    GateCheck("tests/page/test-page PROGRAM", seconds=270, without_proofs="tests/page/test-page --kept PROGRAM",
+              of_proved="the page has the proved program"),
+    GateCheck("tests/examples/test-firmware PROGRAM", of_proved=MANY),
 )
 
 
-def proving_nothing(program: str, is_proving: bool = False, is_quick: bool = False) -> list[Check]:
-    """Returns the checks of the gate that prove nothing, or those of them that are quick, the longest first, and last those that run
-    alone."""
-    rows = [it for it in GATE if not it.proves and (it.is_quick or not is_quick)]
+def proving_nothing(program: str, is_proving: bool = False, is_quick: bool = False, is_proved: bool = True) -> list[Check]:
+    """Returns the checks of the gate that prove nothing, or those of them that are quick, or that need no proved program, the longest
+    first, and last those that run alone."""
+    rows = [it for it in GATE if not it.proves and (it.is_quick or not is_quick) and (is_proved or not it.of_proved)]
     return [it.check(program, is_proving) for it in sorted(rows, key=lambda it: (it.is_alone, -it.seconds))]
 
 
@@ -212,11 +222,11 @@ def took(result: Result) -> str:
     return f"{result.clock:.1f} s, processor {result.processor:.1f} s"
 
 
-def end(lane: str, results: list[Result], begun: float) -> int:
-    """Prints what all took, and last the sum. Gives the exit status."""
+def end(lane: str, results: list[Result], begun: float, left_out: int = 0) -> int:
+    """Prints what all took and how many checks were left out, and last the sum. Gives the exit status."""
     passed, failed = sum(it.passed for it in results), sum(it.failed for it in results)
     every = Result(passed, failed, "", clock=time.monotonic() - begun, processor=sum(it.processor for it in results))
-    print(f"{lane}: {took(every)} in all")
+    print(f"{lane}: {took(every)} in all" + (f"; {left_out} checks left out" if left_out else ""))
     print(f"{passed} passed, {failed} failed")
     return int(failed > 0)
 

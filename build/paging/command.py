@@ -1,26 +1,27 @@
 """`replaycheck page`: builds the page."""
 import pathlib
+from argparse import Namespace
 
 from checkout import TOP
 from replaycheck.endings import Fault, write
-from replaycheck.options import Reader
+from replaycheck.options import Parser
 
 from .folder import SOURCES, one_file, write_folder
 from .module import module
 
 
-def options_of(page):
-    reader = Reader(page)
-    reader.option("--output", default=str(TOP / "out"))
-    reader.option("--anew", is_flag=True)
-    reader.option("--kept", is_flag=True)
-    options = reader.read()
+def options_of(page: str) -> Namespace:
+    parser = Parser(page)
+    parser.add_argument("--output", default=str(TOP / "out"))
+    parser.add_argument("--anew", action="store_true")
+    parser.add_argument("--kept", action="store_true")
+    options = parser.read()
     if options.anew and options.kept:
-        reader.error("--anew and --kept at once")
+        parser.error("--anew and --kept at once")
     return options
 
 
-def build(options):
+def build(options: Namespace) -> int:
     out = pathlib.Path(options.output)
     if (out / "page").resolve() == SOURCES.resolve():
         raise Fault(f"{out} is this repository, whose folder `page` has its own sources: give another folder")

@@ -6,12 +6,12 @@ import json
 import re
 
 from checkout import TOP
-from replaycheck import allocators, file_heaps
+from replaycheck import allocators, file_heaps, replies
 from replaycheck.adopting import heap_names, outside
 from replaycheck.adopting.regions import HEAPS, MOST_STACK, STACK_ENDS
 from replaycheck.endings import Fault
 from replaycheck.exploring import outcomes
-from replaycheck.guest import regions
+from replaycheck.guest import halves, regions, rv32
 from replaycheck.options import LAST_STEP
 from replaycheck.programs import ISAS
 from replaycheck.refusals import WORDS
@@ -30,9 +30,24 @@ BEFORE_BLOCKS = 16
 # Which regions heap and stack may have, and how that is said.
 REGION_RULES = ("HEAP_SIZE", "HEAP_STEP", "LEAST_HEAP", "GREATEST_HEAP", "HEAP_WANTED", "STACK_STEP", "LEAST_STACK", "STACK_WANTED")
 
+# How long replies are.
+REPLY_RULES = ("REFUSED", "LOOKS", "WHOLE", "LISTS", "LIST_ENDS", "REPORT", "SUMMARY")
+
 
 def constant(name, value):
     return f"export const {name} = {json.dumps(value, ensure_ascii=True)};\n"
+
+
+def instructions():
+    """What the page knows of instructions: opcodes and words by their names, the names by the forms of operands, the names of registers,
+    and the bits of immediates of instructions of 16 bits."""
+    opcodes = {row.form: row.opcode for row in rv32.TABLE if row.form != "upper"}
+    named = {form: rv32.by_number(form) for form in opcodes if form != "word"}
+    return (("OPCODES", {**opcodes, "lui": rv32.LUI, "auipc": rv32.AUIPC, "atomic": rv32.ATOMIC, "system": rv32.SYSTEM}),
+            ("FLOATING", rv32.FLOAT), ("WHOLE_WORDS", {row.name: row.word for row in rv32.TABLE if row.form == "word"}),
+            ("NO_OPS", {2: halves.NOP, 4: rv32.NOP}), ("REGISTERS", rv32.NAMES), ("ORDERS", [*rv32.ORDERS]), ("INSTRUCTIONS", named),
+            ("CONTROL_REGISTERS", rv32.CONTROL_REGISTERS), ("FIRST_CONSTANT", rv32.FIRST_CONSTANT),
+            ("HALF_IMMEDIATES", halves.IMMEDIATES), ("HALF_OPERATIONS", halves.BETWEEN))
 
 
 def facts(module):
@@ -45,7 +60,8 @@ def facts(module):
         *((name, getattr(regions, name)) for name in REGION_RULES),
         ("USUAL_HEAP", regions.USUAL_REGIONS.heap), ("USUAL_STACK", regions.USUAL_REGIONS.stack),
         ("HEAPS", HEAPS), ("MOST_STACK", MOST_STACK), ("STACK_ENDS", STACK_ENDS), ("DEVICES", outside.DEVICES),
-        ("HEAP_CHOICES", file_heaps.CHOICES), ("BEFORE_BLOCKS", BEFORE_BLOCKS),
+        ("HEAP_CHOICES", file_heaps.choices()), ("BEFORE_BLOCKS", BEFORE_BLOCKS),
+        *instructions(), *((name, getattr(replies, name)) for name in REPLY_RULES),
         ("MODULE_SUM", hashlib.sha256(module).hexdigest())))
 
 

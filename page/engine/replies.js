@@ -1,11 +1,9 @@
 // Parts what a program writes for lines into its replies: a report goes up to its summary, looks at registers and at memory have so
 // many lines, lists of calls and of blocks go up to a line that ends them, and any other reply is a line.
-const REPORT = 'step ';
-const LAST_LINE = '\nERROR SUMMARY: ';
-const REFUSED = 'refused ';
-const LOOKED = { registers: 32, memory: 2 };
-const LISTED = new Set(['calls', 'blocks']);
-const LIST_END = /^(?:end|next .*)\n/m;
+import { LISTS, LIST_ENDS, LOOKS, REFUSED, REPORT, SUMMARY, WHOLE } from '../facts.js';
+
+const LAST_LINE = `\n${SUMMARY}`;
+const LIST_END = new RegExp(`^(?:${LIST_ENDS.join('|')}).*\n`, 'm');
 
 export class Replies {
   rest = '';
@@ -32,8 +30,8 @@ export class Replies {
     const first = this.rest.indexOf('\n') + 1;
     if (!first || this.rest.startsWith(REFUSED)) return first;
     const [, look] = /^look (\w+)/.exec(this.asked[0] ?? '') ?? [];
-    if (LISTED.has(look)) return this.endOfList();
-    if (look) return this.endOfLine(LOOKED[look] ?? 1);
+    if (LISTS.includes(look)) return this.endOfList();
+    if (look) return this.endOfLine(WHOLE.some((it) => this.rest.startsWith(it)) ? 1 : LOOKS[look] ?? 1);
     const last = this.rest.startsWith(REPORT) ? this.rest.indexOf(LAST_LINE) : 0;
     return last < 0 ? 0 : this.rest.indexOf('\n', last + 1) + 1;
   }

@@ -1,7 +1,7 @@
 // The edits that stand, as a value that is never changed: how it looks as lines of a session, what lines lead from one to
 // another, and what is left of it without one of its edits. Whether an edit may be made, the program says.
 import { hexByte, hexWord, hexadecimal, many, numberOf } from '../common/numbers.js';
-import { REGISTERS } from '../riscv/instructions.js';
+import { REGISTERS } from '../facts.js';
 import { HALF, NOTHING, WORD } from '../riscv/isa.js';
 
 const KINDS = ['defined', 'undefined', 'noaccess'];

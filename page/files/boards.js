@@ -4,14 +4,12 @@ import { hexWord } from '../common/numbers.js';
 import { hasRoom } from '../debuginfo/elf.js';
 import { stateOf } from '../engine/report.js';
 import { USUAL_TARGET, heapOf, isSameTarget, meets, regionsInWords, stackText, typedOptions } from '../engine/targets.js';
-import { DEVICES, HEAPS, ISAS, MOST_STACK, STACK_ENDS } from '../facts.js';
+import { DEVICES, FLOATING, HEAPS, ISAS, MOST_STACK, OPCODES, STACK_ENDS, WHOLE_WORDS } from '../facts.js';
 import { hasAtomics, hasControls, hasHalves, nameOf } from '../riscv/isa.js';
 
 const COMPRESSED = 1;  // of a file's flags
 const PLAIN = /^[\w+.][\w+.-]*$/;
-// The low seven bits of instructions: atomic ones, those of control registers and the like, fences, floating point.
-const ATOMIC = 0x2f, SYSTEM = 0x73, FENCE = 0x0f, FLOATING = [0x07, 0x27, 0x43, 0x47, 0x4b, 0x4f, 0x53];
-const RETURNS = [0x30200073, 0x10200073];  // mret, sret
+const RETURNS = [WHOLE_WORDS.mret, WHOLE_WORDS.sret];
 // What is known of devices: their addresses, and their names.
 const KNOWN_DEVICES = DEVICES.map(([first, size, name]) => ({ begin: Number(first), end: Number(first) + Number(size), name: `${name}` }));
 const NOTE = /^Address (0x[0-9a-f]{8}) is not stack'd/;
@@ -28,9 +26,9 @@ function unknown(elf, address, isa) {
   const rebuild = `Compile it with -march=${ISAS[0]} -mabi=ilp32.`;
   if (half === null) return null;
   if ((half & 3) !== 3) return { what: 'an instruction of 16 bits', sets: needing(hasHalves, isa), else: rebuild };
-  if (low === ATOMIC) return { what: 'an atomic instruction', sets: needing(hasAtomics, isa), else: rebuild };
+  if (low === OPCODES.atomic) return { what: 'an atomic instruction', sets: needing(hasAtomics, isa), else: rebuild };
   if (RETURNS.includes(word >>> 0)) return { what: 'a return from a trap', sets: [], isCured: true };
-  if (low === SYSTEM || low === FENCE) {
+  if (low === OPCODES.system || low === OPCODES.fence) {
     return { what: 'an instruction for control registers', sets: needing(hasControls, isa), isCured: true };
   }
   if (FLOATING.includes(low)) return { what: 'an instruction for floating point', sets: [], else: rebuild };

@@ -2,15 +2,15 @@
 // the numbers of its environment calls; a file without symbols, or with other names, may have a heap that goes unseen.
 import { hexWord } from '../common/numbers.js';
 import { Helper } from '../engine/sessions.js';
-import { BEFORE_BLOCKS, HEAP_CHOICES, HEAP_NAMES, OTHER_HEAPS } from '../facts.js';
+import { BEFORE_BLOCKS, HEAP_CHOICES, HEAP_NAMES, OTHER_HEAPS, WHOLE_WORDS } from '../facts.js';
 import { unitOf } from '../riscv/isa.js';
 
-const ECALL = 0x73, MOST_NAMED = 4;
+const MOST_NAMED = 4;
 
 // What of a file's heap may go unseen under an instruction set, in words; empty where nothing does.
 export function unseenIn(elf, isa) {
   if (HEAP_NAMES.some((it) => elf.functionNames.has(it))) return '';
-  if ([[ECALL], HEAP_CHOICES].every((words) => elf.hasWord(words, unitOf(isa)))) return '';
+  if ([[WHOLE_WORDS.ecall], HEAP_CHOICES].every((words) => elf.hasWord(words, unitOf(isa)))) return '';
   if (!elf.functionNames.size && !elf.labelNames.size) {
     return 'The file has no symbols, and a heap is known by the names of its functions. Strip it with --strip-debug only.';
   }

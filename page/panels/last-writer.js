@@ -1,6 +1,6 @@
 // Which step before the one that is shown was the last to write a place, or to change what is known of it: by the program's looks.
 import { grouped, hexWord, numberOf } from '../common/numbers.js';
-import { REGISTERS } from '../riscv/instructions.js';
+import { REGISTERS } from '../facts.js';
 
 const WINDOWS = [64, 512, 4096];  // steps back in which a register is compared from step to step, one window after the other
 const MOST_EDITS = 16;  // edits of one byte that are looked at

@@ -2,7 +2,7 @@
 import { $, $button, $input, element, focused, say } from '../common/dom.js';
 import { grouped, hexWord, numberOf } from '../common/numbers.js';
 import { flipLine, setLine } from '../engine/scenario.js';
-import { REGISTERS } from '../riscv/instructions.js';
+import { REGISTERS } from '../facts.js';
 
 const WORD = 32, GROUP = 8;  // bits of a register, and of those that stand together
 const FIRST = 10;  // the register that is picked first: a0

@@ -1,18 +1,10 @@
 // Instructions of 16 bits as text, in the words of an assembler (RISC-V Unprivileged ISA 20191213, sections 16.3 to 16.8). Those for
 // which no word of RV32IM stands have none: loads and stores of floating point, and what is reserved.
 import { hexadecimal, hexWord } from '../common/numbers.js';
-import { REGISTERS } from './instructions.js';
+import { HALF_IMMEDIATES, HALF_OPERATIONS, REGISTERS } from '../facts.js';
 
 // The bits of an immediate: each its place in the half, and the place that it has in the number. The first one may be the sign.
-const SPACE = [[12, 5], [11, 4], [10, 9], [9, 8], [8, 7], [7, 6], [6, 2], [5, 3]];
-const OF_WORD = [[5, 6], [12, 5], [11, 4], [10, 3], [6, 2]];
-const JUMP = [[12, 11], [8, 10], [10, 9], [9, 8], [6, 7], [7, 6], [2, 5], [11, 4], [5, 3], [4, 2], [3, 1]];
-const BRANCH = [[12, 8], [6, 7], [5, 6], [2, 5], [11, 4], [10, 3], [4, 2], [3, 1]];
-const SIX = [[12, 5], [6, 4], [5, 3], [4, 2], [3, 1], [2, 0]];
-const FRAME = [[12, 9], [4, 8], [3, 7], [5, 6], [2, 5], [6, 4]];
-const FROM_STACK = [[3, 7], [2, 6], [12, 5], [6, 4], [5, 3], [4, 2]];
-const TO_STACK = [[8, 7], [7, 6], [12, 5], [11, 4], [10, 3], [9, 2]];
-const BETWEEN = ['c.sub', 'c.xor', 'c.or', 'c.and'];
+const { SPACE, OF_WORD, JUMP, BRANCH, SIX, FRAME, FROM_STACK, TO_STACK } = HALF_IMMEDIATES;
 const SP = 2;
 
 const field = (half, high, low) => half >>> low & (1 << (high + 1 - low)) - 1;
@@ -55,7 +47,7 @@ function computed(half) {
   const kind = field(half, 11, 10);
   if (kind < 2) return shifted(kind ? 'c.srai' : 'c.srli', shortRs1(half), half);
   if (kind === 2) return `c.andi ${shortRs1(half)},${signed(half, SIX)}`;
-  return field(half, 12, 12) ? null : `${BETWEEN[field(half, 6, 5)]} ${shortRs1(half)},${shortRs2(half)}`;
+  return field(half, 12, 12) ? null : `c.${HALF_OPERATIONS[field(half, 6, 5)]} ${shortRs1(half)},${shortRs2(half)}`;
 }
 
 const QUADRANT_1 = {

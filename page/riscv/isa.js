@@ -1,5 +1,5 @@
 // Instruction sets, and how long instructions are. Source: RISC-V Unprivileged ISA 20191213, section 1.5.
-import { ISAS } from '../facts.js';
+import { ISAS, NO_OPS } from '../facts.js';
 
 export const USUAL = ISAS[0];
 export const ATOMIC = ISAS[2];
@@ -7,7 +7,7 @@ export const ATOMIC = ISAS[2];
 export const HALF = 2;
 export const WORD = 4;
 // The instruction that does nothing, by its length: c.nop and nop.
-export const NOTHING = { [HALF]: 0x0001, [WORD]: 0x13 };
+export const NOTHING = NO_OPS;
 
 export const hasHalves = (isa) => isa !== USUAL;
 export const hasControls = (isa) => isa !== USUAL;

@@ -10,7 +10,7 @@ from board_files import OBJECT, READ_RUN, board, function, segment
 from checkout import TOP
 from replaycheck.adopting.device_handler import NO_SUCH, code_of, text_of
 
-NO_MEMORY = "where no memory is"
+NO_MEMORY = "device registers (unmapped)"
 POLLS = "main: lui a5, 0x10013; lw a4, 4(a5); beq a4, zero, .-4; sw a0, 0(a5); jalr zero, 0(ra)\n"
 START = f"_start: jal ra, main; li a0, 0; {EXIT}\n"
 # A label, the file's code, and what its line says of the place; nothing where there is no line.

@@ -7,6 +7,10 @@ from explore_cases import ERROR, SUM, Made, changed
 from replaycheck.exploring.steps import byte_edits, edits_of
 
 
+# The class of an outcome of OUTCOMES, by the first of these texts that is in it.
+KINDS = {"Jump": "n2", "Invalid read": "n4", "stopped": "n5", "lost": "n8", "running": "o1", "exited 1": "o", "exited 0": "o0"}
+
+
 def drawn(tests, made, words=()):
     """The rectangles of the picture of a table, each its class, place, size and title, and the text."""
     tests.file("drawn", made if isinstance(made, bytes) else made.part())
@@ -30,6 +34,12 @@ def test_picture(tests):
     tests.check("picture: marks of one value are seen", [it for it in marks if it[3] < 3 or it[4] < 3][:3] or not marks)
     tests.check("picture: offsets below", not all(f">{it}</text>" in text for it in (0, 10, 20, 40)))
     tests.check("picture: both kinds of pages", "prefers-color-scheme:dark" not in text)
+    kinds = {(next(KINDS[text] for text in KINDS if text in it[5]), it[0]) for it in rects}
+    tests.check("picture: a colour for each kind of the worst that is new", kinds if kinds != {(it, it) for it in KINDS.values()} else "")
+    tests.check("picture: the colour-blind, of all these kinds", close_colours(text))
+    greys = re.findall(r"\.o\d?\{fill:#(..)(..)(..)\}", text)
+    is_grey = [max(int(it, 16) for it in grey) - min(int(it, 16) for it in grey) < 20 for grey in greys]
+    tests.check("picture: what is harmless is grey", greys if len(greys) != 6 or not all(is_grey) else "")
     tests.check("picture: a title", "" if rects and all(re.match(r"input \d+ \d+( to \d+)?( \(was \d+\))?\n\d: ", it[5]) for it in rects)
                 else rects[:2])
     few = ["exited 0", f"exited 0\n{ERROR}"]

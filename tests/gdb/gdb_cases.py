@@ -319,6 +319,7 @@ REGISTERS = ("zero ra sp gp tp t0 t1 t2 fp s1 a0 a1 a2 a3 a4 a5 a6 a7 s2 s3 s4 s
 COMMANDS = [
     ("no file", [], 2, "FILE is wanted, or --commands alone"),
     ("a file, and commands", ["counts.elf", "--commands"], 2, "--commands alone"),
+    ("commands, and a port", ["--commands", "--port=0"], 2, "--commands goes with no other option: --port=0"),
     ("its page", ["--help"], 0, "usage: replaycheck gdb FILE"), ("commands", ["--commands"], 0, "define hookpost-monitor\n"),
     ("a file that isn't there", ["missing"], 2, "cannot read missing"), ("a folder", ["."], 2, "cannot read ."),
     ("a file that is cut", ["cut.elf"], 2, "image refused 26"), ("no program", ["short"], 2, "image refused 20: no ELF file"),

@@ -173,6 +173,7 @@ def first_visit(bench, page):
     same("what is kept of the first screen", page.run(STORED), None)
     page.run("replaycheck.use('input 1 9\\nmark 55 0x20011 2 undefined')")
     bench.settle(page)
+    page.until(f"({STORED} ?? '') !== ''")
 
 
 def second_visit(bench, page):

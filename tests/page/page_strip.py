@@ -4,7 +4,6 @@ import itertools
 import json
 import pathlib
 import random
-import struct
 import subprocess
 import tempfile
 
@@ -13,6 +12,7 @@ from page_bench import expect, same, words_of
 from page_firsts import contrast_of
 from page_hands import touch
 from replaycheck.guest.assembly import assemble
+from replaycheck.guest.elf import Elf
 
 DONE = ("replaycheck.strip.runs.length === {} && !replaycheck.strip.next && replaycheck.strip.runs.every((it) => it.isDone)"
         " && !replaycheck.strip.isStale")
@@ -27,7 +27,7 @@ AT = """((step) => { const { calls } = replaycheck.strip.runs.at(-1).stretchAt(s
   return calls.rows.map((_, row) => calls.cellAt(row, step)).filter(Boolean).map((it) => calls.names.of(it)); })"""
 TOLD = "document.getElementById('strip-told').textContent"
 VIEW = "[replaycheck.strip.view.from, replaycheck.strip.view.to]"
-FUNCTION, SYMBOLS, EVERYWHERE = 2, 2, "0 0xffffffff"
+EVERYWHERE = "0 0xffffffff"
 MOST_FRAMES = 256  # calls that haven't returned, of which the program knows the newest
 # What a step does to blocks, by whether one comes and whether one goes.
 DOES = {(True, True): "resize", (True, False): "alloc", (False, True): "free", (False, False): "heap"}
@@ -117,15 +117,8 @@ class Native:
 
 def functions_of(content):
     """The functions of a file: their names, addresses and sizes, by its symbol table."""
-    place, count = struct.unpack_from("<I", content, 32)[0], struct.unpack_from("<H", content, 48)[0]
-    sections = [struct.unpack_from("<10I", content, place + 40 * it) for it in range(count if place else 0)]
-    found = []
-    for table in (it for it in sections if it[1] == SYMBOLS):
-        for name, at, size, kind, _, section in struct.iter_unpack("<IIIBBH", content[table[4]:table[4] + table[5]]):
-            begin = sections[table[6]][4] + name
-            if kind & 15 == FUNCTION and section and size:
-                found.append((content[begin:content.index(b"\0", begin)].decode(), at, size))
-    return sorted(found, key=lambda it: it[1])
+    elf = Elf(content)
+    return sorted(((elf.name(it), it.value, it.size) for it in elf.functions if it.size), key=lambda it: it[1])
 
 
 def edited(bench, page, lines, runs):

@@ -3,7 +3,7 @@ import struct
 
 from checkout import TOP
 from guest_files import ENTRY, elf
-from replaycheck.guest.assembly import CONTROLS, EBREAK, ECALL, FIRST_CONSTANT, addi, control, jump, load_number
+from replaycheck.guest.rv32 import CONTROLS, EBREAK, ECALL, FIRST_CONSTANT, addi, control, jump, load_number
 from replaycheck.guest.regions import USUAL_REGIONS, Regions
 from replaycheck.programs import SHORT, USUAL, isa_words
 

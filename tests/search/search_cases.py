@@ -1,5 +1,5 @@
 """What test-search searches in: programs in C, and command lines that are rejected."""
-from replaycheck.guest.assembly import branch, of_immediate
+from replaycheck.guest.rv32 import branch, of_immediate
 
 # A program by itself: `call` is a call of the environment, and `read_all` reads the input. Each one below has a `main`, by whose value it
 # exits.

@@ -8,7 +8,7 @@ import struct
 import subprocess
 import tempfile
 
-from replaycheck.guest.assembly import addi, branch, jump, load, of_immediate, of_registers, store
+from replaycheck.guest.rv32 import addi, branch, jump, load, of_immediate, of_registers, store
 
 OBJDUMP = "riscv64-unknown-elf-objdump"
 HALVES = range(2**16)

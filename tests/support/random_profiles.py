@@ -9,10 +9,11 @@ import random
 import struct
 
 from halves import Insn, by_text, disassembled
-from replaycheck.guest.assembly import (CONTROL_IMMEDIATES, CONTROL_NUMBERS, CONTROLS, ECALL, FENCE_I, FIRST_CONSTANT, LOAD_RESERVED, LOADS,
-                                  STORE_CONDITIONAL, STORES, UPDATES, WFI, addi, atomic, branch, control, jump, load, load_number,
-                                  of_immediate, of_registers, store)
+from replaycheck.guest.rv32 import (CONTROL_IMMEDIATES, CONTROLS, ECALL, FENCE_I, FIRST_CONSTANT, LOAD_RESERVED, LOADS,
+                                    STORE_CONDITIONAL, STORES, UPDATES, WFI, addi, atomic, branch, control, jump, load, load_number,
+                                    of_immediate, of_registers, store)
 from guest_files import ENTRY
+from random_programs import USED_CONTROLS
 
 CODE = 0x8000
 DATA = ENTRY + CODE
@@ -184,7 +185,7 @@ class Program:
         """Up to four instructions of few control registers and of counters, of which none stops the program; perhaps a wait."""
         words = [self.random.choice((WFI, FENCE_I))] if self.random.random() < 0.1 else []
         for _ in range(self.random.randrange(1, 5)):
-            number = self.random.choice((PLAIN_CONTROLS[0], PLAIN_CONTROLS[0], *PLAIN_CONTROLS, *CONTROL_NUMBERS.values()))
+            number = self.random.choice((PLAIN_CONTROLS[0], PLAIN_CONTROLS[0], *PLAIN_CONTROLS, *USED_CONTROLS))
             funct3 = self.random.choice([*CONTROLS.values(), *CONTROL_IMMEDIATES.values()])
             operand = self.random.choice((0, self.source(), self.source()))
             if number >= FIRST_CONSTANT:

@@ -2,9 +2,9 @@
 import random
 from typing import NamedTuple
 
-from replaycheck.guest.assembly import (CONTROL_IMMEDIATES, CONTROL_NUMBERS, CONTROLS, EBREAK, ECALL, FENCE, FENCE_I, FIRST_CONSTANT,
-                                  LOAD_RESERVED, LOADS, STORE_CONDITIONAL, STORES, UPDATES, WFI, addi, atomic, branch, control, jump, load,
-                                  load_number, of_immediate, of_registers, store)
+from replaycheck.guest.rv32 import (CONTROL_IMMEDIATES, CONTROL_NUMBERS, CONTROLS, EBREAK, ECALL, FENCE, FENCE_I, FIRST_CONSTANT,
+                                    LOAD_RESERVED, LOADS, STORE_CONDITIONAL, STORES, UPDATES, WFI, addi, atomic, branch, control, jump,
+                                    load, load_number, of_immediate, of_registers, store)
 from guest_files import ENTRY
 from replaycheck.guest.regions import HEAP_STEP, LEAST_STACK, STACK_STEP, USUAL_REGIONS, Regions
 from replaycheck.programs import ATOMIC, USUAL
@@ -12,6 +12,10 @@ from replaycheck.programs import ATOMIC, USUAL
 MEMORY, DATA = 0x10000, 0x8000
 SP, KEPT, A0, A7, SCRATCH = 2, 8, 10, 17, 31  # x8 is where the data lies
 READ, MALLOC, FREE = 63, 2001, 2002
+# Control registers that programs use, by their numbers.
+USED_CONTROLS = [CONTROL_NUMBERS[name] for name in (
+    "mstatus", "misa", "mie", "mtvec", "mscratch", "mepc", "mcause", "mtval", "mip", "mcycle", "minstret", "mcycleh", "minstreth", "cycle",
+    "time", "instret", "cycleh", "timeh", "instreth", "mhartid")]
 # Control registers that programs use often, so that what one instruction writes another one reads.
 KEPT_CONTROLS = [CONTROL_NUMBERS[name] for name in ("mscratch", "mscratch", "mepc", "mtvec")]
 
@@ -186,7 +190,7 @@ class FullProgram(Program):
     def controls(self):
         """Up to four instructions of control registers. Seldom one writes what is only read, which ends the program."""
         for _ in range(self.random.randrange(1, 5)):
-            number = self.random.choice(KEPT_CONTROLS if self.random.random() < 0.8 else [*CONTROL_NUMBERS.values()])
+            number = self.random.choice(KEPT_CONTROLS if self.random.random() < 0.8 else USED_CONTROLS)
             funct3 = self.random.choice([*CONTROLS.values(), *CONTROL_IMMEDIATES.values()])
             operand = self.random.choice((0, self.source(), self.source()))
             if number >= FIRST_CONSTANT and self.random.random() < 0.99:

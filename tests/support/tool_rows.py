@@ -55,10 +55,11 @@ def atomic_file():
     return elf([], symbols=[("main", ENTRY, len(COUNTS))], data=COUNTS)
 
 
-IN_REGION = "replaycheck: image refused 29: two segments overlap, or one meets the heap or the stack region\n"
+IN_REGION = ("replaycheck: image refused 29: two segments overlap, or one meets the heap or the stack region: `replaycheck adopt` names "
+             "options that put these elsewhere\n")
 NO_HEAP = "*--heap-region: '0xe0000000' is not a multiple of 0x10000000 from 0x10000000 to 0xd0000000\n*"
 NO_STACK = "*--stack-region: '0x1000..0x2000' is not A..B, multiples of 4096 at least 65536 apart\n*"
-NO_SET = "*--isa: invalid choice: 'rv32gc': choose from rv32im, rv32imc, rv32imac*"
+NO_SET = "*--isa: invalid choice: 'rv32gc' (choose from 'rv32im', 'rv32imc', 'rv32imac')*"
 SUPPRESSED = ["run", "undefined-branches.elf", "--supp=undefined-branches.supp"]
 # Tools that wait for a child, and the variables that name the child.
 SLOW = [
@@ -207,7 +208,7 @@ def when_rows():
               "*heap region and stack region overlap: --heap-region 0x30000000 --stack-region 0x40010000..0x40020000\n*")
     yield Row("when: another instruction set", [*when, "--isa=rv32gc", "x"], 2, "", NO_SET)
     yield Row("when: an instruction set twice", ["when", *SHORT, *SHORT[1:], "x"], 2, "", "*--isa is given twice*")
-    yield Row("when: no instruction set", [*when, "x", "--isa"], 2, "", "*--isa: its value is missing*")
+    yield Row("when: no instruction set", [*when, "x", "--isa"], 2, "", "*--isa: expected one argument*")
     yield Row("when: a step that is too great", [*when, "--last", "4194305", "x"], 2, "",
               "*not a number from 0 to 4194304*")
     yield Row("when: with a limit", ["when", FAR, f"--last={FAR_STEP}", *FAR_LIMIT, "error 1: Conditional"], 0, "6000008\n")
@@ -238,7 +239,7 @@ def compare_rows():
     yield Row("compare: lines that take one another back", [*compare, "input 0 8", "input 0 3"], 0)
     yield Row("compare: a suppression", [*compare, "--supp", "free.supp", "option redzone 32"], 0)
     yield Row("compare: with a limit", ["compare", FAR, f"--step={FAR_STEP}", *FAR_LIMIT, "mark 6000003 0x7fffffe4 4 defined"], 1,
-              f"--- at step {FAR_STEP}\n*-error 1: Conditional jump*+ERROR SUMMARY: 0 errors*")
+              f"*--- at step {FAR_STEP}\n*-error 1: Conditional jump*+ERROR SUMMARY: 0 errors*")
     yield Row("compare: no limit", ["compare", FAR, "--limit=0", "skip 0"], 2, "", NO_LIMIT.format(0))
     yield Row("compare: for rv32imc", ["compare", *SHORT, "patch 0x10004 0"], 1,
               "*-state stopped break 0x00010006\n+state stopped illegal 0x00010006\n*")
@@ -559,15 +560,15 @@ def launcher_rows():
 def error_rows():
     """Lines of errors: the program, what failed, which thing, and why."""
     yield Row("errors: a value that is missing", ["when", "three-words.elf", "--last"], 2, "",
-              "*replaycheck when: --last: its value is missing\n*")
+              "*replaycheck when: argument --last: expected one argument\n*")
     yield Row("errors: a value that can't be read", ["when", "three-words.elf", "--last=x", "y"], 2, "",
-              "*replaycheck when: --last: 'x' is not a number from 0 to 4194304\nusage: *")
+              "*replaycheck when: argument --last: 'x' is not a number from 0 to 4194304\nusage: *")
     yield Row("errors: a negative number", ["when", "three-words.elf", "--last", "-1", "y"], 2, "",
-              "*replaycheck when: --last: '-1' is not a number*")
+              "*replaycheck when: argument --last: '-1' is not a number*")
     yield Row("errors: a value of a flag", ["lines", "packet.elf", "--full-paths=yes"], 2, "",
-              "*replaycheck lines: --full-paths: it takes no value: 'yes'\n*")
+              "*replaycheck lines: argument --full-paths: ignored explicit argument 'yes'\n*")
     yield Row("errors: a choice", ["run", "packet.elf", "--format", "yaml"], 2, "",
-              "*replaycheck run: --format: invalid choice: 'yaml': choose from text,*")
+              "*replaycheck run: argument --format: invalid choice: 'yaml' (choose from 'text',*")
     yield Row("errors: a file too many, after --", ["when", "three-words.elf", "x", "--", "-y"], 2, "",
               "*replaycheck when: unrecognized arguments: -y\nusage: *")
 

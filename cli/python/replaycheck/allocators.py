@@ -2,7 +2,8 @@
 ask for. They are known by the names of the symbol table, so that nothing here depends on c++filt."""
 from __future__ import annotations
 
-from replaycheck.records import kept
+import functools
+import re
 
 HEAP = ("malloc", "free", "calloc", "realloc")
 NEW_AND_DELETE = ("_Znw", "_Zna", "_Zdl", "_Zda")  # how names of new, new[], delete and delete[] begin, whatever the parameters are
@@ -21,10 +22,9 @@ ADDED = r"_RNvC (?:s[0-9A-Za-z]*_)? 7___rustc \d+_ (\w+)"
 GLOBAL = r"(?: \.\.GlobalAlloc\$GT\$ | 11GlobalAlloc ) (?: 5alloc | 7dealloc | 7realloc | 12alloc_zeroed )"
 
 
-@kept
-def pattern(text):
-    """A pattern, which only names of Rust need: the import of the module re takes longer than a short run."""
-    import re
+@functools.cache
+def pattern(text: str) -> re.Pattern[str]:
+    """A pattern, which only names of Rust need: it is compiled when the first such name comes."""
     return re.compile(text, re.X)
 
 

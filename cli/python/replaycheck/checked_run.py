@@ -1,10 +1,14 @@
 """`replaycheck run` with options that the program itself doesn't have: a report by a session, and what it comes to."""
+from __future__ import annotations
+
 import os
 import sys
+from argparse import Namespace
+from typing import NoReturn
 
 from replaycheck.children import outcome
-from replaycheck.endings import Fault, end, flush, write
-from replaycheck.options import LAST_STEP, BadValue, Reader, number
+from replaycheck.endings import Fault, flush, write
+from replaycheck.options import LAST_STEP, BadValue, Parser, number
 from replaycheck.programs import isa_words, path_of, program
 from replaycheck.refusals import Ended, Refused
 from replaycheck.verdicts import LEAK_KINDS, Verdict
@@ -24,9 +28,9 @@ OWN = {*PASSED_ON, *FLAGS, "--error-exitcode", "--errors-for-leak-kinds", "--sho
 LIMITS = ("--most-moved", "--most-output")
 
 
-def leak_kinds(text):
+def leak_kinds(text: str) -> tuple[str, frozenset[str]]:
     """Reads a list of kinds of leaks."""
-    known = {**{kind: {kind} for kind in LEAK_KINDS.values()}, "all": set(LEAK_KINDS.values()), "none": set()}
+    known: dict[str, set[str]] = {**{kind: {kind} for kind in LEAK_KINDS.values()}, "all": set(LEAK_KINDS.values()), "none": set()}
     unknown = [kind for kind in text.split(",") if kind not in known]
     if unknown:
         raise BadValue(f"no kind of leak: {unknown[0]!r}")
@@ -36,55 +40,55 @@ def leak_kinds(text):
 SHOWN = leak_kinds("definite,possible")
 
 
-def reader_of_options(page):
-    reader = Reader(page)
-    reader.program_options(has_limits=False)
-    reader.option("--step", type=number(0, LAST_STEP), default=LAST_STEP)
-    reader.option("--error-exitcode", type=number(0, 255), default=0)
+def parser_of_options(page: str) -> Parser:
+    parser = Parser(page)
+    parser.program_options(has_limits=False)
+    parser.add_argument("--step", type=number(0, LAST_STEP), default=LAST_STEP)
+    parser.add_argument("--error-exitcode", type=number(0, 255), default=0)
     for name in ("--errors-for-leak-kinds", "--show-leak-kinds"):
-        reader.option(name, type=leak_kinds, default=SHOWN)
+        parser.add_argument(name, type=leak_kinds, default=SHOWN)
     for name, (option, kind) in PASSED_ON.items():
-        reader.option(name, dest=option, type=kind)
-    reader.repeated("--suppressions")
-    reader.repeated("--not-heap")
-    reader.option("--format", choices=["text", *FORMATS], default="text")
+        parser.add_argument(name, dest=option, type=kind)
+    parser.add_argument("--suppressions", action="append", default=[])
+    parser.add_argument("--not-heap", action="append", default=[])
+    parser.add_argument("--format", choices=["text", *FORMATS], default="text")
     for name in FLAGS:
-        reader.option(name, is_flag=True)
-    reader.option("--demangle", choices=["yes", "no"])
-    reader.option("--strip-prefix")
-    return reader
+        parser.add_argument(name, action="store_true")
+    parser.add_argument("--demangle", choices=["yes", "no"])
+    parser.add_argument("--strip-prefix")
+    return parser
 
 
-def options_of(page, words):
+def options_of(page: str, words: list[str]) -> Namespace:
     """The options. One that only Valgrind has is an error."""
-    reader = reader_of_options(page)
+    parser = parser_of_options(page)
     for name in names_of(words) - OWN:
         why = f"`run` has the usual numbers; `exec`, `look` and other commands take {name}" if name in LIMITS else elsewhere(name)
         if why is not None:
-            reader.error(f"{name} is no option here{why and ': ' + why}")
+            parser.error(f"{name} is no option here{why and ': ' + why}")
     if "--output" in names_of(words):
-        reader.error(f"--output: {NO_OUTPUT}")
-    options = reader.read(words)
+        parser.error(f"--output: {NO_OUTPUT}")
+    options = parser.read(words)
     if options.full_paths and options.strip_prefix is not None:
-        reader.error("--full-paths and --strip-prefix at once")
+        parser.error("--full-paths and --strip-prefix at once")
     if options.require_heap and options.no_require_heap:
-        reader.error("--require-heap and --no-require-heap at once")
+        parser.error("--require-heap and --no-require-heap at once")
     options.require_heap = options.require_heap or bool(options.error_exitcode) and not options.no_require_heap
     if options.format == "text" and (options.full_paths or options.strip_prefix is not None):
-        reader.error("--full-paths and --strip-prefix go with a --format that isn't text, or `replaycheck lines`")
+        parser.error("--full-paths and --strip-prefix go with a --format that isn't text, or `replaycheck lines`")
     if options.demangle == "yes" and (options.no_demangle or options.format == "text"):
-        reader.error("--no-demangle and --demangle=yes at once" if options.no_demangle else
+        parser.error("--no-demangle and --demangle=yes at once" if options.no_demangle else
                      "--demangle=yes goes with a --format that isn't text; or use `replaycheck lines`")
     return options
 
 
-def elsewhere(name):
+def elsewhere(name: str) -> str | None:
     """What does here the work of an option that Valgrind has, in words; None of any other."""
     from replaycheck.valgrind_options import HERE
     return HERE.get(name)
 
 
-def names_of(words):
+def names_of(words: list[str]) -> set[str]:
     """The names of the options among the arguments before `--`."""
     before = words[:words.index("--")] if "--" in words else words
     return {word.partition("=")[0] for word in before if word.startswith("--")}
@@ -181,8 +185,13 @@ def formatted(told, options, heap):
     return formats.FORMATS[options.format](with_places(shown, options))
 
 
-def notices(options, verdict, heap):
+def notices(options, told, verdict, heap):
     """What of the run wasn't checked, in lines."""
+    if told[1].startswith(("state stopped illegal", "state stopped misaligned")):
+        from replaycheck.other_sets import hint
+        said = hint(options.file, options.isa)
+        if said:
+            yield f"{options.file}: {said[0].lower()}{said[1:]}"
     if verdict.runs_on:
         more = f"; --step goes up to {LAST_STEP}" if verdict.step < LAST_STEP else ""
         yield f"{options.file}: still running at step {verdict.step}: what it does after that isn't checked{more}"
@@ -190,7 +199,7 @@ def notices(options, verdict, heap):
         yield heap.notice(options.file)
 
 
-def checked(options):
+def checked(options: Namespace) -> int:
     """Writes the report. Returns the status."""
     from replaycheck.file_heaps import heap_of_run
     told = report_of(options)
@@ -201,21 +210,22 @@ def checked(options):
     heap = heap_of_run(options.file, options.input, verdict.step, options.isa, options.regions, options.not_heap)
     write("".join(line + "\n" for line in told) if options.format == "text" else formatted(told, options, heap))
     flush()
-    for line in notices(options, verdict, heap):
+    for line in notices(options, told, verdict, heap):
         tell(line)
     if options.require_heap and heap and heap.is_unseen:
         return options.error_exitcode or 1
     return options.error_exitcode if verdict.fails(options.errors_for_leak_kinds[1]) else 0
 
 
-def become_program(words):
+def become_program(words: list[str]) -> NoReturn:
     """The program itself has to do with arguments of which no option is another one's."""
     path = program()
     os.execvp(path, [path, "run", *words])
 
 
-def run(page):
+def run(page: str) -> int:
+    """Makes a report as the command line asks for, or becomes the program. Returns the exit status."""
     words = sys.argv[1:]
     names = names_of(words)
-    is_own = names & OWN or "--help" in names or any(elsewhere(it) is not None for it in names)
-    end("run", lambda: checked(options_of(page, words)) if is_own else become_program(words))
+    is_own = names & OWN or "--help" in names or any(elsewhere(name) is not None for name in names)
+    return checked(options_of(page, words)) if is_own else become_program(words)

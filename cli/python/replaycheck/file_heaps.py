@@ -7,14 +7,11 @@ import struct
 
 from replaycheck.allocators import HEAP
 from replaycheck.children import outcome
+from replaycheck.guest.elf import Elf
 from replaycheck.guest.regions import USUAL_REGIONS
 from replaycheck.programs import ISAS, isa_words, path_of, program, unit_of
 
-NO_TYPE, FUNCTION, SYMBOLS, LOAD = 0, 2, 2, 1
 LONGEST_FILE = 1 << 26
-ECALL = 0x00000073
-# `li a7,2001` to `li a7,2004`, by which a call of the heap is chosen.
-CHOICES = [number << 20 | 17 << 7 | 0x13 for number in range(2001, 2005)]
 # What the program says of a heap that goes unseen, after the file's name, and of one of a file without symbols.
 UNSEEN, WITHOUT_SYMBOLS = ": errors of the heap can't be found", ": the file has no symbols: "
 BY_NAME, BY_NUMBER, NONE, NO_SYMBOLS, OTHER_NAMES = "by name", "by number", "none", "no symbols", "other names"
@@ -37,76 +34,46 @@ class Heap:
         return file + self.said
 
 
-def fields(data, layout, at):
-    return struct.unpack_from("<" + layout, data, at)
+def choices():
+    """The instructions `li a7,2001` to `li a7,2004`, by which a call of the heap is chosen."""
+    from replaycheck.guest.rv32 import A7, ZERO, addi  # here, as few files are asked for them
+    return [addi(A7, ZERO, number) for number in range(2001, 2005)]
 
 
-def symbols(data):
-    """The names of functions, and of labels without a type, that are defined in the symbol table."""
-    (place,), (count,) = fields(data, "I", 32), fields(data, "H", 48)
-    sections = [fields(data, "10I", place + 40 * it) for it in range(count if place else 0)]
-    table = next((it for it in sections if it[1] == SYMBOLS), None)
-    if table is None:
-        return set(), set()
-    strings = sections[table[6]]
-    names = data[strings[4]:strings[4] + strings[5]]
-    places = {FUNCTION: set(), NO_TYPE: set()}
-    for name, _, _, info, _, section in struct.iter_unpack("<IIIBBH", data[table[4]:table[4] + table[5]]):
-        if name and section and info & 15 in places:
-            places[info & 15].add(name)
-    return (Names(names, places[kind]) for kind in (FUNCTION, NO_TYPE))
-
-
-class Names:
-    """Symbols by the places of their names in the table of texts."""
-
-    def __init__(self, texts, places):
-        self.texts, self.places = texts, places
-
-    def __len__(self):
-        return len(self.places)
-
-    def has(self, name):
-        """Whether a symbol has this name; a name may be the end of a longer text."""
-        text, at = name.encode() + b"\0", -1
-        while (at := self.texts.find(text, at + 1)) >= 0:
-            if at in self.places:
-                return True
-        return False
-
-
-def has_word(data, segment, words, unit):
+def has_word(elf, segment, words, unit):
     """Whether a word of a segment is one of these, at an address where an instruction may begin."""
-    _, offset, address, _, size = segment[:5]
-    content = data[offset:offset + size]
+    content = elf.data[segment.offset:segment.offset + segment.filesz]
     for word in words:
         at = -1
         while (at := content.find(word.to_bytes(4, "little"), at + 1)) >= 0:
-            if (address + at) % unit == 0:
+            if (segment.vaddr + at) % unit == 0:
                 return True
     return False
 
 
-def calls_by_number(data, unit):
+def calls_by_number(elf, unit):
     """Whether the code chooses an environment call of the heap. Its instructions begin at multiples of `unit`."""
-    (place,), (count,) = fields(data, "I", 28), fields(data, "H", 44)
-    loaded = [it for it in (fields(data, "8I", place + 32 * number) for number in range(count)) if it[0] == LOAD]
-    return all(any(has_word(data, it, words, unit) for it in loaded) for words in ([ECALL], CHOICES))
+    from replaycheck.guest.rv32 import ECALL
+    return all(any(has_word(elf, it, words, unit) for it in elf.loads) for words in ([ECALL], choices()))
 
 
-def named_in(data):
+def named_in(elf):
     """The functions that the program takes over in a file, by their names."""
-    functions, _ = symbols(data)
-    return [name for name in HEAP if functions and functions.has(name)]
+    return [name for name in HEAP if elf.named(elf.functions, name)]
+
+
+def elf_of(file):
+    """What is read of a file that the program has accepted."""
+    with open(file, "rb") as opened:
+        return Elf(opened.read(LONGEST_FILE + 1))
 
 
 def has_heap(file, isa):
     """Whether a file's symbols or its code show a heap that the program takes over."""
     try:
-        with open(file, "rb") as opened:
-            data = opened.read(LONGEST_FILE + 1)
-        return bool(named_in(data)) or calls_by_number(data, unit_of(isa))
-    except (OSError, struct.error):  # it has changed since it was run
+        elf = elf_of(file)
+        return bool(named_in(elf)) or calls_by_number(elf, unit_of(isa))
+    except (OSError, IndexError, struct.error):  # it has changed since it was run
         return False
 
 
@@ -130,9 +97,8 @@ def heap_of_run(file, given, step, isa=ISAS[0], regions=USUAL_REGIONS, excepted=
         is_bare = WITHOUT_SYMBOLS in said
         return Heap(NO_SYMBOLS if is_bare else OTHER_NAMES, [] if is_bare else said.rpartition(": ")[2].split(", "), said)
     try:
-        with open(file, "rb") as opened:
-            data = opened.read(LONGEST_FILE + 1)
-        named = named_in(data)
-        return Heap(BY_NAME, named) if named else Heap(BY_NUMBER if first or calls_by_number(data, unit_of(isa)) else NONE)
-    except (OSError, struct.error):  # it has changed since it was run
+        elf = elf_of(file)
+        named = named_in(elf)
+        return Heap(BY_NAME, named) if named else Heap(BY_NUMBER if first or calls_by_number(elf, unit_of(isa)) else NONE)
+    except (OSError, IndexError, struct.error):  # it has changed since it was run
         return None

@@ -1,13 +1,14 @@
 """What a report finds fault with, as other programs' formats have it: errors, listed leaks, and a stop."""
 from __future__ import annotations
 
+from dataclasses import dataclass
+
 from replaycheck.allocators import is_of_allocator, is_of_library
 from replaycheck.demangling import Demangler
 from replaycheck.endings import Fault
 from replaycheck.guest.regions import USUAL_REGIONS
 from replaycheck.places import NoPlaces, Place, Places
 from replaycheck.programs import ATOMIC, USUAL, unit_of
-from replaycheck.records import Record
 from replaycheck.reports import LEAK_KINDS, Address, Frame, Report
 
 RUNNING = "Running"
@@ -68,7 +69,8 @@ def outside(calls: list[Call]):
     return [it for it in calls[begin:] if not it.is_of_allocator and not it.is_of_library]
 
 
-class Finding(Record):
+@dataclass
+class Finding:
     """One of the rules, whether it counts as an error, its text and trace, and what is said of an address or
     a block."""
 

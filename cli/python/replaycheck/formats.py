@@ -1,11 +1,12 @@
 """A report in the formats that other programs read."""
+import functools
+import json
 import os
-from _json import encode_basestring_ascii as quoted  # the module json, and what it imports, take longer than a short run
+import re
+from typing import Any
 
-from replaycheck.endings import Fault
 from replaycheck.findings import RULES, RUNNING
 from replaycheck.programs import ISAS
-from replaycheck.records import kept
 from replaycheck.reports import Address, Frame
 from replaycheck.verdicts import CLEAN, CLEAN_SO_FAR, LEAK_KINDS, SUMS
 
@@ -30,29 +31,27 @@ class Encoded(str):
     """A text that is JSON already. What is in many results is encoded once."""
 
 
-def flat(value):
+def flat(value: Any) -> str:
     """A value as JSON in one line."""
     if isinstance(value, Encoded):
         return value
-    if isinstance(value, str):
-        return quoted(value)
     if isinstance(value, dict):
-        return "{" + ", ".join(f"{quoted(name)}: {flat(it)}" for name, it in value.items()) + "}"
+        return "{" + ", ".join(f"{json.dumps(name)}: {flat(part)}" for name, part in value.items()) + "}"
     if isinstance(value, (list, tuple)):
         return "[" + ", ".join(map(flat, value)) + "]"
-    return {None: "null", True: "true", False: "false"}[value] if value is None or isinstance(value, bool) else str(value)
+    return json.dumps(value)
 
 
-def dumped(value, depth, indent=""):
+def dumped(value: Any, depth: int, indent: str = "") -> str:
     """A value as JSON, with each part on a line of its own down to a depth."""
     inner = indent + " "
     if isinstance(value, Encoded):
         return value
     if depth and isinstance(value, dict) and value:
-        parts = (f"{inner}{quoted(name)}: {dumped(it, depth - 1, inner)}" for name, it in value.items())
+        parts = (f"{inner}{json.dumps(name)}: {dumped(part, depth - 1, inner)}" for name, part in value.items())
         return "{\n" + ",\n".join(parts) + f"\n{indent}}}"
     if depth and isinstance(value, list) and value:
-        return "[\n" + ",\n".join(inner + dumped(it, depth - 1, inner) for it in value) + f"\n{indent}]"
+        return "[\n" + ",\n".join(inner + dumped(part, depth - 1, inner) for part in value) + f"\n{indent}]"
     return flat(value)
 
 
@@ -119,14 +118,14 @@ def json_text(shown):
     return dumped(whole, 2) + "\n"
 
 
-@kept
+@functools.cache
 def uri(path):
     """A path as a URI: absolute, or relative to the root of the sources."""
     text = "".join(chr(it) if it in PLAIN else f"%{it:02X}" for it in os.fsencode(path))
     return ("file://" if path.startswith("/") else "") + text
 
 
-@kept
+@functools.cache
 def location(program, call, message=None, number=None):
     """A SARIF location, encoded: that of a call's source line, or else the program's file."""
     region = {"region": {"startLine": call.place.line}} if call.place else {}
@@ -140,7 +139,7 @@ def location(program, call, message=None, number=None):
     return flat(made)
 
 
-@kept
+@functools.cache
 def flow_step(program, call, word):
     return f'{{"location": {location(program, call, f"{word} {call}")}}}'
 
@@ -165,19 +164,9 @@ def sarif_result(shown, finding, rules, print_of):
 def fingerprint(finding):
     """What tells a finding from others of its program, whatever moves in the source: its rule, and the functions of its trace, by names
     that don't depend on c++filt."""
+    from hashlib import sha256  # here, as only SARIF needs it
     words = [finding.rule, finding.text, *(call.symbol for call in finding.trace)]
-    return sha256()("\n".join(words).encode("utf-8", "surrogateescape")).hexdigest()[:32]
-
-
-@kept
-def sha256():
-    """SHA-256 by Python's own module of it, which has another name from version 3.12 on; hashlib takes ten times as long to be imported."""
-    for name in ("_sha2", "_sha256", "hashlib"):
-        try:
-            return __import__(name).sha256
-        except ImportError:
-            pass
-    raise Fault("Python has no SHA-256")
+    return sha256("\n".join(words).encode("utf-8", "surrogateescape")).hexdigest()[:32]
 
 
 def sarif_results(shown, rules):
@@ -214,10 +203,9 @@ def sarif_text(shown):
 # ---- XML
 
 
-@kept
-def no_xml():
+@functools.cache
+def not_in_xml() -> re.Pattern[str]:
     """What XML can't have."""
-    import re
     return re.compile("[^\t\n -\ud7ff\ue000-\ufffd\U00010000-\U0010ffff]")
 
 
@@ -226,11 +214,11 @@ def xml(text):
     escapes = {"&": "&amp;", "<": "&lt;", ">": "&gt;", '"': "&quot;"}
     text = printable(str(text))
     is_plain = text.isascii() and text.replace("\n", "").replace("\t", "").isprintable()
-    text = text if is_plain else no_xml().sub("\ufffd", text)
+    text = text if is_plain else not_in_xml().sub("\ufffd", text)
     return text.translate(str.maketrans(escapes))
 
 
-@kept
+@functools.cache
 def xml_frame(program, call):
     parts = [f"    <frame>\n      <ip>{int(call.address):#x}</ip>\n      <obj>{xml(program)}</obj>\n"]
     if call.function != "???":

@@ -2,9 +2,10 @@
 import os
 import pathlib
 import shutil
+from argparse import Namespace
 
 from replaycheck.endings import Fault, flush, naming, write
-from replaycheck.options import Reader
+from replaycheck.options import Parser
 from replaycheck.programs import BUILT_FROM, TOP
 
 # Where a release has the page, beside the launcher's folder.
@@ -41,18 +42,18 @@ Environment:
 """
 
 
-def is_made():
+def is_made() -> bool:
     """Whether this is a release, which has the page."""
     return os.path.exists(BUILT_FROM)
 
 
-def options_of():
-    reader = Reader(PAGE)
-    reader.option("--output")
-    return reader.read()
+def options_of() -> Namespace:
+    parser = Parser(PAGE)
+    parser.add_argument("--output")
+    return parser.read()
 
 
-def show(options):
+def show(options: Namespace) -> int:
     if not (PLACE / FILE).is_file():
         raise Fault(f"{PLACE / FILE}: no such file: this release is not whole")
     if options.output is None:
@@ -60,7 +61,7 @@ def show(options):
     return copy(pathlib.Path(options.output))
 
 
-def copy(out):
+def copy(out: pathlib.Path) -> int:
     """Writes the file and the folder."""
     for path in (PLACE / FILE, *sorted(it for it in (PLACE / FOLDER).rglob("*") if it.is_file())):
         to = out / path.relative_to(PLACE)
@@ -71,12 +72,13 @@ def copy(out):
     return 0
 
 
-def open_file(path):
+def open_file(path: pathlib.Path) -> int:
     """Has the desktop open the file, if there is one."""
     import subprocess
     write(f"{path}\n")
     flush()
-    opener = next(filter(None, map(shutil.which, BROWSERS)), None)
+    openers = [shutil.which(name) for name in BROWSERS]
+    opener = next((found for found in openers if found), None)
     if not opener or not (os.environ.get("DISPLAY") or os.environ.get("WAYLAND_DISPLAY")):
         return 0
     child = subprocess.Popen([opener, str(path)], stdin=subprocess.DEVNULL, start_new_session=True)

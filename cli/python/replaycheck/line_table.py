@@ -10,10 +10,10 @@ import functools
 import itertools
 import os
 import re
+from dataclasses import dataclass
 from typing import Iterator, List, Optional, Tuple
 
 from replaycheck.guest.elf import Elf, beginning, tables
-from replaycheck.records import Record
 
 LONGEST_FILE = 1 << 26
 COMPRESSED, ZLIB, COMPRESSED_HEADER = 0x800, 1, 12  # the flag of a section, how its bytes begin, and before what is compressed
@@ -103,7 +103,8 @@ def inflated(data) -> bytes:
         return b""
 
 
-class Row(Record):
+@dataclass
+class Row:
     """The path and the line of an instruction. `including` is the path of file 0, if that isn't the same as file 1, and the row is in
     file 1 only since each sequence begins there."""
 

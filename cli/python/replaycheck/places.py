@@ -3,11 +3,11 @@ from __future__ import annotations
 
 import functools
 import os
+from dataclasses import dataclass
 
 from replaycheck.children import piped
 from replaycheck.endings import Fault
 from replaycheck.programs import tool
-from replaycheck.records import Record
 from replaycheck.stand_ins import StandIns
 
 PROGRAMS = ("riscv64-unknown-elf-addr2line", "riscv64-linux-gnu-addr2line", "addr2line")
@@ -16,7 +16,8 @@ NOWHERE = "0xffffffff"  # no function has code there, so that its answer is the 
 AT_ONCE = 1000  # so many questions fit into a pipe
 
 
-class Place(Record):
+@dataclass
+class Place:
     """A function, its file as it is asked for, and a line of it. `path` is what the debug information has for
     the file."""
 

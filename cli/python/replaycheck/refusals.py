@@ -3,6 +3,7 @@ import os
 
 from replaycheck.endings import Fault
 
+COMPILE = "compile it by riscv64-unknown-elf-gcc -march=rv32im -mabi=ilp32"
 WORDS = {
     1: "out of memory",
     2: "no such line, or a field that is missing, too many, empty or of the wrong form",
@@ -20,15 +21,15 @@ WORDS = {
     14: "an input of more than 1048576 bytes",
     15: "more than 1048576 bytes of suppressions",
     20: "no ELF file",
-    21: "not of 32 bits",
+    21: f"a file of 64 bits, such as one of this computer: {COMPILE}",
     22: "not little-endian",
     23: "a bad version",
     24: "no executable, linked to fixed addresses",
-    25: "not for RISC-V",
+    25: f"not for RISC-V: {COMPILE}",
     26: "a bad table of segments or sections",
     27: "it asks for an interpreter",
     28: "a segment that lies outside the file or the address space",
-    29: "two segments overlap, or one meets the heap or the stack region",
+    29: "two segments overlap, or one meets the heap or the stack region: `replaycheck adopt` names options that put these elsewhere",
     30: "more than 16777216 bytes are loaded",
     31: "a bad table of symbols",
 }

@@ -1,67 +1,50 @@
 """A report of the program: read into parts, and printed again as the same bytes."""
 from __future__ import annotations
 
+import re
+from dataclasses import dataclass
+
 from replaycheck.endings import Fault
-from replaycheck.records import Record
-from replaycheck.shapes import Shape, address, name, number, one_of, rest, up_to
 from replaycheck.verdicts import LEAK_KINDS, SUMS
 
-STEP = Shape("step ", number)
-RUNNING = Shape("state running ", address)
-EXITED = Shape("state exited ", number)
-STOPPED = Shape("state stopped ", one_of("jump", "break", "illegal", "misaligned"), " ", address)
-READ = Shape("input ", number, " of ", number)
-WRITTEN = Shape("output ", number)
-ERROR = Shape("error ", number, ": ", rest)
-LEAK = Shape("leak ", number, " bytes in ", number, " blocks are ", rest)
-NOTE = Shape(" Address ", address, " is ", rest)
-BLOCK = Shape(number, " bytes ", one_of("inside", "before", "after"), " a block of size ", number, " ", one_of("alloc'd", "free'd"))
+# The lines of a report. Each is matched as a whole.
+STEP = re.compile(r"step ([0-9]+)")
+RUNNING = re.compile(r"state running (0x[0-9a-f]{8})")
+EXITED = re.compile(r"state exited ([0-9]+)")
+STOPPED = re.compile(r"state stopped (jump|break|illegal|misaligned) (0x[0-9a-f]{8})")
+READ = re.compile(r"input ([0-9]+) of ([0-9]+)")
+WRITTEN = re.compile(r"output ([0-9]+)")
+ERROR = re.compile(r"error ([0-9]+): (.+)")
+FRAME = re.compile(r"   (at|by) (0x[0-9a-f]{8}): ([!-~]+)")
+LEAK = re.compile(r"leak ([0-9]+) bytes in ([0-9]+) blocks are (.+)")
+NOTE = re.compile(r" Address (0x[0-9a-f]{8}) is (.+)")
+BLOCK = re.compile(r"([0-9]+) bytes (inside|before|after) a block of size ([0-9]+) (alloc'd|free'd)")
 PLACES = ("in the stack region", "not stack'd, malloc'd or (recently) free'd")
-SUM = Shape(up_to(": "), ": ", number, " bytes in ", number, " blocks")
-SUMMARY = Shape("ERROR SUMMARY: ", number, " errors from ", number, " contexts (suppressed: ", number, " from ", number, ")")
-# The texts of errors, with what suppressions call each. That of a bad access ends with the size, and that of a call has its parameter.
-ACCESSES, SIZES = ("Invalid read of size ", "Invalid write of size "), "124"
-CALL = "Syscall param "
-CALLS = tuple(f" {how} {what} byte(s)" for how in ("contains", "points to") for what in ("uninitialised", "unaddressable"))
-KINDS = {"Use of uninitialised value of size 4": "Value4", "Conditional jump or move depends on uninitialised value(s)": "Cond",
-         "Invalid free() / realloc()": "Free", "Jump to the invalid address stated on the next line": "Jump"}
-
-
-def __getattr__(asked):
-    """TEXTS: the same as patterns, for the page, whose code can't call this."""
-    if asked != "TEXTS":
-        raise AttributeError(asked)
-    import re
-
-    def either(*texts):
-        return "|".join(it.replace("(", r"\(").replace(")", r"\)") for it in texts)
-    patterns = [(f"(?:{either(*ACCESSES)})([{SIZES}])", "Addr"), (f"{CALL}(\\S+)(?:{either(*CALLS)})", "Param"),
-                *((either(text), kind) for text, kind in KINDS.items())]
-    return tuple((re.compile(text), kind) for text, kind in patterns)
-
-
-class OfFrame:
-    """The shape of a frame: `   at ADDRESS: NAME`. Most lines of a long report are frames, so it looks at fixed places."""
-
-    @staticmethod
-    def fullmatch(line):
-        is_one = line[:6] in ("   at ", "   by ") and address(line, 6) == 16 and line[16:18] == ": " and len(line) > 18
-        return (line, line[3:5], line[6:16], line[18:]) if is_one and name(line, 18) == len(line) else None
+SUM = re.compile(r"([^:]+): ([0-9]+) bytes in ([0-9]+) blocks")
+SUMMARY = re.compile(r"ERROR SUMMARY: ([0-9]+) errors from ([0-9]+) contexts \(suppressed: ([0-9]+) from ([0-9]+)\)")
+# The texts of errors, with what suppressions call each: that of a bad access ends with the size, which its name has too, and that of a call
+# has its parameter. The page has the same patterns.
+TEXTS = tuple((re.compile(text), kind) for text, kind in (
+    (r"(?:Invalid read of size |Invalid write of size )([124])", "Addr"),
+    (r"Syscall param (\S+)(?: contains uninitialised byte\(s\)| contains unaddressable byte\(s\)| points to uninitialised byte\(s\)"
+     r"| points to unaddressable byte\(s\))", "Param"),
+    (r"Use of uninitialised value of size 4", "Value4"),
+    (r"Conditional jump or move depends on uninitialised value\(s\)", "Cond"),
+    (r"Invalid free\(\) / realloc\(\)", "Free"),
+    (r"Jump to the invalid address stated on the next line", "Jump")))
 
 
 class NoReport(Fault):
     """A line isn't the one that a report has there."""
 
 
-def kind_of(text):
+def kind_of(text: str) -> str | None:
     """What suppressions call an error with this text; None where no error has it."""
-    if text[:-1] in ACCESSES and text[-1] in SIZES:
-        return "Addr" + text[-1]
-    if text.startswith(CALL):
-        end = next((it for it in CALLS if text.endswith(it)), None)
-        parameter = text[len(CALL):-len(end)] if end else ""
-        return "Param" if parameter.split() == [parameter] else None
-    return KINDS.get(text)
+    for pattern, kind in TEXTS:
+        found = pattern.fullmatch(text)
+        if found:
+            return kind + found[1] if kind == "Addr" else kind
+    return None
 
 
 class Address(int):
@@ -75,17 +58,16 @@ class Address(int):
     __repr__ = __str__
 
 
-class Frame(Record):
+@dataclass
+class Frame:
     """A line of a trace: the address of an instruction, and the name of its function, `???` where it has none."""
 
     address: Address
     name: str
 
-    def __init__(self, address, name):
-        self.address, self.name = address, name
 
-
-class Note(Record):
+@dataclass
+class Note:
     """Where a bad address lies. Near a block: how far from it, on which side, its size, and its trace."""
 
     address: Address
@@ -97,7 +79,8 @@ class Note(Record):
     trace: list[Frame] | tuple[()] = ()
 
 
-class Error(Record):
+@dataclass
+class Error:
     """An error of a report: the number of times that it happened, its text, its trace, and a note on a bad address."""
 
     count: int
@@ -116,7 +99,8 @@ class Error(Record):
         return self.text.split(" ")[2]
 
 
-class Leak(Record):
+@dataclass
+class Leak:
     """A leak of a report, such as `definitely lost`: its bytes, its blocks, and the trace of their allocation."""
 
     size: int
@@ -125,7 +109,8 @@ class Leak(Record):
     trace: list[Frame]
 
 
-class State(Record):
+@dataclass
+class State:
     """`running` at an address, `exited` with a status, or `stopped` for a reason at an address."""
 
     name: str
@@ -134,17 +119,19 @@ class State(Record):
     why: str | None = None
 
     def __str__(self):
-        return " ".join(str(it) for it in (self.name, self.why, self.address, self.status) if it is not None)
+        return " ".join(str(part) for part in (self.name, self.why, self.address, self.status) if part is not None)
 
 
-class Sum(Record):
+@dataclass
+class Sum:
     """Bytes and blocks, of all leaks of a kind."""
 
     size: int
     blocks: int
 
 
-class Report(Record):
+@dataclass
+class Report:
     """A report: the step, how the program ends or where it runs, how much of its input it has read, the bytes that it has written, errors,
     leaks that are listed, the sums of all, and the numbers of the last line. `text` is the report as it came, where that is kept."""
 
@@ -235,7 +222,7 @@ class Lines:
 def read_trace(lines):
     trace = []
     while lines.next is not None and lines.next.startswith("   "):
-        found = lines.must(OfFrame, "a frame")
+        found = lines.must(FRAME, "a frame")
         if found[1] != ("by" if trace else "at"):
             raise NoReport(f"no report: line {lines.number - 1} is out of turn: {found[0]!r}")
         trace.append(Frame(lines.address(found[2]), found[3]))

@@ -4,17 +4,12 @@ from replaycheck.guest.regions import USUAL_REGIONS
 from replaycheck.options import LAST_STEP
 from replaycheck.programs import ISAS, isa_words, path_of, program
 from replaycheck.refusals import Ended, Refused
+from replaycheck.replies import REFUSED, extent
 
 # How many lines are sent before their replies are read: those fit into a pipe, so that neither side waits for the other one.
 AT_ONCE = 1000
 # The first words of lines that append to the list of marks, in which `unmark` counts.
 MARKS = ("mark", "set", "write", "flip", "skip")
-# How many lines the reply to a look has, by the look's first word; to any other one it has one. A line that begins so is a whole reply.
-LONG_LOOKS = {"registers": 32, "controls": 24, "memory": 2}
-WHOLE = ("refused ", "none")
-# Looks whose replies are lists, and how their last lines begin.
-LISTS = ("blocks", "calls")
-LAST = ("refused ", "next ", "end")
 
 
 def limit_words(limit):
@@ -48,24 +43,17 @@ class Session:
             raise self.ended() from None
 
     def reply(self, line="report"):
-        """Returns the lines of the next reply, which is that to a line. A look's number of lines follows from the look, as its reply may
-        begin as a report does."""
+        """Returns the lines of the next reply, which is that to a line."""
         reply = [self.read()]
-        if line.startswith("look "):
-            word = (line.split() + [""])[1]
-            while word in LISTS and not reply[-1].startswith(LAST):
-                reply.append(self.read())
-            more = 0 if reply[0].startswith(WHOLE) else LONG_LOOKS.get(word, 1) - 1
-            reply += [self.read() for _ in range(more)]
-        elif reply[0].startswith("step "):
-            while not reply[-1].startswith("ERROR SUMMARY: "):
-                reply.append(self.read())
+        least, ends = extent(line, reply[0])
+        while len(reply) < least or ends and not reply[-1].startswith(ends):
+            reply.append(self.read())
         return reply
 
     def accepted(self, line):
         """The reply to a line that must not be refused."""
         reply = self.ask(line)
-        if reply[0].startswith("refused "):
+        if reply[0].startswith(REFUSED):
             raise Refused(line, reply[0])
         return reply
 
@@ -76,7 +64,7 @@ class Session:
             self.send(part)
             for line in part:
                 reply = self.read()
-                if reply.startswith("refused "):
+                if reply.startswith(REFUSED):
                     raise Refused(line, reply)
 
     def report_at(self, step):

@@ -1,8 +1,9 @@
 """Stubs that `replaycheck adopt` has added to a file: each stands for an instruction of it, to which it jumps back."""
-from replaycheck.records import Record
+from dataclasses import dataclass
 
 
-class Form(Record):
+@dataclass(frozen=True)
+class Form:
     """A kind of stubs: the symbol of their range, how long each is, and what its own name ends with."""
 
     range: str
@@ -57,5 +58,5 @@ class StandIns:
 
 def jumped_to(address, word):
     """The instruction before the one to which a stub's last word jumps, or None."""
-    from replaycheck.guest.instructions import JAL, distance, opcode
-    return address + distance(word) - 4 & 0xFFFFFFFF if opcode(word) == JAL else None
+    from replaycheck.guest.rv32 import JAL, branch_offset, opcode
+    return address + branch_offset(word) - 4 & 0xFFFFFFFF if opcode(word) == JAL else None

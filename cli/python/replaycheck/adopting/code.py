@@ -1,18 +1,35 @@
 """Which words of a file are code, as its symbols and its jumps tell, and what of it a run can't do."""
+from __future__ import annotations
+
 import bisect
-import collections
+from dataclasses import dataclass
+from typing import NamedTuple
 
 from replaycheck import programs
-from replaycheck.guest import instructions as isa
+from replaycheck.guest import instructions as isa, rv32
 from replaycheck.guest.code import joined, without
 from replaycheck.guest.elf import HAS_CODE
 from replaycheck.guest.encodings import Instruction, read
 
-Found = collections.namedtuple("Found", "address word")
 # How many words the walk through the start file takes, and the one back from mret.
 FURTHEST, NEAR = 256, 32
-# An instruction, the word that takes its place, and that one's text.
-Replaced = collections.namedtuple("Replaced", "address word new text")
+
+
+class Found(NamedTuple):
+    """An instruction of 32 bits: where it is, and its word."""
+
+    address: int
+    word: int
+
+
+@dataclass(frozen=True)
+class Replaced:
+    """An instruction, the word that takes its place, and that one's text."""
+
+    address: int
+    word: int
+    new: int
+    text: str
 
 
 class Stretch:
@@ -125,13 +142,13 @@ class Code:
     def is_instruction(self, address, word):
         """Notes a word that isn't RV32IM's. Is it an instruction at all?"""
         found = Found(address, word)
-        if word in (0, isa.UNIMP):
+        if word in (0, rv32.UNIMP):
             return False
         if isa.control(word):
             self.control.append(found)
-        elif isa.opcode(word) == isa.ATOMIC:
+        elif rv32.opcode(word) == rv32.ATOMIC:
             self.atomic.append(found)
-        elif isa.opcode(word) in isa.FLOAT:
+        elif rv32.opcode(word) in rv32.FLOAT:
             self.floating.append(found)
         else:
             (self.compressed if isa.is_compressed(word) else self.unknown).append(found)
@@ -195,12 +212,12 @@ def unseen(stretch, start, end, unit):
 
 def targets(address, before, word):
     """Where an instruction goes beside the next word, as far as it and the one before it tell."""
-    code = isa.opcode(word)
-    if code in (isa.JAL, isa.BRANCH):
-        return [address + isa.distance(word) & 0xFFFFFFFF]
-    if code == isa.JALR and isa.opcode(before) in (isa.AUIPC, isa.LUI) and isa.rd(before) == isa.rs1(word):
-        base = isa.upper(before) + (address - 4 if isa.opcode(before) == isa.AUIPC else 0)
-        return [base + isa.immediate(word) & 0xFFFFFFFE]
+    code = rv32.opcode(word)
+    if code in (rv32.JAL, rv32.BRANCH):
+        return [address + rv32.branch_offset(word) & 0xFFFFFFFF]
+    if code == rv32.JALR and rv32.opcode(before) in (rv32.AUIPC, rv32.LUI) and rv32.rd(before) == rv32.rs1(word):
+        base = rv32.upper(before) + (address - 4 if rv32.opcode(before) == rv32.AUIPC else 0)
+        return [base + rv32.immediate(word) & 0xFFFFFFFE]
     return []
 
 
@@ -212,23 +229,23 @@ def stack_words(code, entry):
     while address not in walked and len(walked) < FURTHEST:
         walked.add(address)
         it = code.instruction(address)
-        if it is None or isa.opcode(it.word) == isa.JALR or isa.opcode(it.word) == isa.JAL and isa.rd(it.word) != isa.ZERO:
+        if it is None or rv32.opcode(it.word) == rv32.JALR or rv32.opcode(it.word) == rv32.JAL and rv32.rd(it.word) != rv32.ZERO:
             break
         if places_stack(it.word, before, bool(found)):
             found.append(it)
         before = it.word
-        address += isa.distance(it.word) if isa.opcode(it.word) == isa.JAL else it.length
+        address += rv32.branch_offset(it.word) if rv32.opcode(it.word) == rv32.JAL else it.length
     return found
 
 
 def places_stack(word, before, has_placed):
     """Whether a word gives the stack pointer a place, after the word before it and after others that have."""
-    code = isa.opcode(word)
-    if isa.written(word) != isa.SP or not isa.is_of_rv32im(word):
+    code = rv32.opcode(word)
+    if isa.written(word) != rv32.SP or not isa.is_of_rv32im(word):
         return False
-    if code == isa.IMMEDIATE and isa.rs1(word) == isa.SP:
-        return isa.rd(before) == isa.SP and isa.opcode(before) in (isa.AUIPC, isa.LUI)
-    of_itself = code == isa.REGISTERS and isa.SP in (isa.rs1(word), word >> 20 & 31)
+    if code == rv32.IMMEDIATE and rv32.rs1(word) == rv32.SP:
+        return rv32.rd(before) == rv32.SP and rv32.opcode(before) in (rv32.AUIPC, rv32.LUI)
+    of_itself = code == rv32.REGISTERS and rv32.SP in (rv32.rs1(word), word >> 20 & 31)
     return has_placed or not of_itself
 
 
@@ -238,16 +255,16 @@ def replaced(code, found):
     source = return_register(code, found.address) if isa.control(found.word) == "mret" else None
     if source is None:
         return Replaced(*found, *isa.harmless(found.word))
-    return Replaced(*found, isa.jump_register(source), f"jr {isa.NAMES[source]}")
+    return Replaced(*found, isa.jump_register(source), f"jr {rv32.NAMES[source]}")
 
 
 def return_register(code, address):
     """The register whose value mret jumps to and which still has it, if no jump or call stands before; else None."""
     changed = set()
     for it in code.before(address):
-        if it is None or isa.may_jump(it.word) or it.word in (isa.ECALL, isa.EBREAK):
+        if it is None or isa.may_jump(it.word) or it.word in (rv32.ECALL, rv32.EBREAK):
             return None
         if isa.sets_return(it.word):
-            return isa.rs1(it.word) if isa.rs1(it.word) not in changed else None
+            return rv32.rs1(it.word) if rv32.rs1(it.word) not in changed else None
         changed.add(isa.written(it.word))
     return None

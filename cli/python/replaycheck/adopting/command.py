@@ -1,10 +1,12 @@
 """The command line of `replaycheck adopt`: what it takes, and what it reads and writes."""
 import os
+from argparse import Namespace
+from typing import Tuple
 
 from replaycheck.endings import Fault
 from replaycheck.endings import write as say
 from replaycheck.guest.elf import ROOM
-from replaycheck.options import BadValue, Once, Reader
+from replaycheck.options import BadValue, Parser
 from replaycheck.programs import USUAL
 from replaycheck.whole_files import rights_of, same_file, write_whole
 
@@ -18,27 +20,27 @@ from .outside import left
 LONGEST_FILE = 1 << 26
 
 
-def heap(text):
+def heap(text: str) -> Tuple[str, str, list]:
     try:
         return heap_of(text)
     except BadHeap as fault:
         raise BadValue(str(fault)) from None
 
 
-def options_of(page):
-    reader = Reader(page)
-    reader.add_argument("file")
-    reader.add_argument("-o", "--output", action=Once)
-    reader.repeated("--heap", type=heap)
-    reader.repeated("--keep")
-    reader.repeated("--devices")
-    reader.isa_option()
-    reader.region_options(has_limits=False)
-    options = reader.read()
+def options_of(page: str) -> Namespace:
+    parser = Parser(page)
+    parser.add_argument("file")
+    parser.add_argument("-o", "--output")
+    parser.add_argument("--heap", type=heap, action="append", default=[])
+    parser.add_argument("--keep", action="append", default=[])
+    parser.add_argument("--devices", action="append", default=[])
+    parser.isa_option()
+    parser.region_options(has_limits=False)
+    options = parser.read()
     names = [name for name, _, _ in options.heap] + options.keep
     twice = next((name for i, name in enumerate(names) if name in names[:i]), None)
     if twice:
-        reader.error(f"{twice} is named twice")
+        parser.error(f"{twice} is named twice")
     options.keep = frozenset(options.keep)
     return options
 
@@ -91,7 +93,7 @@ def answer_for_devices(findings, inputs, kept):
     findings.devices = left(findings.devices, set(sites))
 
 
-def adopt(options):
+def adopt(options: Namespace) -> int:
     """Looks at a file, writes another one if asked to, tells both, and returns the exit status."""
     data = read(options.file)
     findings = Findings(data, options.heap, options.keep, options.isa, options.regions)

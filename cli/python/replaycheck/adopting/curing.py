@@ -1,6 +1,6 @@
 """What a file becomes: each change of bytes, where it stands and what it is."""
-import collections
 import struct
+from dataclasses import dataclass
 
 from replaycheck.guest import elf as form
 from replaycheck.guest import instructions as isa
@@ -9,9 +9,17 @@ from replaycheck.stand_ins import FORMS
 
 from .heap_names import MAPPED_MARK
 
-Change = collections.namedtuple("Change", "offset size what")
 WEAK, NO_SECTION = 0x20, 0xFFF1
 READ_WRITE_RUN, WORD = 7, 4
+
+
+@dataclass(frozen=True)
+class Change:
+    """A change of a file's bytes: where they are, how many, and what they are."""
+
+    offset: int
+    size: int
+    what: str
 
 
 class Cured:

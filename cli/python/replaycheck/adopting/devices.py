@@ -2,7 +2,7 @@
 or store itself if there is no device at its address."""
 import struct
 
-from replaycheck.guest import instructions as isa
+from replaycheck.guest import instructions as isa, rv32
 from replaycheck.guest.elf import word_at
 from replaycheck.stand_ins import ACCESSES
 
@@ -13,9 +13,9 @@ from .outside import HOSTS
 # Of each device that is answered for, its registers.
 ANSWERED = [(0x10000000, 8), (0x10013000, 28), (0x100000, 4)]
 FRAME = 32
-SAVED = [(isa.RA, 0), (isa.A0, 4), (isa.A1, 8), (isa.A2, 12)]
+SAVED = [(rv32.RA, 0), (rv32.A0, 4), (rv32.A1, 8), (rv32.A2, 12)]
 # Sub-words: how far a load of each funct3 shifts its value up and down, and by which shift.
-SHIFTS = {0: (24, 0x40005013), 1: (16, 0x40005013), 4: (24, 0x5013), 5: (16, 0x5013)}
+SHIFTS = {rv32.LOADS["lb"]: (24, "srai"), rv32.LOADS["lh"]: (16, "srai"), rv32.LOADS["lbu"]: (24, "srli"), rv32.LOADS["lhu"]: (16, "srli")}
 
 
 def words_of_host(elf):
@@ -35,8 +35,8 @@ def can_lead(elf, site, kept, unit):
     without the stack pointer."""
     place = elf.place(site)
     word = word_at(elf.data, place) if place is not None else 0
-    uses = isa.rd(word) if isa.opcode(word) == isa.LOAD else word >> 20 & 31
-    is_one = isa.opcode(word) in (isa.LOAD, isa.STORE) and isa.is_of_rv32im(word) and isa.SP not in (isa.rs1(word), uses)
+    uses = rv32.rd(word) if rv32.opcode(word) == rv32.LOAD else word >> 20 & 31
+    is_one = rv32.opcode(word) in (rv32.LOAD, rv32.STORE) and isa.is_of_rv32im(word) and rv32.SP not in (rv32.rs1(word), uses)
     return is_one and site % unit == 0 and elf.function_at(site) not in kept
 
 
@@ -48,29 +48,28 @@ def answerable(found):
 
 def asking(word, is_lower, handler):
     """The words of a stub that ask the handler. What the registers had is on the stack."""
-    is_store = isa.opcode(word) == isa.STORE
-    offset = isa.store_offset(word) if is_store else isa.immediate(word)
-    words = [isa.addi(isa.SP, isa.SP, -FRAME), *(isa.store_word(register, isa.SP, at) for register, at in SAVED)]
-    words.append(isa.addi(isa.A0, isa.rs1(word), offset))
+    is_store = rv32.opcode(word) == rv32.STORE
+    offset = rv32.store_offset(word) if is_store else rv32.immediate(word)
+    words = [rv32.addi(rv32.SP, rv32.SP, -FRAME), *(isa.store_word(register, rv32.SP, at) for register, at in SAVED)]
+    words.append(rv32.addi(rv32.A0, rv32.rs1(word), offset))
     value = word >> 20 & 31
     if is_store:
-        words.append(isa.load_word(isa.A1, isa.SP, 4) if value == isa.A0 else isa.move(isa.A1, value))
-    words.append(isa.load_immediate(isa.A2, 2 if is_lower else int(is_store)))
+        words.append(isa.load_word(rv32.A1, rv32.SP, 4) if value == rv32.A0 else isa.move(rv32.A1, value))
+    words.append(isa.load_immediate(rv32.A2, 2 if is_lower else int(is_store)))
     return words + isa.call(handler)
 
 
 def taking(word):
     """The words of a stub that take what the handler has returned."""
-    into = isa.rd(word) if isa.opcode(word) == isa.LOAD else isa.ZERO
+    into = rv32.rd(word) if rv32.opcode(word) == rv32.LOAD else rv32.ZERO
     words = []
-    if into != isa.ZERO:
-        far, down = SHIFTS.get(isa.funct3(word), (0, 0))
+    if into != rv32.ZERO:
+        far, down = SHIFTS.get(rv32.funct3(word), (0, ""))
         if far:
-            words += [far << 20 | isa.A0 << 15 | 1 << 12 | isa.A0 << 7 | isa.IMMEDIATE,
-                      far << 20 | isa.A0 << 15 | isa.A0 << 7 | down & ~0x7F | isa.IMMEDIATE]
-        words += [isa.move(into, isa.A0)] if into != isa.A0 else []
-    words += [isa.load_word(register, isa.SP, at) for register, at in SAVED if register != into or into == isa.ZERO]
-    return words + [isa.addi(isa.SP, isa.SP, FRAME)]
+            words += [rv32.shift(name, rv32.A0, rv32.A0, far) for name in ("slli", down)]
+        words += [isa.move(into, rv32.A0)] if into != rv32.A0 else []
+    words += [isa.load_word(register, rv32.SP, at) for register, at in SAVED if register != into or into == rv32.ZERO]
+    return words + [rv32.addi(rv32.SP, rv32.SP, FRAME)]
 
 
 class Driving(Added):
@@ -92,10 +91,10 @@ class Driving(Added):
     def is_lower(self, site):
         """Whether a site stores the lower half of what the next one stores the upper half of."""
         pair = [self.word(it) for it in (site, site + 4) if it in self.known]
-        if [isa.opcode(it) for it in pair] != [isa.STORE] * 2:
+        if [rv32.opcode(it) for it in pair] != [rv32.STORE] * 2:
             return False
         lower, upper = pair
-        return isa.rs1(lower) == isa.rs1(upper) and isa.store_offset(upper) == isa.store_offset(lower) + 4
+        return rv32.rs1(lower) == rv32.rs1(upper) and rv32.store_offset(upper) == rv32.store_offset(lower) + 4
 
     def told(self, site):
         return f"0x{self.word(site):08x}, of a device"
@@ -104,9 +103,9 @@ class Driving(Added):
         """A stub's words. It ends as all stubs do, with a jump back."""
         word = self.word(site)
         ask, take = asking(word, self.is_lower(site), self.handler), taking(word)
-        itself = [isa.load_word(register, isa.SP, at) for register, at in SAVED]
-        itself += [isa.addi(isa.SP, isa.SP, FRAME), word]
+        itself = [isa.load_word(register, rv32.SP, at) for register, at in SAVED]
+        itself += [rv32.addi(rv32.SP, rv32.SP, FRAME), word]
         past = isa.jump(4 * (ACCESSES.size // 4 - 1 - len(ask) - 1 - len(take)))
-        words = [*ask, isa.branch_if_zero(isa.A1, 4 * (len(take) + 2)), *take, past, *itself]
-        words += [isa.NOP] * (ACCESSES.size // 4 - 1 - len(words))
+        words = [*ask, isa.branch_if_zero(rv32.A1, 4 * (len(take) + 2)), *take, past, *itself]
+        words += [rv32.NOP] * (ACCESSES.size // 4 - 1 - len(words))
         return struct.pack(f"<{len(words) + 1}I", *words, isa.jump(site + 4 - (address + ACCESSES.size - 4)))

@@ -1,6 +1,8 @@
 """What stands between a board's file and a checked run: what can be cured in the file, and what only a rebuild
 cures."""
-import collections
+from __future__ import annotations
+
+from dataclasses import dataclass
 
 from replaycheck.guest.code import joined, without
 from replaycheck.guest.elf import IS_COMPRESSED, ROOM, Elf, refusals
@@ -15,11 +17,20 @@ from .outside import reached
 from .regions import fitting, has_own, own_stack
 from .semihosting import Hosting, sites
 
-# What only a rebuild cures, or an option: what it is, the cure, whether nothing of the file runs before, and whether an option cures it.
-Obstacle = collections.namedtuple("Obstacle", "what cure stops_all by_option", defaults=(False,))
 # The refusals of files that no linker has written so.
 DAMAGED = (20, 23, 26, 28, 31)
 TARGET = "-march=rv32im -mabi=ilp32"
+
+
+@dataclass(frozen=True)
+class Obstacle:
+    """What only a rebuild cures, or an option: what it is, the cure, whether nothing of the file runs before, and whether an option cures
+    it."""
+
+    what: str
+    cure: str
+    stops_all: bool
+    by_option: bool = False
 
 
 class Findings:
@@ -132,7 +143,7 @@ class Findings:
             self.hosting = Hosting(self.elf, found, [(it.first, it.last + 1) for it in self.devices if it.places])
             why = self.hosting.refused(self.loaded(), len(self.elf.segments) + len(self.copied))
             if why:
-                self.obstacles.append(Obstacle(f"calls of a host by semihosting, at {self.elf.where_all(found)}: {why[0]}",
+                self.obstacles.append(Obstacle(f"semihosting calls, at {self.elf.where_all(found)}: {why[0]}",
                                                why[1], True))
 
     def answer_for(self, sites):
@@ -146,7 +157,8 @@ class Findings:
         before = self.loaded() + (self.hosting.total() if self.hosting else 0)
         segments = len(self.elf.segments) + len(self.copied) + (len(self.hosting.groups) if self.hosting else 0)
         why = self.driving.refused(before, segments)
-        return why and Obstacle(f"loads and stores of devices, at {self.elf.where_all(self.driving.sites)}: {why[0]}", why[1], True)
+        where = self.elf.where_all(self.driving.sites)
+        return why and Obstacle(f"loads and stores of device registers, at {where}: {why[0]}", why[1], True)
 
     def loaded(self):
         """How many bytes are loaded, with those at physical addresses."""

@@ -1,17 +1,31 @@
 """Functions of a heap that have other names than C's four, and how each is made one of these."""
-import collections
-import re
+from __future__ import annotations
 
-from replaycheck.guest import instructions as isa
+import re
+from dataclasses import dataclass
+
+from replaycheck.guest import instructions as isa, rv32
+from replaycheck.guest.elf import Symbol
 from replaycheck.guest.encodings import in_bytes, load_number, move
 
 from .heap_names import KNOWN, LEFT
 
 PARAMETERS = {"malloc": 1, "free": 1, "calloc": 2, "realloc": 2}
 FORM = re.compile(r"([^=]+)=(\w+)\(([^()]*)\)")
-# A function to take over: its name, its symbol, how long it is, the heap's function, the instructions that it becomes, each in bytes, their
-# texts, and the address that gets the heap's name, where no jump goes there.
-Taken = collections.namedtuple("Taken", "name symbol size function codes texts named")
+
+
+@dataclass(frozen=True)
+class Taken:
+    """A function to take over: its name, its symbol, how long it is, the heap's function, the instructions that it becomes, each in bytes,
+    their texts, and the address that gets the heap's name, where no jump goes there."""
+
+    name: str
+    symbol: Symbol
+    size: int
+    function: str
+    codes: list[bytes]
+    texts: list[str]
+    named: int | None
 
 
 class BadHeap(ValueError):
@@ -22,7 +36,7 @@ def place_of(text):
     """A parameter's place: ("register", number) or ("number", value)."""
     text = text.strip()
     if re.fullmatch("a[0-7]", text):
-        return "register", isa.A0 + int(text[1])
+        return "register", rv32.A0 + int(text[1])
     if re.fullmatch(r"\d+|0x[0-9a-fA-F]+", text):
         number = int(text, 16 if text[:2] == "0x" else 10)
         if number < 2048:
@@ -45,16 +59,16 @@ def heap_of(text):
 def moved(to, place, unit):
     kind, number = place
     if kind == "number":
-        return load_number(to, number, unit), f"li {isa.NAMES[to]},{number}"
-    return move(to, number, unit), f"mv {isa.NAMES[to]},{isa.NAMES[number]}"
+        return load_number(to, number, unit), f"li {rv32.NAMES[to]},{number}"
+    return move(to, number, unit), f"mv {rv32.NAMES[to]},{rv32.NAMES[number]}"
 
 
 def moves(places, unit):
     """Instructions and texts that bring parameters from their places to a0 and a1."""
-    wanted = [(isa.A0 + i, place) for i, place in enumerate(places)]
-    if [place for _, place in wanted] == [("register", isa.A1), ("register", isa.A0)]:
-        wanted = [(isa.T1, wanted[0][1]), wanted[1], (isa.A0, ("register", isa.T1))]
-    elif len(wanted) == 2 and wanted[1][1] == ("register", isa.A0):
+    wanted = [(rv32.A0 + i, place) for i, place in enumerate(places)]
+    if [place for _, place in wanted] == [("register", rv32.A1), ("register", rv32.A0)]:
+        wanted = [(rv32.T1, wanted[0][1]), wanted[1], (rv32.A0, ("register", rv32.T1))]
+    elif len(wanted) == 2 and wanted[1][1] == ("register", rv32.A0):
         wanted.reverse()
     return [moved(to, place, unit) for to, place in wanted if place != ("register", to)]
 

@@ -1,8 +1,10 @@
 """Loads and stores at addresses that the code itself has and where no memory is: registers of devices, as a rule."""
-import bisect
-import collections
+from __future__ import annotations
 
-from replaycheck.guest import instructions as isa
+import bisect
+from dataclasses import dataclass, replace
+
+from replaycheck.guest import instructions as isa, rv32
 from replaycheck.guest.code import joined
 from replaycheck.stand_ins import ACCESSES
 
@@ -14,8 +16,17 @@ HOSTS = ("tohost", "fromhost")
 PAGE = 0x1000
 # Registers that a call may change: ra, t0 to t2, a0 to a7, t3 to t6.
 CHANGED_BY_CALLS = {1, 5, 6, 7, *range(10, 18), *range(28, 32)}
-# Those of one page: the first and the last address, what the device is called or None, and the instructions.
-Reached = collections.namedtuple("Reached", "first last name places")
+
+
+@dataclass(frozen=True)
+class Reached:
+    """Addresses of one page that are reached: the first and the last one, what the device is called, and the places of the
+    instructions."""
+
+    first: int
+    last: int
+    name: str | None
+    places: list[int]
 
 
 def memory_of(elf, copied):
@@ -31,31 +42,31 @@ class Constants:
     what auipc makes: these are the linker's own addresses, such as the ends of a table that may be empty."""
 
     def __init__(self):
-        self.known = {isa.ZERO: 0}
+        self.known = {rv32.ZERO: 0}
 
     def target(self, word):
         """The address of a load or a store, or None."""
-        code = isa.opcode(word)
-        base = self.known.get(isa.rs1(word)) if code in (isa.LOAD, isa.STORE) else None
+        code = rv32.opcode(word)
+        base = self.known.get(rv32.rs1(word)) if code in (rv32.LOAD, rv32.STORE) else None
         if base is None:
             return None
-        return base + (isa.immediate(word) if code == isa.LOAD else isa.store_offset(word)) & 0xFFFFFFFF
+        return base + (rv32.immediate(word) if code == rv32.LOAD else rv32.store_offset(word)) & 0xFFFFFFFF
 
     def after(self, word):
         """Takes in what an instruction does."""
-        code, to = isa.opcode(word), isa.written(word)
+        code, to = rv32.opcode(word), isa.written(word)
         value = None
-        if code == isa.LUI:
-            value = isa.upper(word)
-        elif code == isa.IMMEDIATE and isa.funct3(word) == 0 and isa.rs1(word) in self.known:
-            value = self.known[isa.rs1(word)] + isa.immediate(word) & 0xFFFFFFFF
-        if code in (isa.JAL, isa.JALR):
-            gone = self.known.keys() - {isa.ZERO} if to == isa.ZERO else self.known.keys() & CHANGED_BY_CALLS
+        if code == rv32.LUI:
+            value = rv32.upper(word)
+        elif code == rv32.IMMEDIATE and rv32.funct3(word) == 0 and rv32.rs1(word) in self.known:
+            value = self.known[rv32.rs1(word)] + rv32.immediate(word) & 0xFFFFFFFF
+        if code in (rv32.JAL, rv32.JALR):
+            gone = self.known.keys() - {rv32.ZERO} if to == rv32.ZERO else self.known.keys() & CHANGED_BY_CALLS
             for register in list(gone):
                 del self.known[register]
-        elif to != isa.ZERO:
+        elif to != rv32.ZERO:
             self.known.pop(to, None)
-            if value is not None and to != isa.SP:
+            if value is not None and to != rv32.SP:
                 self.known[to] = value
 
 
@@ -94,5 +105,5 @@ def reached(elf, code, copied):
 
 def left(found, sites):
     """What is reached by other instructions than some sites; of a word of a host nothing is left."""
-    others = [it._replace(places=[at for at in it.places if at not in sites]) for it in found]
-    return [it for it in others if it.places]
+    others = (replace(one, places=[at for at in one.places if at not in sites]) for one in found)
+    return [one for one in others if one.places]

@@ -1,7 +1,9 @@
 """Where heap and stack can be for a file: apart from its segments, and where its start file has its stack."""
-import collections
+from __future__ import annotations
 
-from replaycheck.guest import instructions as isa
+from dataclasses import dataclass
+
+from replaycheck.guest import rv32
 from replaycheck.guest.elf import OBJECT
 from replaycheck.guest.regions import HEAP_SIZE, STACK_STEP, USUAL_REGIONS, Regions, is_stack, meets, stack_text
 
@@ -16,19 +18,26 @@ MOST_STACK = USUAL_REGIONS.stack[1] - USUAL_REGIONS.stack[0]
 NAMES = ("__stack_top", "_stack_top", "stack_top", "__stack", "_estack", "__StackTop", "_eusrstack", "_sp", "__stack_end", "_stack_start")
 ALLOCATED = 2
 
-# The stack of a start file: where it ends, what says so, and the region that makes it undefined.
-Own = collections.namedtuple("Own", "top name region")
+
+@dataclass(frozen=True)
+class Own:
+    """The stack of a start file: where it ends, the symbol that says so, if it isn't the words of the file, and the region that makes it
+    undefined."""
+
+    top: int
+    name: str | None
+    region: tuple[int, int]
 
 
 def end_by_words(words):
     """The address that the start file's words give the stack pointer, or None where they don't have it."""
     value = None
     for it in words:
-        code = isa.opcode(it.word)
-        if code in (isa.LUI, isa.AUIPC):
-            value = isa.upper(it.word) + (it.address if code == isa.AUIPC else 0)
-        elif code == isa.IMMEDIATE and isa.funct3(it.word) == 0 and value is not None:
-            value += isa.immediate(it.word)
+        code = rv32.opcode(it.word)
+        if code in (rv32.LUI, rv32.AUIPC):
+            value = rv32.upper(it.word) + (it.address if code == rv32.AUIPC else 0)
+        elif code == rv32.IMMEDIATE and rv32.funct3(it.word) == 0 and value is not None:
+            value += rv32.immediate(it.word)
         else:
             value = None
     return None if value is None else value & 0xFFFFFFFF

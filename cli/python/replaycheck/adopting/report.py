@@ -5,16 +5,16 @@ from replaycheck.programs import SHORT
 from . import regions
 from .heaps import PARAMETERS
 
-HEAP = "functions of a heap by other names, whose blocks are unknown: free of one would be a false error"
-CONTROL = f"instructions for control registers, fence.i and wfi, at which the run would stop without --isa {SHORT}"
+HEAP = "heap functions under other names: until they are mapped, freeing one of their blocks is reported wrongly"
+CONTROL = f"instructions for control registers (CSRs), fence.i and wfi, at which the run would stop without --isa {SHORT}"
 RETURN = "returns from traps and the like, at which the run would stop"
-STACK = ("a stack of the start file's own: what nothing has set isn't found on it, and where no segment is, each push "
-         "is an error")
-HOSTED = "calls of a host by semihosting, at which the run would stop: answered by calls 63, 64 and 93"
-DRIVEN = "loads and stores of devices, where no memory is: answered by calls 63, 64 and 93"
-COPIED = "initialised data that a start file copies from where nothing is loaded: variables would be 0"
+STACK = ("the start file sets its own stack: uninitialised variables on it aren't found, and pushes outside any segment are "
+         "errors")
+HOSTED = "semihosting calls, at which the run would stop: answered by calls 63, 64 and 93"
+DRIVEN = "loads and stores of device registers, which are unmapped: answered by calls 63, 64 and 93"
+COPIED = "initialised data that the start file copies from flash, where nothing is loaded: variables would be 0"
 
-DEVICES = "where no memory is, as for a device: each access is an error, and a wait for a device has no end"
+DEVICES = "device registers (unmapped): every access is reported, and polling loops never end"
 HOST = "a word by which a host is asked (HTIF); no host answers"
 
 

@@ -3,7 +3,7 @@ to a stub, which calls what answers."""
 import struct
 
 from replaycheck.executing import arguments
-from replaycheck.guest import instructions as isa
+from replaycheck.guest import instructions as isa, rv32
 from replaycheck.guest.elf import OBJECT
 from replaycheck.stand_ins import CALLS
 
@@ -11,7 +11,7 @@ from . import host_handler
 from .added import Added
 
 # slli zero,zero,31; ebreak; srai zero,zero,7: the outer two do nothing, so no compiler makes them for itself.
-SEQUENCE = struct.pack("<3I", 0x01F01013, isa.EBREAK, 0x40705013)
+SEQUENCE = struct.pack("<3I", rv32.shift("slli", rv32.ZERO, rv32.ZERO, 31), rv32.EBREAK, rv32.shift("srai", rv32.ZERO, rv32.ZERO, 7))
 
 
 def sites(elf, kept, unit):
@@ -34,7 +34,7 @@ class Hosting(Added):
     FORM, NAME, WHAT = CALLS, "__semihosting", "what answers calls of a host"
 
     def __init__(self, elf, found, others):
-        room = arguments.symbol_of(elf.data, arguments.ROOM) if elf.symbol_table is not None else None
+        room = arguments.symbol_of(elf, arguments.ROOM)
         self.has_room = room is not None
         state = host_handler.state_of(self.has_room)
         super().__init__(elf, found, others, len(state) + len(host_handler.code_of(0, 0)))
@@ -48,8 +48,8 @@ class Hosting(Added):
 
     def stub(self, address, site):
         """A stub's words: it saves ra, calls the handler and jumps back to where the site goes on."""
-        words = [isa.addi(isa.SP, isa.SP, -16), isa.store_word(isa.RA, isa.SP, 12), *isa.call(self.handler),
-                 isa.load_word(isa.RA, isa.SP, 12), isa.addi(isa.SP, isa.SP, 16)]
+        words = [rv32.addi(rv32.SP, rv32.SP, -16), isa.store_word(rv32.RA, rv32.SP, 12), *isa.call(self.handler),
+                 isa.load_word(rv32.RA, rv32.SP, 12), rv32.addi(rv32.SP, rv32.SP, 16)]
         return struct.pack("<7I", *words, isa.jump(site + 4 - (address + CALLS.size - 4)))
 
     def symbols(self):

@@ -1,6 +1,8 @@
 """Addresses that are free for what is added to a file: near the instructions that jump there, and apart from all else."""
+from __future__ import annotations
+
 import bisect
-import collections
+from dataclasses import dataclass
 
 from replaycheck.guest import instructions as isa
 from replaycheck.guest.code import joined, without
@@ -12,8 +14,14 @@ REACH = isa.JUMP_REACH - 0x100
 ALIGNED = 16
 # How far what is added is from all else: so a write that goes past something isn't lost in it.
 APART = (PAGE, ALIGNED)
-# Added code: its address, and the instructions that jump there.
-Group = collections.namedtuple("Group", "address sites")
+
+
+@dataclass(frozen=True)
+class Group:
+    """Added code: its address, and those of the instructions that jump there."""
+
+    address: int
+    sites: list[int]
 
 
 def taken(elf):

@@ -2,12 +2,14 @@
 from __future__ import annotations
 
 import os
+from argparse import Namespace
 from fnmatch import fnmatchcase
+from typing import Callable, Dict
 
 from replaycheck.demangling import Demangler
 from replaycheck.endings import Fault, tell, write
 from replaycheck.guest.code import Code
-from replaycheck.options import USUAL_STEP, BadValue, Reader
+from replaycheck.options import USUAL_STEP, BadValue, Parser
 from replaycheck.places import Paths, Places
 from replaycheck.refusals import Ended, Refused
 from replaycheck.whole_files import rights_of, rights_of_new, same_file, write_whole
@@ -16,32 +18,32 @@ from . import gcov_json, lcov, table
 from .covered import Covered
 from .runs import Sides, run, why
 
-FORMATS = {"summary": table.text_of, "lcov": lcov.text_of, "gcov-json": gcov_json.text_of}
+FORMATS: Dict[str, Callable[..., str]] = {"summary": table.text_of, "lcov": lcov.text_of, "gcov-json": gcov_json.text_of}
 
 
-def pattern(text):
+def pattern(text: str) -> str:
     """Reads a pattern of names of files."""
     if not text:
         raise BadValue("an empty pattern, which no file has")
     return text
 
 
-def options_of(page):
-    reader = Reader(page)
-    reader.add_argument("file")
-    reader.add_argument("--input", action="extend", nargs="+")
-    reader.option("--format", choices=tuple(FORMATS), default="summary")
-    reader.option("--output")
-    reader.repeated("--include", type=pattern)
-    reader.repeated("--exclude", type=pattern)
-    reader.step_option("--step", default=USUAL_STEP)
-    reader.limit_option()
-    reader.isa_option()
-    reader.region_options()
-    options = reader.read()
+def options_of(page: str) -> Namespace:
+    parser = Parser(page)
+    parser.add_argument("file")
+    parser.add_argument("--input", action="extend", nargs="+", default=[])
+    parser.add_argument("--format", choices=tuple(FORMATS), default="summary")
+    parser.add_argument("--output")
+    parser.add_argument("--include", type=pattern, action="append", default=[])
+    parser.add_argument("--exclude", type=pattern, action="append", default=[])
+    parser.step_option("--step", default=USUAL_STEP)
+    parser.limit_option()
+    parser.isa_option()
+    parser.region_options()
+    options = parser.read()
     for path in (options.file, *options.input):
         if options.output is not None and same_file(options.output, path):
-            reader.error(f"--output: it would overwrite {path}")
+            parser.error(f"--output: it would overwrite {path}")
     return options
 
 
@@ -80,8 +82,8 @@ def put_out(text, path):
         write_whole(path, text.encode("utf-8", "surrogateescape"), rights)
 
 
-def main(page):
-    options = options_of(page)
+def cover(options: Namespace) -> int:
+    """Makes the runs and writes what they executed. Returns the exit status."""
     code = Code(options.file, options.isa, options.regions)
     sides, places, names = Sides(code.ranges, code.unit), Places(options.file, Paths(from_here=True)), Demangler()
     runs, failed = all_runs(options, sides)

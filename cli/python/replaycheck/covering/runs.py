@@ -2,10 +2,10 @@
 from __future__ import annotations
 
 import bisect
+from dataclasses import dataclass
 from typing import Dict, List
 
 from replaycheck.endings import Fault
-from replaycheck.records import Record
 from replaycheck.sessions import Session
 
 MOST_ASKED = 4096  # bytes of one look
@@ -48,7 +48,8 @@ class Sides:
 VALUES = bytes(max(it - ord("0"), 0) & 3 for it in range(256))
 
 
-class Made(Record):
+@dataclass(frozen=True)
+class Made:
     """A run that was made: its input, if it has one, and its state at the chosen step: `exited 0`, `stopped jump`, `running`."""
 
     given: str

@@ -1,7 +1,10 @@
 """The command line of `replaycheck gdb`."""
+import sys
+from argparse import Namespace
+
 from replaycheck.endings import write
 from replaycheck.looking import Run
-from replaycheck.options import Reader, number
+from replaycheck.options import Parser, number
 
 from .altering import Alterer
 from .connections import Pipes, Port
@@ -19,23 +22,25 @@ set remotetimeout 120
 """
 
 
-def options_of(page):
-    reader = Reader(page)
-    reader.add_argument("file", nargs="?")
-    reader.option("--input")
-    reader.option("--supp")
-    reader.isa_option()
-    reader.region_options()
-    reader.limit_option()
-    reader.option("--port", type=number(0, 65535))
-    reader.option("--commands", is_flag=True)
-    options = reader.read()
+def options_of(page: str) -> Namespace:
+    parser = Parser(page)
+    parser.add_argument("file", nargs="?")
+    parser.add_argument("--input")
+    parser.add_argument("--supp")
+    parser.isa_option()
+    parser.region_options()
+    parser.limit_option()
+    parser.add_argument("--port", type=number(0, 65535))
+    parser.add_argument("--commands", action="store_true")
+    options = parser.read()
     if options.commands == (options.file is not None):
-        reader.error("FILE is wanted, or --commands alone")
+        parser.error("FILE is wanted, or --commands alone")
+    if options.commands and len(sys.argv) > 2:
+        parser.error(f"--commands goes with no other option: {' '.join(word for word in sys.argv[1:] if word != '--commands')}")
     return options
 
 
-def debug(options):
+def debug(options: Namespace) -> int:
     if options.commands:
         write(COMMANDS)
         return 0

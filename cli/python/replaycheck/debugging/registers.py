@@ -1,7 +1,7 @@
 """The registers that gdb is told of, and their description (gdb's manual, appendix G, RISC-V features)."""
+from replaycheck.guest import rv32
 
-NAMES = ("zero ra sp gp tp t0 t1 t2 fp s1 a0 a1 a2 a3 a4 a5 a6 a7 s2 s3 s4 s5 s6 s7 s8 s9 s10 s11 "
-         "t3 t4 t5 t6").split()
+NAMES = ["fp" if name == "s0" else name for name in rv32.NAMES]  # as gdb calls it
 POINTERS = {"sp", "gp", "tp", "fp"}
 PC = len(NAMES)
 STEP = PC + 1

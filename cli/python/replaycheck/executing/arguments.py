@@ -6,7 +6,6 @@ from replaycheck.endings import Fault
 
 ROOM = "__replaycheck_arguments"
 REFUSED = 126
-SYMBOLS = 2
 
 
 class NoRoom(Fault):
@@ -15,32 +14,25 @@ class NoRoom(Fault):
     status = REFUSED
 
 
-def symbol_of(data, name):
-    """The address and the size of a symbol of a file, or None. Raises struct.error where the file's tables don't lie in it."""
-    (place,), (count,) = struct.unpack_from("<I", data, 32), struct.unpack_from("<H", data, 48)
-    sections = [struct.unpack_from("<10I", data, place + 40 * it) for it in range(count if place else 0)]
-    table = next((it for it in sections if it[1] == SYMBOLS), None)
-    if table is None:
-        return None
-    strings = sections[table[6]]
-    names = data[strings[4]:strings[4] + strings[5]]
-    wanted = name.encode() + b"\0"
-    for at, value, size, _, _, section in struct.iter_unpack("<IIIBBH", data[table[4]:table[4] + table[5]]):
-        if section and names[at:at + len(wanted)] == wanted and (at == 0 or names[at - 1] == 0):
-            return value, size
-    return None
+def symbol_of(elf, name):
+    """The address and the size of a symbol of a file, or None."""
+    found = elf.named(elf.symbols, name)
+    return (found[0].value, found[0].size) if found else None
 
 
-def room_of(path):
-    """Where a program's file has room for arguments: its address and its size."""
+def room_of(path, arguments):
+    """Where a program's file has room for these arguments: its address and its size. One that looks like an option may have been meant as
+    one."""
+    from replaycheck.guest.elf import Elf  # here, as few tests have arguments
     with open(path, "rb") as file:
         data = file.read(1 << 26)
     try:
-        room = symbol_of(data, ROOM)
+        room = symbol_of(Elf(data), ROOM)
     except (struct.error, IndexError):
         room = None
     if room is None:
-        raise NoRoom(f"arguments refused: {path}: it has no room {ROOM}, which start.S has with -DARGUMENTS")
+        hint = "; options of `exec` come before FILE" if any(it.startswith("-") for it in arguments) else ""
+        raise NoRoom(f"arguments refused: {path}: it has no room {ROOM}, which start.S has with -DARGUMENTS{hint}")
     return room
 
 
@@ -58,7 +50,7 @@ def patches_for(path, arguments):
     """The patches that give a program its arguments: ADDR=WORD for each word."""
     if not arguments:
         return []
-    address, size = room_of(path)
+    address, size = room_of(path, arguments)
     made = content(address, [os.fsencode(it) + b"\0" for it in (path, *arguments)])
     if len(made) > size:
         raise NoRoom(f"arguments refused: {path}: they need {len(made)} bytes, and {ROOM} has {size}")

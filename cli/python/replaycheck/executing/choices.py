@@ -1,9 +1,14 @@
 """The command line of `exec`: the launcher's options, the program's, and Valgrind's. Options come before the program's file."""
+from __future__ import annotations
+
+import argparse
 import os
+from dataclasses import dataclass, field
+from typing import Any, NoReturn
 
 from replaycheck.endings import Fault
-from replaycheck.guest.regions import GREATEST_MOVED, USUAL_REGIONS
-from replaycheck.options import BadValue, heap_region, most_output, number, regions_of, stack_region
+from replaycheck.guest.regions import GREATEST_MOVED, USUAL_REGIONS, Regions
+from replaycheck.options import BadValue, Narrow, heap_region, most_output, number, regions_of, stack_region
 from replaycheck.programs import ISAS
 from replaycheck.verdicts import LEAK_KINDS
 
@@ -12,6 +17,17 @@ FORMATS = ("valgrind", "report", "json", "sarif", "valgrind-xml", "junit", "gcc"
 EMULATORS = ("qemu-riscv32", "qemu-riscv32-static")
 MOST_CALLERS = 24
 HELP = "`replaycheck exec --help` lists the options, which come before the program's file"
+# Options without a value: what each sets, and to what.
+FLAGS: dict[str, tuple[str, bool]] = {
+    "-q": ("quiet", True), "--quiet": ("quiet", True), "-v": ("verbose", True), "--verbose": ("verbose", True),
+    "--require-heap": ("require_heap", True), "--no-require-heap": ("require_heap", False), "--full-paths": ("full_paths", True),
+    "--no-demangle": ("demangle", False), "--end-line": ("ends_line", True),
+    "-h": ("asks_for_help", True), "--help": ("asks_for_help", True)}
+# What options of Valgrind on leaks come to here, by their values.
+NO_LEAKS = {"show": "none", "count": "none"}
+LEAK_CHECKS = {"no": NO_LEAKS, "summary": NO_LEAKS, "yes": {}, "full": {}}
+SHOW_REACHABLE = {"yes": {"show": "all"}, "no": {}}
+SHOW_POSSIBLY_LOST = {"yes": {}, "no": {"show": "definite"}}
 # Options of Valgrind that change nothing here, each with the values that ask for what is done anyway; None is any value.
 UNUSED = {
     "--tool": ("memcheck",), "--undef-value-errors": ("yes",), "--gen-suppressions": ("no",), "--xml": ("no",), "--track-fds": ("no",),
@@ -32,176 +48,167 @@ class Usage(Fault):
     status = FAILED
 
 
-class Choices:
+@dataclass
+class Choices(argparse.Namespace):
     """What a command line asks for."""
 
-    def __init__(self):
-        self.input, self.report, self.log_file, self.log_fd, self.log_format = None, None, None, None, "valgrind"
-        self.quiet = self.verbose = self.full_paths = self.asks_for_help = False
-        # Whether an unseen heap is a failure; None is the program's own default.
-        self.require_heap: bool | None = None
-        self.not_heap: list[str] = []
-        self.demangle, self.strip_prefix, self.error_exitcode = True, None, 0
-        self.suppressions, self.patches, self.unused = [], [], []
-        self.isa, self.heap_region, self.stack_region, self.regions = ISAS[0], None, None, USUAL_REGIONS
-        self.most_moved, self.most_output = None, None
-        # Options of the program, by their names there.
-        self.passed: dict[str, str] = {}
-        self.file, self.arguments = "", []
+    file: str = ""
+    arguments: list[str] = field(default_factory=list)
+    input: str | None = None
+    report: str | None = None
+    log_file: str | None = None
+    log_fd: int | None = None
+    log_format: str = "valgrind"
+    quiet: bool = False
+    verbose: bool = False
+    full_paths: bool = False
+    ends_line: bool = False
+    strip_prefix: str | None = None
+    demangle: bool = True
+    asks_for_help: bool = False
+    # Whether an unseen heap is a failure; None is the program's own default.
+    require_heap: bool | None = None
+    not_heap: list[str] = field(default_factory=list)
+    error_exitcode: int = 0
+    suppressions: list[str] = field(default_factory=list)
+    patches: list[str] = field(default_factory=list)
+    # Options of Valgrind that change nothing here, with their values.
+    unused: list[str] = field(default_factory=list)
+    isa: str = ISAS[0]
+    heap_region: int | None = None
+    stack_region: tuple[int, int] | None = None
+    most_moved: int | None = None
+    most_output: str | int | None = None
+    regions: Regions = USUAL_REGIONS
+    # Options of the program, by their names there.
+    passed: dict[str, str] = field(default_factory=dict)
 
     @property
-    def needs_heap(self):
+    def needs_heap(self) -> bool:
         """Whether an unseen heap is a failure."""
         return bool(self.error_exitcode) if self.require_heap is None else self.require_heap
 
     @property
-    def log_goes_to_error(self):
+    def log_goes_to_error(self) -> bool:
         """Whether the log goes to standard error, after what the program has written there."""
         return self.log_file is None and self.log_fd in (None, 2)
 
     @property
-    def counted(self):
+    def counted(self) -> frozenset[str]:
         """The kinds of leak that count as errors."""
         kinds = self.passed.get("count", "definite,possible").split(",")
         return frozenset(LEAK_KINDS.values()) if "all" in kinds else frozenset(kinds) - {"none"}
 
 
-def value_of(name, text, read):
-    try:
-        return read(text)
-    except BadValue as fault:
-        raise Usage(f"{name}: {fault}") from None
+class Passed(argparse.Action):
+    """An option that the program has: its value is passed on, for the name `dest`."""
+
+    def __call__(self, parser: argparse.ArgumentParser, namespace: Any, values: Any, option_string: str | None = None) -> None:
+        namespace.passed[self.dest] = str(values)
 
 
-def one_of(*known):
-    """A reader of a word that must be one of these."""
-    def read(text):
-        if text not in known:
-            raise BadValue(f"{text!r} is none of {', '.join(known)}")
-        return text
-    return read
+class PassedAs(argparse.Action):
+    """An option whose values stand for options that the program has: `const` has them."""
+
+    def __call__(self, parser: argparse.ArgumentParser, namespace: Any, values: Any, option_string: str | None = None) -> None:
+        namespace.passed.update(self.const[values])
 
 
-def sets(field, read=str):
-    """What an option does that has one value."""
-    def take(choices, name, text):
-        setattr(choices, field, value_of(name, text, read))
-    return take
+class Unused(argparse.Action):
+    """An option that changes nothing here. `const` are the values that ask for what is done anyway; None is any value."""
+
+    def __call__(self, parser: argparse.ArgumentParser, namespace: Any, values: Any, option_string: str | None = None) -> None:
+        if self.const is not None and values not in self.const:
+            raise Usage(f"{option_string}={values}: {rejected(str(option_string))}")
+        namespace.unused.append(f"{option_string}={values}")
 
 
-def passes(option, least, most):
-    """What an option does that the program has, with a number."""
-    def take(choices, name, text):
-        choices.passed[option] = str(value_of(name, text, number(least, most)))
-    return take
+class Parser(argparse.ArgumentParser):
+    """Reads options. What is wrong with them is a fault with the status of `exec`. Of an option that is given twice the last one holds."""
+
+    def __init__(self) -> None:
+        super().__init__(add_help=False, allow_abbrev=False, argument_default=argparse.SUPPRESS, formatter_class=Narrow)
+
+    def error(self, message: str) -> NoReturn:
+        raise Usage(message)
 
 
-def lists(option):
-    """What an option does that the program has, with a list of kinds of leaks."""
-    known = {*LEAK_KINDS.values(), "all", "none"}
-
-    def take(choices, name, text):
-        unknown = [it for it in text.split(",") if it not in known]
-        if unknown:
-            raise Usage(f"{name}: no kind of leak: {unknown[0]!r}")
-        choices.passed[option] = text
-    return take
+def kinds(text: str) -> str:
+    """Reads a list of kinds of leaks, as a text."""
+    unknown = [kind for kind in text.split(",") if kind not in {*LEAK_KINDS.values(), "all", "none"}]
+    if unknown:
+        raise BadValue(f"no kind of leak: {unknown[0]!r}")
+    return text
 
 
-def take_callers(choices, name, text):
-    choices.passed["callers"] = str(min(MOST_CALLERS, value_of(name, text, number(1, 500))))
+def callers(text: str) -> int:
+    """Reads a number of addresses of a trace, of which Valgrind has more than there are here."""
+    return min(MOST_CALLERS, number(1, 500)(text))
 
 
-def take_leak_check(choices, name, text):
-    if value_of(name, text, one_of("no", "summary", "yes", "full")) in ("no", "summary"):
-        choices.passed.update(show="none", count="none")
+def yes_or_no(text: str) -> bool:
+    if text not in ("yes", "no"):
+        raise BadValue(f"{text!r} is neither yes nor no")
+    return text == "yes"
 
 
-def take_show_reachable(choices, name, text):
-    if value_of(name, text, one_of("yes", "no")) == "yes":
-        choices.passed["show"] = "all"
+def parser_of_options() -> Parser:
+    parser = Parser()
+    for name, (dest, value) in FLAGS.items():
+        parser.add_argument(name, dest=dest, action="store_const", const=value)
+    for name in ("--input", "--report", "--log-file", "--strip-prefix"):
+        parser.add_argument(name)
+    parser.add_argument("--isa", choices=ISAS)
+    parser.add_argument("--heap-region", type=heap_region)
+    parser.add_argument("--stack-region", type=stack_region)
+    parser.add_argument("--most-moved", type=number(1, GREATEST_MOVED))
+    parser.add_argument("--most-output", type=most_output)
+    parser.add_argument("--log-fd", type=number(0, 1023))
+    parser.add_argument("--log-format", choices=FORMATS)
+    parser.add_argument("--demangle", type=yes_or_no)
+    parser.add_argument("--error-exitcode", type=number(0, 255))
+    parser.add_argument("--supp", "--suppressions", dest="suppressions", action="append")
+    parser.add_argument("--patch", dest="patches", action="append")
+    parser.add_argument("--not-heap", action="append")
+    add_passed(parser)
+    for name, values in UNUSED.items():
+        parser.add_argument(name, action=Unused, const=values)
+    return parser
 
 
-def take_show_possibly_lost(choices, name, text):
-    if value_of(name, text, one_of("yes", "no")) == "no":
-        choices.passed["show"] = "definite"
+def add_passed(parser: Parser) -> None:
+    """Adds the options that the program has, by its names for them and by Valgrind's."""
+    for names, least, most in ((["--step"], 0, 4294967295), (["--idle-exitcode"], 0, 255), (["--memory-limit"], 0, 1048576),
+                               (["--callers"], 1, MOST_CALLERS), (["--redzone", "--redzone-size"], 0, 4096),
+                               (["--queue", "--freelist-vol"], 0, 1000000000)):
+        parser.add_argument(*names, dest=names[0][2:], action=Passed, type=number(least, most))
+    parser.add_argument("--num-callers", dest="callers", action=Passed, type=callers)
+    parser.add_argument("--show", "--show-leak-kinds", dest="show", action=Passed, type=kinds)
+    parser.add_argument("--count", "--errors-for-leak-kinds", dest="count", action=Passed, type=kinds)
+    for name, values in (("--leak-check", LEAK_CHECKS), ("--show-reachable", SHOW_REACHABLE), ("--show-possibly-lost", SHOW_POSSIBLY_LOST)):
+        parser.add_argument(name, action=PassedAs, choices=tuple(values), const=values)
 
 
-def adds_to(field):
-    """What an option does that may be given again and again."""
-    def take(choices, _, text):
-        getattr(choices, field).append(text)
-    return take
-
-
-def yes_or_no(text):
-    return one_of("yes", "no")(text) == "yes"
-
-
-WITH_VALUE = {
-    "--isa": sets("isa", one_of(*ISAS)),
-    "--heap-region": sets("heap_region", heap_region), "--stack-region": sets("stack_region", stack_region),
-    "--most-moved": sets("most_moved", number(1, GREATEST_MOVED)), "--most-output": sets("most_output", most_output),
-    "--memory-limit": passes("memory-limit", 0, 1048576),
-    "--input": sets("input"), "--report": sets("report"), "--log-file": sets("log_file"), "--log-fd": sets("log_fd", number(0, 1023)),
-    "--log-format": sets("log_format", one_of(*FORMATS)), "--demangle": sets("demangle", yes_or_no),
-    "--strip-prefix": sets("strip_prefix"), "--error-exitcode": sets("error_exitcode", number(0, 255)),
-    "--supp": adds_to("suppressions"), "--suppressions": adds_to("suppressions"), "--patch": adds_to("patches"),
-    "--not-heap": adds_to("not_heap"),
-    "--step": passes("step", 0, 4294967295), "--idle-exitcode": passes("idle-exitcode", 0, 255),
-    "--callers": passes("callers", 1, MOST_CALLERS), "--num-callers": take_callers,
-    "--redzone": passes("redzone", 0, 4096), "--redzone-size": passes("redzone", 0, 4096),
-    "--queue": passes("queue", 0, 1000000000), "--freelist-vol": passes("queue", 0, 1000000000),
-    "--show": lists("show"), "--show-leak-kinds": lists("show"), "--count": lists("count"), "--errors-for-leak-kinds": lists("count"),
-    "--leak-check": take_leak_check, "--show-reachable": take_show_reachable, "--show-possibly-lost": take_show_possibly_lost,
-}
-FLAGS = {"-q": "quiet", "--quiet": "quiet", "-v": "verbose", "--verbose": "verbose", "--require-heap": "require_heap",
-         "--no-require-heap": "require_heap", "--full-paths": "full_paths", "--no-demangle": "demangle", "-h": "asks_for_help",
-         "--help": "asks_for_help"}
-
-
-def rejected(name):
+def rejected(name: str) -> Usage:
     """The fault of an option that there isn't, with what does its work here if it is one of Valgrind's."""
     from replaycheck.valgrind_options import HERE
     why = HERE.get(name)
     return Usage(f"{name} is no option here{f': {why}' if why else '; ' + HELP}")
 
 
-def take(choices, words):
-    """Takes one option off the words."""
-    word = words.pop(0)
-    name, has_value, text = word.partition("=")
-    if name in FLAGS:
-        if has_value:
-            raise Usage(f"{name} takes no value: {text!r}")
-        setattr(choices, FLAGS[name], not name.startswith("--no-"))
-        return
-    if name not in WITH_VALUE and name not in UNUSED:
-        raise rejected(name)
-    if not has_value:
-        if not words:
-            raise Usage(f"{name}: its value is missing")
-        text = words.pop(0)
-    if name in WITH_VALUE:
-        WITH_VALUE[name](choices, name, text)
-        return
-    if UNUSED[name] is not None and text not in UNUSED[name]:
-        raise Usage(f"{name}={text}: {rejected(name)}")
-    choices.unused.append(f"{name}={text}")
-
-
-def split(words):
-    """The options at the beginning of some words, and the words after them."""
-    at = 0
+def split(words: list[str]) -> tuple[list[str], list[str]]:
+    """The options at the beginning of some words, each with its value in the same word, and the words after them."""
+    options, at = [], 0
     while at < len(words) and words[at].startswith("-") and words[at] not in ("-", "--"):
-        name, has_value, _ = words[at].partition("=")
-        at += 1 if has_value or name in FLAGS or name not in WITH_VALUE and name not in UNUSED else 2
-    return words[:at], words[at + 1:] if words[at:at + 1] == ["--"] else words[at:]
+        has_more = words[at] not in FLAGS and "=" not in words[at]
+        options.append("=".join(words[at:at + 1 + has_more]))
+        at += 1 + has_more
+    return options, words[at + 1:] if words[at:at + 1] == ["--"] else words[at:]
 
 
-def stepped_over(words):
+def stepped_over(words: list[str]) -> tuple[list[str], list[str]]:
     """The words after the names of emulators, and the options of another `replaycheck exec` before the file."""
-    inner = []
+    inner: list[str] = []
     while len(words) > 1:
         name = os.path.basename(words[0])
         if name in EMULATORS:
@@ -216,7 +223,7 @@ def stepped_over(words):
     return inner, words
 
 
-def more_options():
+def more_options() -> list[str]:
     """The options that the environment has."""
     text = os.environ.get("REPLAYCHECK_OPTS", "")
     if not text.strip():
@@ -231,22 +238,22 @@ def more_options():
     return options
 
 
-def is_text(word):
+def is_text(word: str) -> bool:
     """Whether an argument is UTF-8: of any other byte Python makes a lone surrogate."""
-    return not any("\udc80" <= it <= "\udcff" for it in word)
+    return not any("\udc80" <= letter <= "\udcff" for letter in word)
 
 
-def choices_of(words):
+def choices_of(words: list[str]) -> Choices:
     """What the words of a command line ask for. Those of another `replaycheck exec` come first, then the environment's."""
     given, rest = split(words)
     inner, rest = stepped_over(rest)
-    for word in (*inner, *given, *rest[:1]):
-        if not is_text(word):
-            raise Usage(f"not UTF-8: {word}")
+    not_text = next((word for word in (*inner, *given, *rest[:1]) if not is_text(word)), None)
+    if not_text is not None:
+        raise Usage(f"not UTF-8: {not_text}")
     choices = Choices()
-    for options in (inner, more_options(), given):
-        while options:
-            take(choices, options)
+    _, unknown = parser_of_options().parse_known_args([*inner, *more_options(), *given], choices)
+    if unknown:
+        raise rejected(unknown[0].partition("=")[0])
     if choices.asks_for_help:
         return choices
     if not rest:
@@ -256,7 +263,7 @@ def choices_of(words):
     return choices
 
 
-def judge(choices):
+def judge(choices: Choices) -> None:
     """Rejects options that contradict each other. A report in a file is a log in the form of a report."""
     try:
         choices.regions = regions_of(choices.heap_region, choices.stack_region, choices.most_moved, choices.most_output,
@@ -273,3 +280,6 @@ def judge(choices):
         if choices.log_format not in ("valgrind", "report"):
             raise Usage(f"--report and --log-format {choices.log_format} at once")
         choices.log_format, choices.log_file = "report", choices.report.replace("%", "%%")
+    if choices.log_format == "report" and (choices.full_paths or choices.strip_prefix is not None):
+        report = "--report" if choices.report is not None else "--log-format report"
+        raise Usage(f"{'--full-paths' if choices.full_paths else '--strip-prefix'} and {report} at once: a report has no source files")

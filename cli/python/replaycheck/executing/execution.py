@@ -3,10 +3,10 @@ import os
 import sys
 
 from replaycheck.children import outcome, started, tied
-from replaycheck.endings import Fault, Interrupted, end, write
+from replaycheck.endings import Fault, Interrupted, write
 from replaycheck.executing.arguments import patches_for
 from replaycheck.executing.choices import FAILED, Choices, choices_of
-from replaycheck.executing.logs import NAME, Log, Unwritten, log_text, note
+from replaycheck.executing.logs import Log, Unwritten, log_text, note
 from replaycheck.options import LAST_STEP
 from replaycheck.programs import USUAL, isa_words, path_of, program
 from replaycheck.refusals import why_unreadable, with_words
@@ -57,7 +57,7 @@ def all_patches(choices):
 def words_for(choices, supp, report):
     """The arguments of the program."""
     words = [program(), "exec", "--report", report, *isa_words(choices.isa), *choices.regions.exec_words]
-    words += ["--end-line"] if choices.log_goes_to_error else []
+    words += ["--end-line"] if choices.log_goes_to_error or choices.ends_line else []
     for name, text in choices.passed.items():
         words += [f"--{name}", text]
     for name, path in (("--input", choices.input), ("--supp", supp)):
@@ -169,7 +169,7 @@ def guarded(action):
         raise Unwritten(f"{named}{fault.strerror or fault}") from None
 
 
-def begin(page):
+def begin(page: str) -> int:
     choices = choices_of(sys.argv[1:])
     if choices.asks_for_help:
         write(page.strip() + "\n")
@@ -177,8 +177,9 @@ def begin(page):
     return executed(choices)
 
 
-def run(page):
-    end(NAME, lambda: guarded(lambda: begin(page)))
+def run(page: str) -> int:
+    """Does what a command line asks for. Returns the exit status."""
+    return guarded(lambda: begin(page))
 
 
 def rest_of(number):
@@ -189,7 +190,7 @@ def rest_of(number):
     return b"".join(parts)
 
 
-def log_of_quiet_run(process, first, isa, file):
+def log_of_quiet_run(process: str, first: str, isa: str, file: str) -> int:
     """Writes the log of a run that the launcher has made, whose report is on standard input after its first byte. `isa` is empty for the
     usual instruction set."""
     def main():
@@ -198,14 +199,14 @@ def log_of_quiet_run(process, first, isa, file):
         told = first + rest_of(0).decode("utf-8", "surrogateescape")
         Log(choices).write(log_text(choices, told, parsed(told), process))
         return 0
-    end(NAME, lambda: guarded(main))
+    return guarded(main)
 
 
-def say_why(status, words):
+def say_why(status: int, words: list[str]) -> int:
     """Says why a quiet run ended with a status before it began, if it did."""
     def main():
         choices = choices_of(words)
         for reason in reasons(choices, status):
             note(reason)
         return 0
-    end(NAME, lambda: guarded(main))
+    return guarded(main)

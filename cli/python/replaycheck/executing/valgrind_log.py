@@ -1,7 +1,8 @@
 """A log in the form of Valgrind's Memcheck, which ctest's MemCheck step reads."""
 from replaycheck.file_heaps import has_heap
 from replaycheck.findings import is_at_atomic
-from replaycheck.programs import USUAL, isa_for, unit_of
+from replaycheck.other_sets import hint
+from replaycheck.programs import unit_of
 
 # The signal of which a process would have died, and what of the address.
 STOPS = {"illegal": (4, "SIGILL", "Illegal instruction at address"), "break": (5, "SIGTRAP", "EBREAK at address"),
@@ -37,9 +38,9 @@ def stop_lines(shown):
             what = OF_ATOMIC if is_at_atomic(state, shown.isa) else what.format(unit=unit_of(shown.isa))
         yield f"Process terminating with default action of signal {number} ({name})"
         yield f" {what} {state.address}"
-        asked = isa_for(shown.file) if shown.isa == USUAL else None
-        if asked:
-            yield f" The file has instructions of 16 bits: --isa {asked} reads it for them"
+        said = hint(shown.file, shown.isa) if state.why in ("illegal", "misaligned") else ""
+        if said:
+            yield f" {said}"
     elif state.name == "running":
         yield f"Still running at step {shown.report.step}"
     else:

@@ -3,12 +3,13 @@ import contextlib
 import os
 import random
 import sys
+from argparse import Namespace
 
 from replaycheck.covering import lcov
 from replaycheck.endings import Fault, flush, write
 from replaycheck.file_heaps import heap_of_run
 from replaycheck.guest.lines import shown_name
-from replaycheck.options import FURTHEST_STEP, Reader, number
+from replaycheck.options import FURTHEST_STEP, Parser, number
 from replaycheck.programs import ISAS
 from replaycheck.sessions import program
 
@@ -30,49 +31,57 @@ PARTS_A_JOB = 8
 BYTES, WORDS = ("all", "flips", "edges"), ("skip", "flips")
 
 
-def options_of(page):
-    reader = Reader(page)
-    reader.add_argument("file", nargs="?")
+def options_of(page: str) -> Namespace:
+    parser = Parser(page)
+    parser.add_argument("file", nargs="?")
     for name in ("--input", "--supp", "--code", "--keep", "--goal", "--table", "--svg", "--lcov", "--sshlogin"):
-        reader.option(name)
-    reader.option("--isa", choices=ISAS)
-    reader.region_options()
-    reader.option("--step", type=number(0, FURTHEST_STEP))
-    reader.option("--limit", type=number(1, FURTHEST_STEP))
-    reader.option("--bytes", type=range_of)
-    reader.option("--words", type=words_of)
-    reader.option("--values", type=values_reader(BYTES, 256))
-    reader.option("--words-values", type=values_reader(WORDS, 1 << 32))
-    reader.option("--at", type=range_of)
-    reader.option("--faults", type=models_of)
-    reader.option("--code-range", type=words_of)
-    reader.option("--pairs", choices=["skip"])
-    reader.option("--with-output", is_flag=True)
-    reader.option("--jobs", type=number(1, 10000))
-    reader.option("--parts", type=number(1, MOST_PARTS))
-    reader.option("--sample", type=number(1, MOST_PARTS))
-    reader.option("--seed", type=number(0, 0xFFFFFFFF))
-    reader.option("--script", choices=["slurm"])
-    reader.option("--require-heap", is_flag=True)
-    reader.add_argument("--from", dest="tables", nargs="+", action="extend", default=[])
-    options = reader.read()
-    check(reader, options)
+        parser.add_argument(name)
+    parser.add_argument("--isa", choices=ISAS)
+    parser.region_options()
+    parser.add_argument("--step", type=number(0, FURTHEST_STEP))
+    parser.add_argument("--limit", type=number(1, FURTHEST_STEP))
+    parser.add_argument("--bytes", type=range_of)
+    parser.add_argument("--words", type=words_of)
+    parser.add_argument("--values", type=values_reader(BYTES, 256))
+    parser.add_argument("--words-values", type=values_reader(WORDS, 1 << 32))
+    parser.add_argument("--at", type=range_of)
+    parser.add_argument("--faults", type=models_of)
+    parser.add_argument("--code-range", type=words_of)
+    parser.add_argument("--pairs", choices=["skip"])
+    parser.add_argument("--with-output", action="store_true")
+    parser.add_argument("--jobs", type=number(1, 10000))
+    parser.add_argument("--parts", type=number(1, MOST_PARTS))
+    parser.add_argument("--sample", type=number(1, MOST_PARTS))
+    parser.add_argument("--seed", type=number(0, 0xFFFFFFFF))
+    parser.add_argument("--script", choices=["slurm"])
+    parser.add_argument("--require-heap", action="store_true")
+    parser.add_argument("--from", dest="tables", nargs="+", action="extend", default=[])
+    options = parser.read()
+    check(parser, options)
     return options
 
 
-def check(reader, options):
+def given(options: Namespace, names: tuple[str, ...]) -> list[str]:
+    """Those of some options that a command line has."""
+    values = ((name, getattr(options, name[2:].replace("-", "_"))) for name in names)
+    return [name for name, value in values if value is not None and value is not False]
+
+
+def check(parser: Parser, options: Namespace) -> None:
     """Rejects what doesn't go together."""
-    printed = [f"--{it}" for it in OUTPUTS if getattr(options, it) == "-"]
+    printed = [f"--{name}" for name in OUTPUTS if getattr(options, name) == "-"]
     words = options.words is not None or options.code is not None and options.at is None
-    making = [it for it in ("--limit", "--bytes", "--words", "--code", "--values", "--words-values", "--at", "--faults", "--code-range",
-                            "--pairs", "--with-output", "--jobs", "--parts", "--keep", "--sshlogin", "--script")
-              if getattr(options, it[2:].replace("-", "_")) not in (None, False)]
+    making = given(options, ("--step", "--limit", "--bytes", "--words", "--code", "--values", "--words-values", "--at", "--faults",
+                             "--code-range", "--pairs", "--with-output", "--jobs", "--parts", "--keep", "--sshlogin", "--script",
+                             "--require-heap"))
+    running = given(options, ("--goal", "--table", "--svg", "--lcov", "--jobs", "--sample", "--sshlogin", "--require-heap"))
     faults = [(options.file is None and not options.tables, "no FILE, and no --from"),
               (options.file is None and (options.input or options.supp), "--input and --supp go with a FILE"),
               *((options.file is None and getattr(options, name) is not None, f"--{name.replace('_', '-')} goes with a FILE")
                 for name in ("isa", "heap_region", "stack_region", "most_moved", "most_output")),
               (options.limit is not None and options.step is not None, "--step and --limit at once"),
               (options.tables and making, f"--from takes tables that are there: {' '.join(making)} makes them"),
+              (options.script is not None and running, f"--script prints a script and runs nothing: not with {' '.join(running)}"),
               (options.at is None and options.code is not None and options.words is not None, "--code and --words at once"),
               (options.code is not None and options.code_range is not None, "--code and --code-range at once"),
               (options.at is not None and options.faults is None, f"--at needs --faults, a list of {', '.join(MODELS)}"),
@@ -90,7 +99,7 @@ def check(reader, options):
                "value")]
     for is_so, text in faults:
         if is_so:
-            reader.error(text)
+            parser.error(text)
 
 
 # ---- the tables

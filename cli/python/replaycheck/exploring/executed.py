@@ -5,6 +5,7 @@ from __future__ import annotations
 import os
 import selectors
 from collections import deque
+from dataclasses import dataclass
 from typing import Deque, Dict, Iterator, List, Optional, Set, Tuple
 
 from replaycheck.covering import lcov
@@ -17,7 +18,6 @@ from replaycheck.guest.elf import Elf
 from replaycheck.guest.lines import shown_name
 from replaycheck.options import limit_for
 from replaycheck.places import Paths, Places
-from replaycheck.records import Record
 from replaycheck.refusals import Ended, Refused
 from replaycheck.sessions import Session
 
@@ -30,7 +30,8 @@ MOST_TOLD = 1 << 22
 MOST_FILES = 3  # that the summary names
 
 
-class Edit(Record):
+@dataclass
+class Edit:
     """The lines of a session that make an edit, and those that take it back. The next edit of the same `place`, a byte or an instruction,
     needs no line that takes this one back; an alteration at a step has the place None. `is_of_input` says whether the program and the
     machine are as they were."""
@@ -59,13 +60,14 @@ def edits_of(place, request) -> Iterator[Edit]:
             yield Edit(lines, [] if before is None else [it.line(at, before)], (it.kind, at), it.kind == "bytes")
 
 
-class Sent(Record):
+@dataclass
+class Sent:
     """An edit that a session has been given, and how many parts of the code were known to be reached then. `is_missed` says whether the run
     reaches another one."""
 
     edit: Edit
     known: int
-    is_missed = False
+    is_missed: bool = False
 
 
 class Looker:

@@ -5,7 +5,7 @@ from dataclasses import dataclass
 
 from .tables import EDGES, value_before
 
-MOST_COLUMNS, WIDTH, WIDEST = 320, 960, 24
+MOST_COLUMNS, WIDTH, WIDEST = 320, 740, 24
 EDGE_NAMES = ("0", "1", "0x7f", "0x80", "0xff", "one more", "one less")
 
 

@@ -1,16 +1,31 @@
 """A picture of a sweep, as SVG."""
 from .outcomes import Outcome
 from .panels import panels_of
-from .picture_parts import LEAST_MARK, LEFT, LEGEND_LINE, NARROWEST, STYLE, TOP, xml
+from .picture_parts import LEAST_MARK, LEFT, LEGEND_LINE, NARROWEST, NARROWEST_OF_PANELS, STYLE, TOP, xml
 from .step_panels import StepPanels
 from .step_picture import KINDS, StepPicture, kind_of_rank
 
-# Colours for light and dark pages that the colour-blind tell apart: warm for what is new, cold for what is not.
+# Colours for light and dark pages that the colour-blind tell apart. Of steps: warm for what is new, cold for what is not.
 NEW = (("#d55e00", "#ff7a1a"), ("#e69f00", "#ffc04d"), ("#a6447d", "#e08bbd"), ("#7a3b00", "#c08a5a"))
 OTHER_NEW = ("#1a1a1a", "#ffffff")
 NOT_NEW = (("#0072b2", "#3f9fd9"), ("#56b4e9", "#1f6fa0"), ("#009e73", "#26b98c"), ("#a3d9c8", "#0f5a45"))
 OTHER = ("#b9c9d9", "#62758a")
 UNEDITED = ("#e4e4e4", "#3a3a3a")
+# Of bytes and words, as on the page: a colour for each kind of the worst that is new, with how that begins, and greys for what is harmless.
+BY_KIND = {
+    "n1": (("Invalid write",), "an invalid write", ("#cc2838", "#fe4f3c")),
+    "n2": (("Jump ",), "a jump to where no memory is", ("#34000f", "#f094a8")),
+    "n3": (("Invalid free",), "an invalid free", ("#a00f6e", "#ec4abb")),
+    "n4": (("Invalid read",), "an invalid read", ("#d95614", "#f6a25a")),
+    "n5": (("stopped ",), "a stop", ("#857371", "#f7f3ed")),
+    "n6": (("Syscall ",), "an argument of a call", ("#3a2801", "#f7cea9")),
+    "n7": (("Use of", "Conditional"), "a use of an uninitialised value", ("#5a4100", "#f5d825")),
+    "n8": (("definitely lost at",), "a block that is definitely lost", ("#9e29fa", "#af6cfe")),
+    "n9": (("",), "another leak", ("#431fa1", "#d7d2fe")),
+    "o1": ((), "it still runs", ("#878f97", "#747c84")),
+    "o": ((), "another end, and nothing new", ("#c9ced3", "#555b61")),
+    "o0": ((), "as unedited", ("#eceef0", "#2b2f33")),
+}
 GOAL = ("#ffe600;stroke:#000000", "#000000;stroke:#ffffff")  # by its outline, which no other one has
 BAND = ("#eeeeee", "#2c2c2c")  # a function, below steps
 GOAL_RANK = 1000
@@ -49,22 +64,26 @@ class Picture:
     # ---- colours
 
     def choose_colours(self, summary):
-        """The class of each outcome: those with the most edits have a colour of their own."""
-        self.summary, self.kinds = summary, {0: "o0"}
-        self.colours = {"o0": UNEDITED, "n": OTHER_NEW, "o": OTHER}
-        if self.steps:  # colours are of kinds of outcomes: there are too many outcomes
+        """The class of each outcome, by its kind: there may be too many outcomes for a colour each."""
+        self.summary = summary
+        if self.steps:
+            self.colours = {"o0": UNEDITED, "n": OTHER_NEW, "o": OTHER}
             self.kinds = {it: kind_of_rank(self.rank(it)) for it in range(len(self.merged.outcomes))}
             named = {**{f"n{i + 1}": it for i, it in enumerate(NEW)}, **{f"o{i + 1}": it for i, it in enumerate(NOT_NEW)}, "g": GOAL}
             self.colours.update((it, named[it]) for it in named if it in self.kinds.values())
             self.colours["band"] = BAND
             return
-        for is_new, colours, name in ((True, NEW, "n"), (False, NOT_NEW, "o")):
-            numbers = [it for it in summary.order[1:] if bool(summary.news[it]) == is_new]
-            numbers.sort(key=lambda it: (-self.merged.tallies[it], it))
-            for place, number in enumerate(numbers):
-                self.kinds[number] = f"{name}{place + 1}" if place < len(colours) else name
-                if place < len(colours):
-                    self.colours[self.kinds[number]] = colours[place]
+        self.kinds = {it: self.kind_of(it) for it in range(len(self.merged.outcomes))}
+        self.colours = {name: BY_KIND[name][2] for name in BY_KIND if name in self.kinds.values()}
+
+    def kind_of(self, number):
+        """The kind of an outcome of a sweep of bytes or words, by the worst that is new in it."""
+        if number == 0:
+            return "o0"
+        news = self.summary.news[number]
+        if news:
+            return next(name for name, (begins, _, _) in BY_KIND.items() if news[0].text.startswith(begins or ("\n",)))
+        return "o1" if self.badness(number) > 0 else "o"
 
     def style(self):
         light, dark = ("".join(f".{name}{{fill:{pair[i]}}}" for name, pair in self.colours.items()) for i in (0, 1))
@@ -82,8 +101,9 @@ class Picture:
         if steps:
             body += steps.body(below)
             below += sum(map(steps.height, steps.grids))
-        legend = list(self.kind_legend(below) if self.steps else self.legend(below))
-        width = max([NARROWEST, *(LEFT + it.wide * it.bins + 20 for it in self.panels), *(map(steps.width, steps.grids) if steps else ())])
+        legend = list(self.kind_legend(below))
+        wide = [LEFT + it.wide * it.bins + 20 for it in self.panels]
+        width = max([NARROWEST if steps else NARROWEST_OF_PANELS, *wide, *(map(steps.width, steps.grids) if steps else ())])
         height = below + LEGEND_LINE * (len(legend) + 1)
         ranges = "; ".join(map(str, self.merged.head.ranges))
         asked = f"{self.merged.edits} edits, {ranges}, step {self.merged.head.step}"
@@ -158,13 +178,20 @@ class Picture:
         what = "offset in the input" if panel.range.kind == "bytes" else "address"
         yield f'<text class="dim s" x="{LEFT}" y="{below + 34}">{what}; on the left the value</text>'
 
+    def first_of(self, numbers):
+        """Of outcomes of one kind that with the most edits: its worst that is new, or how it ends; and how many more there are."""
+        number = max(numbers, key=lambda it: (self.merged.tallies[it], -it))
+        news = self.summary.news[number]
+        more = f"; and {len(numbers) - 1} more" if len(numbers) > 1 else ""
+        return (self.summary.sources.told(news[0]) if news else self.told(number)) + more
+
     def kind_legend(self, top):
         """A line for each kind of outcome that there is, the worst first."""
         yield (f'<text class="dim s e" x="110" y="{top}">edits</text>'
                f'<text class="dim s" x="120" y="{top}">the worst that an edit of a cell leads to; bold: new</text>')
-        texts = {name: text for name, _, text in KINDS}
-        texts["g"] += f": a line that begins with {self.goal.shown}" if self.goal else ""
-        texts["o0"] += f": {self.told(0)}"
+        texts = {name: text for name, _, text in KINDS} if self.steps else {name: what for name, (_, what, _) in BY_KIND.items()}
+        if self.steps and self.goal:
+            texts["g"] += f": a line that begins with {self.goal.shown}"
         there = [it for it in texts if it in self.kinds.values()]
         for index, name in enumerate(there):
             y = top + LEGEND_LINE * (index + 1)
@@ -172,24 +199,10 @@ class Picture:
             edits = sum(self.merged.tallies[it] for it in numbers)
             style = "ink b" if name[0] in "gn" else "ink"
             told = "; ".join(f"{it}: {self.told(it)}" for it in numbers)
+            text = texts[name]
+            if not self.steps and name[0] == "n":
+                text, told = self.first_of(numbers), f"{text}: {told}"
+            elif not self.steps or name == "o0":
+                text += f": {self.first_of(numbers)}"
             yield (f'<rect class="{name}" x="16" y="{y - 11}" width="14" height="14"/><text class="ink e" x="110" y="{y}">{edits}</text>'
-                   f'<text class="{style}" x="120" y="{y}">{xml(texts[name], 120)}<title>{xml(told, 1000)}</title></text>')
-
-    def legend(self, top):
-        """A line for each outcome that has a colour of its own, and for the others together."""
-        lines = [(self.kinds[number], str(number), self.merged.tallies[number], self.told(number),
-                  "ink b" if self.summary.news[number] else "ink")
-                 for number in self.summary.order if self.kinds[number] not in ("n", "o")]
-        lines[0] = (*lines[0][:3], f"as unedited: {lines[0][3]}", "ink")
-        for kind, what in (("n", "more outcomes with something new"), ("o", "more outcomes with nothing new")):
-            numbers = [it for it in self.kinds if self.kinds[it] == kind]
-            if numbers:
-                edits = sum(self.merged.tallies[it] for it in numbers)
-                lines.append((kind, "", edits, f"{len(numbers)} {what}", "ink"))
-        yield (f'<text class="dim s e" x="110" y="{top}">edits</text>'
-               f'<text class="dim s" x="120" y="{top}">outcome; bold: new</text>')
-        for index, (kind, number, edits, text, style) in enumerate(lines):
-            y = top + LEGEND_LINE * (index + 1)
-            yield (f'<rect class="{kind}" x="16" y="{y - 11}" width="14" height="14"/>'
-                   f'<text class="ink" x="38" y="{y}">{number}</text><text class="ink e" x="110" y="{y}">{edits}</text>'
-                   f'<text class="{style}" x="120" y="{y}">{xml(text, 120)}<title>{xml(text, 1000)}</title></text>')
+                   f'<text class="{style}" x="120" y="{y}">{xml(text, 120 if self.steps else 94)}<title>{xml(told, 1000)}</title></text>')

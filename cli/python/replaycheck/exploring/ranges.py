@@ -5,12 +5,13 @@ import bisect
 from dataclasses import dataclass, field
 from typing import Dict, Iterator, List, Optional, Tuple, Union
 
+from replaycheck.guest import halves, rv32
 from replaycheck.guest.elf import Elf
 from replaycheck.guest.halves import is_half
 
 HALF, WORD = 2, 4  # bytes of an instruction
 # The instruction that does nothing, by its length.
-NO_OP = {HALF: 0x0001, WORD: 0x00000013}
+NO_OP = {HALF: halves.NOP, WORD: rv32.NOP}
 MOST_EDITS = {"all": 255, "edges": 7, "skip": 1}
 BITS = 8  # of a byte
 Values = Union[str, Tuple[int, ...]]

@@ -4,7 +4,7 @@ from array import array
 from dataclasses import dataclass
 from itertools import takewhile
 
-from replaycheck.guest.assembly import NAMES
+from replaycheck.guest.rv32 import NAMES
 
 from .steps import BIT, BYTE_BITS, LAST_REGISTER, SIZES, bit_of, byte_edits, edits_of, instruction_of
 

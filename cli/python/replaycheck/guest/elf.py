@@ -90,6 +90,11 @@ class Elf:
         text = self.strings[start:start + LONGEST_NAME].partition(b"\0")[0].decode("ascii", "backslashreplace")
         return text if text.isprintable() else "".join(it if it.isprintable() else f"\\x{ord(it):02x}" for it in text)
 
+    def named(self, symbols, name):
+        """Those of some symbols that have this name. A name may be the end of a longer text."""
+        wanted = name.encode() + b"\0"
+        return [it for it in symbols if self.strings.startswith(wanted, it.name)]
+
     @functools.cached_property
     def labels(self):
         """Symbols in code that are neither functions nor objects: what an assembler's file has where it names no

@@ -2,18 +2,15 @@
 is 4 there are only those of 32 bits."""
 from __future__ import annotations
 
+from dataclasses import dataclass
 from typing import Optional, Tuple
 
-from replaycheck.records import Record
-
-from . import instructions as isa
+from . import halves, instructions as isa, rv32
 from .halves import expanded, is_half
 
-SHORT_NOP, SHORT_MOVE, SHORT_NUMBER = 0x0001, 0x8002, 0x4001  # c.nop, c.mv, c.li, without their operands
-MOST_SHORT = 31  # the greatest number of c.li
 
-
-class Instruction(Record):
+@dataclass
+class Instruction:
     """Where an instruction is, how many bytes it has, and its word: of one of 16 bits, that of what it stands for, or the half itself if it
     stands for nothing."""
 
@@ -28,12 +25,12 @@ class Instruction(Record):
     @property
     def is_branch(self):
         """Whether it jumps on a condition."""
-        return isa.opcode(self.word) == isa.BRANCH
+        return rv32.opcode(self.word) == rv32.BRANCH
 
     @property
     def target(self) -> Optional[int]:
         """Where a branch or a jump goes that has its distance in it."""
-        return self.address + isa.distance(self.word) & 0xFFFFFFFF if isa.opcode(self.word) in (isa.BRANCH, isa.JAL) else None
+        return self.address + rv32.branch_offset(self.word) & 0xFFFFFFFF if rv32.opcode(self.word) in (rv32.BRANCH, rv32.JAL) else None
 
 
 def read(data, place, room, unit) -> Optional[Tuple[int, int]]:
@@ -53,16 +50,16 @@ def half_in_bytes(half) -> bytes:
 
 
 def nop(length) -> bytes:
-    return half_in_bytes(SHORT_NOP) if length == 2 else in_bytes(isa.NOP)
+    return half_in_bytes(halves.NOP) if length == 2 else in_bytes(rv32.NOP)
 
 
 def move(to, source, unit) -> bytes:
     """What gives a register the value of another one."""
-    return half_in_bytes(SHORT_MOVE | to << 7 | source << 2) if unit == 2 else in_bytes(isa.move(to, source))
+    return half_in_bytes(halves.MOVE | to << 7 | source << 2) if unit == 2 else in_bytes(isa.move(to, source))
 
 
 def load_number(to, number, unit) -> bytes:
     """What gives a register a number from 0 to 2047."""
-    if unit == 2 and number <= MOST_SHORT:
-        return half_in_bytes(SHORT_NUMBER | to << 7 | number << 2)
+    if unit == 2 and number <= halves.MOST:
+        return half_in_bytes(halves.NUMBER | to << 7 | number << 2)
     return in_bytes(isa.load_immediate(to, number))

@@ -3,21 +3,24 @@ from __future__ import annotations
 
 from typing import Optional
 
-from replaycheck.guest.assembly import EBREAK, addi, branch, jump, load, of_immediate, of_registers, store
+from .rv32 import (BRANCHES, BY_NAME, EBREAK, LOADS, LUI, RA, SP, STORES, addi, branch, computed, jump, jump_by, load, of_immediate,
+                   of_upper, shift, store)
 
-RA, SP = 1, 2
-WORD = 2  # funct3 of a load and a store of a word
-SHIFT_LEFT, XOR, SHIFT_RIGHT, OR, AND = 1, 4, 5, 6, 7
-ALTERNATE = 32  # funct7 of a difference, and of an arithmetic shift
-# The bits of an immediate, each by its place in the half, and the place that it has in the number.
+NOP, MOVE, NUMBER = 0x0001, 0x8002, 0x4001  # c.nop, c.mv and c.li, without their operands
+MOST = 31  # the greatest number of c.li
+# The bits of an immediate, each by its place in the half, and the place that it has in the number. The first one may be the sign.
 SPACE = ((12, 5), (11, 4), (10, 9), (9, 8), (8, 7), (7, 6), (6, 2), (5, 3))
 OF_WORD = ((5, 6), (12, 5), (11, 4), (10, 3), (6, 2))
 JUMP = ((12, 11), (8, 10), (10, 9), (9, 8), (6, 7), (7, 6), (2, 5), (11, 4), (5, 3), (4, 2), (3, 1))
 BRANCH = ((12, 8), (6, 7), (5, 6), (2, 5), (11, 4), (10, 3), (4, 2), (3, 1))
 SIX = ((12, 5), (6, 4), (5, 3), (4, 2), (3, 1), (2, 0))
-STACK = ((12, 9), (4, 8), (3, 7), (5, 6), (2, 5), (6, 4))
+FRAME = ((12, 9), (4, 8), (3, 7), (5, 6), (2, 5), (6, 4))
 FROM_STACK = ((3, 7), (2, 6), (12, 5), (6, 4), (5, 3), (4, 2))
 TO_STACK = ((8, 7), (7, 6), (12, 5), (11, 4), (10, 3), (9, 2))
+IMMEDIATES = {"SPACE": SPACE, "OF_WORD": OF_WORD, "JUMP": JUMP, "BRANCH": BRANCH, "SIX": SIX, "FRAME": FRAME, "FROM_STACK": FROM_STACK,
+              "TO_STACK": TO_STACK}
+# What computes with two registers, by bits 6 and 5.
+BETWEEN = ("sub", "xor", "or", "and")
 
 
 def is_half(parcel: int) -> bool:
@@ -47,8 +50,8 @@ def of_quadrant_0(half: int) -> Optional[int]:
         space = number(half, SPACE)
         return addi(register, SP, space) if space else None
     if code == 2:
-        return load(WORD, register, base, number(half, OF_WORD))
-    return store(WORD, register, base, number(half, OF_WORD)) if code == 6 else None
+        return load(LOADS["lw"], register, base, number(half, OF_WORD))
+    return store(STORES["sw"], register, base, number(half, OF_WORD)) if code == 6 else None
 
 
 def of_quadrant_1(half: int) -> Optional[int]:
@@ -60,40 +63,39 @@ def of_quadrant_1(half: int) -> Optional[int]:
     if code == 2:
         return addi(register, 0, six)
     if code == 3 and register == SP:
-        space = signed(half, STACK)
+        space = signed(half, FRAME)
         return addi(SP, SP, space) if space else None
     if code == 3:
-        return (six & 0xFFFFF) << 12 | register << 7 | 0x37 if six else None
+        return of_upper(LUI, register, six << 12) if six else None
     if code == 4:
         return of_two(half, 8 + (half >> 7 & 7), six)
-    return branch(code & 1, 8 + (half >> 7 & 7), 0, signed(half, BRANCH))
+    return branch(BRANCHES["bne" if code & 1 else "beq"], 8 + (half >> 7 & 7), 0, signed(half, BRANCH))
 
 
 def of_two(half: int, register: int, six: int) -> Optional[int]:
     """What computes with a register that it changes: shifts to the right, AND with a number, and operations on two registers."""
     kind, has_more = half >> 10 & 3, half >> 12 & 1
     if kind == 2:
-        return of_immediate(AND, register, register, six)
+        return of_immediate(BY_NAME["andi"].funct3, register, register, six)
     if has_more:
         return None
     if kind < 2:
-        return of_immediate(SHIFT_RIGHT, register, register, kind * ALTERNATE << 5 | half >> 2 & 31)
-    funct7, funct3 = ((ALTERNATE, 0), (0, XOR), (0, OR), (0, AND))[half >> 5 & 3]
-    return of_registers(funct7, funct3, register, register, 8 + (half >> 2 & 7))
+        return shift("srai" if kind else "srli", register, register, half >> 2 & 31)
+    return computed(BETWEEN[half >> 5 & 3], register, register, 8 + (half >> 2 & 7))
 
 
 def of_quadrant_2(half: int) -> Optional[int]:
     code, register, other, has_more = half >> 13, half >> 7 & 31, half >> 2 & 31, half >> 12 & 1
     if code == 0:
-        return None if has_more else of_immediate(SHIFT_LEFT, register, register, other)
+        return None if has_more else shift("slli", register, register, other)
     if code == 2:
-        return load(WORD, register, SP, number(half, FROM_STACK)) if register else None
+        return load(LOADS["lw"], register, SP, number(half, FROM_STACK)) if register else None
     if code == 6:
-        return store(WORD, other, SP, number(half, TO_STACK))
+        return store(STORES["sw"], other, SP, number(half, TO_STACK))
     if code != 4:
         return None
     if other:
-        return of_registers(0, 0, register, register if has_more else 0, other)
+        return computed("add", register, register if has_more else 0, other)
     if not register:
         return EBREAK if has_more else None
-    return load(0, RA if has_more else 0, register, 0) | 0x64  # jalr
+    return jump_by(RA if has_more else 0, register, 0)

@@ -1,6 +1,6 @@
 """What a program's file is read for besides an instruction set: the regions of memory that aren't its own, and how many bytes its calls
 move."""
-from replaycheck.records import Record
+from dataclasses import dataclass
 
 HEAP_SIZE, HEAP_STEP, LEAST_HEAP, GREATEST_HEAP = 0x20000000, 0x10000000, 0x10000000, 0xD0000000
 STACK_STEP, LEAST_STACK = 4096, 65536
@@ -12,7 +12,8 @@ USUAL_MOVED, USUAL_OUTPUT = 4096, 65536
 GREATEST_MOVED, GREATEST_OUTPUT = 0x7FFFF000, 0xFFFFFFFF
 
 
-class Regions(Record):
+@dataclass(frozen=True)
+class Regions:
     """Where the heap's region begins, where the stack's begins and ends, and the most bytes that one call moves and that are written in
     all, with None for no limit."""
 

@@ -1,6 +1,8 @@
 """The command line of `replaycheck origin`, and its answer."""
+from argparse import Namespace
+
 from replaycheck.endings import write
-from replaycheck.options import LAST_STEP, USUAL_STEP, Reader, edit, number
+from replaycheck.options import LAST_STEP, USUAL_STEP, Parser, edit, number
 
 from .image import Image
 from .search import Group, Search
@@ -11,22 +13,22 @@ LONG_RUN = 100000  # an error that is made after so many steps is told in the sh
 SHORT = 4096  # which goes so many steps back
 
 
-def options_of(page):
-    reader = Reader(page)
-    reader.program_options()
-    reader.repeated("--line", type=edit)
-    reader.option("--error", type=number(1, LAST_STEP), default=1)
-    reader.step_option("--last", 1, USUAL_STEP)
-    reader.limit_option()
-    reader.option("--short", is_flag=True)
-    reader.option("--long", is_flag=True)
-    options = reader.read()
+def options_of(page: str) -> Namespace:
+    parser = Parser(page)
+    parser.program_options()
+    parser.add_argument("--line", type=edit, action="append", default=[])
+    parser.add_argument("--error", type=number(1, LAST_STEP), default=1)
+    parser.step_option("--last", 1, USUAL_STEP)
+    parser.limit_option()
+    parser.add_argument("--short", action="store_true")
+    parser.add_argument("--long", action="store_true")
+    options = parser.read()
     if options.short and options.long:
-        reader.error("--short and --long don't go together")
+        parser.error("--short and --long don't go together")
     return options
 
 
-def origin(options):
+def origin(options: Namespace) -> int:
     trials = Trials(options.file, options.input, options.supp, options.line, options.isa, options.regions, options.limit)
     try:
         errors = errors_of(trials.report(options.last))

@@ -4,9 +4,9 @@ import re
 from replaycheck.endings import Fault
 from replaycheck.guest.elf import FUNCTION, Elf, refusals
 from replaycheck.guest.halves import expanded, is_half
-from replaycheck.guest.instructions import (ATOMIC, AUIPC, EBREAK, ECALL, IMMEDIATE, LOAD, LUI, REGISTERS, SP, STORE, is_control,
-                                               opcode, rd)
+from replaycheck.guest.instructions import is_control
 from replaycheck.guest.regions import USUAL_REGIONS
+from replaycheck.guest.rv32 import ATOMIC, AUIPC, EBREAK, ECALL, IMMEDIATE, LOAD, LUI, REGISTERS, SP, STORE, opcode, rd
 from replaycheck.programs import USUAL
 
 LONGEST_FILE = 1 << 26

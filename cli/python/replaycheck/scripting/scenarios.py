@@ -2,7 +2,8 @@
 from one to another one take edits back, and begin another session with all of them."""
 from __future__ import annotations
 
-from typing import Dict, FrozenSet, Iterator, List, NamedTuple, Optional, Tuple
+from dataclasses import dataclass, field, replace
+from typing import Dict, FrozenSet, Iterator, List, Optional, Tuple
 
 from replaycheck.sessions import MARKS
 
@@ -17,13 +18,14 @@ Halves = Tuple[Optional[int], Optional[int]]
 UNPATCHED: Halves = (None, None)
 
 
-class Scenario(NamedTuple):
+@dataclass(frozen=True)
+class Scenario:
     """What a session has after some edits. None of its values is changed: each edit makes another scenario."""
 
     input: bytes
-    words: Dict[int, Halves] = {}
+    words: Dict[int, Halves] = field(default_factory=dict)
     marks: Tuple[str, ...] = ()
-    options: Dict[str, str] = {}
+    options: Dict[str, str] = field(default_factory=dict)
     added: Tuple[str, ...] = ()  # suppressions after those of the file
     off: FrozenSet[int] = frozenset()
 
@@ -35,26 +37,26 @@ class Scenario(NamedTuple):
         `ValueError` or `IndexError` for any other line."""
         name, *words = line.split(" ")
         if name == "input":
-            return self._replace(input=input_after(self.input, words))
+            return replace(self, input=input_after(self.input, words))
         if name == "bytes":
-            return self._replace(input=bytes_after(self.input, *words))
+            return replace(self, input=bytes_after(self.input, *words))
         if name == "patch":
             at, word = map(number, words)
-            return self._replace(words=words_after(self.words, at, [word & LOW, word >> BITS]))
+            return replace(self, words=words_after(self.words, at, [word & LOW, word >> BITS]))
         if name == "patch16":
             at, half = map(number, words)
-            return self._replace(words=words_after(self.words, at, [half]))
+            return replace(self, words=words_after(self.words, at, [half]))
         if name in MARKS:
-            return self._replace(marks=(*self.marks, line))
+            return replace(self, marks=(*self.marks, line))
         if name == "unmark":
             index = number(words[0])
-            return self._replace(marks=self.marks[:index] + self.marks[index + 1:])
+            return replace(self, marks=self.marks[:index] + self.marks[index + 1:])
         if name == "option":
-            return self._replace(options={**self.options, words[0]: words[1]})
+            return replace(self, options={**self.options, words[0]: words[1]})
         if words[0] == "add":
-            return self._replace(added=(*self.added, line.partition(" add ")[2]))
+            return replace(self, added=(*self.added, line.partition(" add ")[2]))
         switched = frozenset({number(words[1])})
-        return self._replace(off=self.off | switched if words[0] == "off" else self.off - switched)
+        return replace(self, off=self.off | switched if words[0] == "off" else self.off - switched)
 
     def leads_to(self, other: Scenario) -> bool:
         """Whether lines lead from this scenario to another one: a suppression that was added can't be removed."""

@@ -5,6 +5,7 @@ import contextlib
 import os
 import sys
 import time
+from argparse import Namespace
 from functools import partial
 from typing import List, Optional
 
@@ -20,7 +21,7 @@ from replaycheck.exploring.unedited import Unedited, times_the_end
 from replaycheck.file_heaps import heap_of_run
 from replaycheck.guest.code import Code
 from replaycheck.guest.lines import shown_name
-from replaycheck.options import Reader, number
+from replaycheck.options import Parser, number
 from replaycheck.places import Paths, Places
 from replaycheck.sessions import Session
 
@@ -40,24 +41,24 @@ PATIENCE = 0.2  # seconds of a wait for what workers tell
 MOST = 9999999999
 
 
-def options_of(page):
-    reader = Reader(page)
-    reader.add_argument("file")
-    reader.add_argument("--input", action="extend", nargs="+")
+def options_of(page: str) -> Namespace:
+    parser = Parser(page)
+    parser.add_argument("file")
+    parser.add_argument("--input", action="extend", nargs="+", default=[])
     for name in ("--supp", "--out", "--tokens", "--goal", "--lcov"):
-        reader.option(name)
-    reader.isa_option()
-    reader.region_options()
-    reader.step_option("--step")
-    reader.limit_option()
-    reader.option("--time", type=number(1, MOST))
-    reader.option("--runs", type=number(1, MOST))
-    reader.option("--jobs", type=number(1, 1000))
-    reader.option("--seed", type=number(0, 0xFFFFFFFF), default=0)
-    reader.option("--max-len", type=number(1, GREATEST_LENGTH), default=USUAL_LENGTH)
-    options = reader.read()
+        parser.add_argument(name)
+    parser.isa_option()
+    parser.region_options()
+    parser.step_option("--step")
+    parser.limit_option()
+    parser.add_argument("--time", type=number(1, MOST))
+    parser.add_argument("--runs", type=number(1, MOST))
+    parser.add_argument("--jobs", type=number(1, 1000))
+    parser.add_argument("--seed", type=number(0, 0xFFFFFFFF), default=0)
+    parser.add_argument("--max-len", type=number(1, GREATEST_LENGTH), default=USUAL_LENGTH)
+    options = parser.read()
     if "" in (options.out, options.tokens, options.goal, options.lcov):
-        reader.error("an option without a value")
+        parser.error("an option without a value")
     return options
 
 

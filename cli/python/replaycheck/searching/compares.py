@@ -3,7 +3,7 @@ from __future__ import annotations
 
 from typing import Dict, Iterator, List, Optional, Set, Tuple
 
-from replaycheck.guest.instructions import signed
+from replaycheck.guest.rv32 import signed
 
 from .outcomes import Comparisons
 from .tries import Pair

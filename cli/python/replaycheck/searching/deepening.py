@@ -3,6 +3,7 @@ from __future__ import annotations
 
 import hashlib
 from collections import deque
+from dataclasses import dataclass
 from typing import Deque, Iterator, List, Optional, Set, Tuple
 
 from .asking import AHEAD, Asking
@@ -33,12 +34,15 @@ class Known:
         return True
 
 
+@dataclass(frozen=True)
 class Source:
     """An input with others made of it that came out as nothing new: the entry of the queue from which it follows, and by how many such
     inputs."""
 
-    def __init__(self, entry: Entry, content: bytes, vain: List[bytes], depth: int):
-        self.entry, self.content, self.vain, self.depth = entry, content, vain, depth
+    entry: Entry
+    content: bytes
+    vain: List[bytes]
+    depth: int
 
 
 class Deepening:

@@ -5,6 +5,7 @@ import contextlib
 import fcntl
 import os
 import re
+from dataclasses import dataclass
 from typing import Iterator, List, Optional, Tuple
 
 from replaycheck.endings import Fault
@@ -21,12 +22,16 @@ SEED = ",orig:"
 MOST_SEARCHES = 1000  # in one folder
 
 
+@dataclass
 class Finding:
     """A finding of a search: its number, its text, the address at which it is reported, its input, and the number of the try that found it,
     if that is known."""
 
-    def __init__(self, number: int, text: str, address: str, content: bytes, tries: Optional[int]):
-        self.number, self.text, self.address, self.content, self.tries = number, text, address, content, tries
+    number: int
+    text: str
+    address: str
+    content: bytes
+    tries: Optional[int]
 
     @property
     def name(self) -> str:

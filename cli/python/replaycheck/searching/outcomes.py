@@ -3,17 +3,19 @@ from __future__ import annotations
 
 from typing import Callable, Dict, List, Optional, Set, Tuple
 
+from replaycheck.guest import rv32
 from replaycheck.guest.code import Code
-from replaycheck.guest.instructions import BRANCH, IMMEDIATE, REGISTERS, funct3, immediate, opcode, signed
+from replaycheck.guest.rv32 import BRANCH, IMMEDIATE, REGISTERS, funct3, immediate, opcode, signed
 
 from .tries import Pair
 
 # By the bits funct3 of an instruction: of a branch, and of slt, slti, sltu and sltiu.
-BRANCHES: Dict[int, Callable] = {
-    0: lambda a, b: a == b, 1: lambda a, b: a != b, 4: lambda a, b: signed(a, 32) < signed(b, 32),
-    5: lambda a, b: signed(a, 32) >= signed(b, 32), 6: lambda a, b: a < b, 7: lambda a, b: a >= b}
-SETS = {2: BRANCHES[4], 3: BRANCHES[6]}
-SIGNED = (BRANCHES[4], BRANCHES[5])
+BRANCHES: Dict[int, Callable] = {rv32.BRANCHES[name]: condition for name, condition in (
+    ("beq", lambda a, b: a == b), ("bne", lambda a, b: a != b), ("blt", lambda a, b: signed(a, 32) < signed(b, 32)),
+    ("bge", lambda a, b: signed(a, 32) >= signed(b, 32)), ("bltu", lambda a, b: a < b), ("bgeu", lambda a, b: a >= b))}
+EQUAL, LESS, NOT_LESS, LESS_UNSIGNED = (BRANCHES[rv32.BRANCHES[name]] for name in ("beq", "blt", "bge", "bltu"))
+SETS = {rv32.BY_NAME["slt"].funct3: LESS, rv32.BY_NAME["sltu"].funct3: LESS_UNSIGNED}
+SIGNED = (LESS, NOT_LESS)
 
 
 class Comparing:
@@ -33,10 +35,10 @@ class Comparing:
             self.condition = BRANCHES.get(funct3(word))
         elif opcode(word) in (IMMEDIATE, REGISTERS):
             self.condition = SETS.get(funct3(word))
-            self.is_zero = opcode(word) == IMMEDIATE and self.condition == SETS[3] and immediate(word) == 1
+            self.is_zero = opcode(word) == IMMEDIATE and self.condition == LESS_UNSIGNED and immediate(word) == 1
         self.is_signed = self.condition in SIGNED
         if self.is_zero:
-            self.condition = BRANCHES[0]
+            self.condition = EQUAL
 
 
 class Comparisons:

@@ -5,6 +5,7 @@ import os
 import re
 import sys
 import time
+from dataclasses import dataclass
 from typing import Dict, List, Optional
 
 from replaycheck.exploring.summary import counted
@@ -19,12 +20,16 @@ WIDTH = 18  # of a key
 BETWEEN = 5.0  # seconds between two writes of the files
 
 
+@dataclass(frozen=True)
 class Told:
     """What a worker has reported last: its runs, how many inputs of the queue it hasn't mutated, the place of the one at work, how often it
     has mutated each, and whether no run of all has ended."""
 
-    def __init__(self, runs=0, waiting=0, at=0, cycles=0, all_running=True):
-        self.runs, self.waiting, self.at, self.cycles, self.all_running = runs, waiting, at, cycles, all_running
+    runs: int = 0
+    waiting: int = 0
+    at: int = 0
+    cycles: int = 0
+    all_running: bool = True
 
 
 class State:

@@ -6,6 +6,7 @@ import select
 from collections import deque
 from typing import Callable, Deque, Dict, Iterable, List, Optional, Set, Tuple
 
+from replaycheck import replies
 from replaycheck.endings import Fault
 from replaycheck.refusals import Refused
 from replaycheck.sessions import Session
@@ -19,7 +20,8 @@ AT_ONCE = 1 << 16  # bytes of one read
 PATIENCE = 1.0  # seconds after which a wait is interrupted for a look at the clock
 PAIRS_KEPT = 4  # compares at one address of those that a reply lists: the first ones and the last ones
 MOST_AHEAD = 1000  # lines of the runs that a new session makes first
-FULL = b"refused 1"  # memory ran out
+REFUSED, TRIED, END = (it.encode() for it in (replies.REFUSED, replies.TRIED, replies.END))
+FULL = REFUSED + b"1"  # memory ran out
 # What a line is, and which replies are passed on: a try, of which those with news, or each; a question for compares; a counted line.
 NEWS, EACH, COMPARES, LINE = range(4)
 
@@ -202,12 +204,12 @@ class Tries:
         elif line == FULL:
             self.is_full, self.part = True, []
             self.waiting.popleft()
-        elif line.startswith(b"refused "):
+        elif line.startswith(REFUSED):
             word = "differs" if waiting.kind == COMPARES else "try"
             raise Refused(f"{word} of {len(waiting.content)} bytes", line.decode("ascii", "replace"))
-        elif waiting.kind == COMPARES and line == b"end":
+        elif waiting.kind == COMPARES and line == END:
             self.ended(waiting, pairs_in(self.part, waiting.kept))
-        elif waiting.kind != COMPARES and line.startswith(b"tried "):
+        elif waiting.kind != COMPARES and line.startswith(TRIED):
             self.ended(waiting, self.tried(line))
         else:
             self.part.append(line)
