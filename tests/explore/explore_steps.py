@@ -9,7 +9,7 @@ LIMIT, USUAL, LEAST = 4194304, 1048576, 10000
 WORDS = f"--words=0x{ENTRY:x}..0x{ENTRY + 16:x}"
 EDITS = ["--bytes=0", "--values=0,2"]
 NO_END = f"the unedited run doesn't end by step {LIMIT}"
-# Reads a byte and makes so many turns; with the byte 0 it never ends. Its status is the byte. BEFORE and AFTER are its steps but for the
+# Reads a byte and makes `turns` turns; with the byte 0 it never ends. Its status is the byte. BEFORE and AFTER are its steps but for the
 # turns, of which each has two: a number of turns from 2,048 on needs another step.
 LOOP = """li a0, 0; li a1, 0x11000; li a2, 1; li a7, 63; ecall; lbu s1, 0(a1)
 again: beq s1, zero, again
@@ -17,7 +17,7 @@ li t0, {turns}
 turn: addi t0, t0, -1; bne t0, zero, turn
 mv a0, s1; li a7, 93; ecall"""
 BEFORE, AFTER, READ_STEP = 9, 3, 5
-# Makes so many turns, 2,048 or more, and only then reads its byte, in the fifth step after the turns, uses it in the sixth and ends in the
+# Makes `turns` turns, 2,048 or more, and only then reads its byte, in the fifth step after the turns, uses it in the sixth and ends in the
 # ninth. The two steps before the turns count among them here.
 BOOT = """li t0, {turns}
 turn: addi t0, t0, -1; bne t0, zero, turn
@@ -26,7 +26,7 @@ TURNS, TURN_WORD, FIRST_WORD, USING_WORD = 20000, ENTRY + 8, ENTRY + 16, ENTRY +
 
 
 def looping(turns):
-    """A program of so many turns, and the step at which it ends, if its byte isn't 0."""
+    """A program of this number of turns, and the step at which it ends, if its byte isn't 0."""
     words = assemble(LOOP.format(turns=turns))
     return elf(words, 0x2000, [("main", ENTRY, 4 * len(words))]), BEFORE + (turns >= 2048) + 2 * turns + AFTER
 

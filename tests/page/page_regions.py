@@ -160,9 +160,11 @@ WRONG = [
     ("no number", "<b>x</b>", "", "“<b>x</b>” isn’t where a heap"),
     ("one end", "", "0x3fc81000", "“0x3fc81000” isn’t where a stack can be: that is A..B, multiples of 4096 at least 65536 apart."),
     ("three", "", "0x1000..0x20000..0x40000", "isn’t where a stack"), ("an end that is open", "", "0x1000..", "isn’t where a stack"),
-    ("too small", "", "0x3fc81000..0x3fc82000", "isn’t where a stack"), ("the wrong way", "", "0x3fca0000..0x3fc81000", "isn’t where a"),
+    ("too small", "", "0x3fc81000..0x3fc82000", "isn’t where a stack"),
+    ("the wrong way", "", "0x3fca0000..0x3fc81000", "isn’t where a"),
     ("beyond the end", "", "0xffff0000..4294967296", "isn’t where a stack"), ("no page", "", "0x3fc81004..0x3fca0000", "isn’t where a"),
-    ("both", "1", "2", "“1” isn’t where a heap can begin: that is a multiple of 0x10000000 from 0x10000000 to 0xd0000000. “2” isn’t"),
+    ("both", "1", "2",
+     "“1” isn’t where a heap can begin: that is a multiple of 0x10000000 from 0x10000000 to 0xd0000000. “2” isn’t"),
     ("an overlap", "0x30000000", SOME["stack"],
      "Heap and stack overlap. The heap has 0x30000000 to 0x4fffffff, and the stack 0x3fc81000 to 0x3fc9ffff."),
 ]

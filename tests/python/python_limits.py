@@ -8,7 +8,7 @@ from python_patches import differs, refusal
 from replaycheck.guest.assembly import assemble
 from rows import Rows
 
-# Of READS after so many turns: the step that reads the byte, and the one at which the program has ended. Of the use of USES the step.
+# Of READS after TURNS turns: the step that reads the byte, and the one at which the program has ended. Of the use of USES the step.
 TURNS, READ, END, USE, LIMIT = 3000000, 6000007, 6000011, 6000007, 6100000
 TURN, EXIT = ENTRY + 8, ENTRY + 48
 
