@@ -5,7 +5,7 @@ use Rattle.guest_machine.specs.State.{State}
 use Rattle.guest_machine.specs.declared.machine.Machine.{Machine}
 use Rattle.checkpoints.specs.declared.held.Held.{Held}
 
--- the last machine of a list, so many times
+-- the last machine of a list, this number of times
 abbrev pub last_repeated : List Machine → ℕ → List Machine
 last_repeated [] n = []
 last_repeated (m ∷ []) n = replicate n m
@@ -15,7 +15,7 @@ last_repeated (m ∷ x ∷ rest) n = last_repeated (x ∷ rest) n
 unfoldable pub places_of : Held → List Machine
 places_of held = held.machines.items ++ last_repeated held.machines.items held.more
 
--- of so many places each has a machine of its own, which that of the last one shares with the places after it
+-- the number of places that have a machine of their own; the last of them shares it with the places after it
 unfoldable pub own_places : Held → ℕ
 own_places held = length held.machines.items
 

@@ -7,7 +7,7 @@ use guest_machine::Machine;
 #[derive(Drop)]
 pub(crate) struct Held {
     pub(crate) machines: Vec<Machine>,
-    /// The last machine is also that of so many places more.
+    /// The number of further places whose machine the last one is, too.
     pub(crate) more: usize,
     ghost begun: { 0 < vec_len machines },
     ghost apart: { 0 < more → 1 < vec_len machines },

@@ -66,13 +66,13 @@ impl Trail {
         let end = lesser(u64::from(range.start) + u64::from(range.len), written);
         let place = self.place_before((step / self.spacing) as usize, range.start);
         let copy = self.warm_copy(place)?;
+        let wanted = Wanted { range, end };
         collect(
             alloc,
             copy,
             setup,
             marks,
-            range,
-            end,
+            wanted,
             place as u32 * self.spacing,
             step,
         )
@@ -104,6 +104,13 @@ fn lesser(x: u64, y: u64) -> u64
     if x < y { x } else { y }
 }
 
+/// Bytes of the output: their range, and the number of bytes that are written when all of them are.
+#[derive(Clone, Copy)]
+struct Wanted {
+    range: Span,
+    end: u64,
+}
+
 /// The bytes in a range of the output before a step, from a machine at an earlier step that has written none of them. Ends early once
 /// `end` bytes are written, which is at the range's end or all that are written before the step.
 fn collect(
@@ -111,18 +118,18 @@ fn collect(
     machine: Machine,
     setup: &Setup,
     marks: &[Alteration],
-    range: Span,
-    end: u64,
+    wanted: Wanted,
     from: u32,
     to: u32,
 ) -> Result<Vec<u8>, AllocError>
     requires { from ≤ to }
     ensures { IfOk result (λ bytes. (start : State) → Shows machine (pre start setup.now marks.now from)
-        → length (pre start setup.now marks.now from).output ≤ range.start
-        → end ≡ min (range.start + range.len) (length (pre start setup.now marks.now to).output)
-        → bytes.items ≡ part range (pre start setup.now marks.now to).output) }
+        → length (pre start setup.now marks.now from).output ≤ wanted.range.start
+        → wanted.end ≡ min (wanted.range.start + wanted.range.len) (length (pre start setup.now marks.now to).output)
+        → bytes.items ≡ part wanted.range (pre start setup.now marks.now to).output) }
 {
     writes_what_it_reads();
+    let Wanted { range, end } = wanted;
     let mut machine = machine;
     let mut next = next_step(marks, from);
     let mut bytes = Vec::new(alloc);

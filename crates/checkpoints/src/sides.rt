@@ -67,16 +67,11 @@ impl Trail {
         let machine = self.warm_copy(0)?;
         let apart = machine.isa().unit();
         let mut table = empty_table(alloc, rows(apart, range.len))?;
-        enter_sides(
-            machine,
-            setup,
-            marks,
-            range.start,
+        let rows = RowAddresses {
+            first: range.start,
             apart,
-            0,
-            step,
-            &mut table,
-        )?;
+        };
+        enter_sides(machine, setup, marks, rows, 0, step, &mut table)?;
         Ok(table)
     }
 }
@@ -112,7 +107,8 @@ impl Fork {
         keeps_isa();
         let written = written_copy(&self.machine, effect)?;
         let apart = written.isa().unit();
-        let machine = enter_sides(written, setup, marks, first, apart, self.step, step, table)?;
+        let rows = RowAddresses { first, apart };
+        let machine = enter_sides(written, setup, marks, rows, self.step, step, table)?;
         let marked = apply_marks(machine, marks, step)?;
         Ok(marked)
     }
@@ -135,26 +131,33 @@ fn rows(apart: u32, len: u32) -> usize
     (len as usize + (apart as usize - 1)) / apart as usize
 }
 
+/// The addresses of the rows of a table: that of the first one, and how far they are apart.
+#[derive(Clone, Copy)]
+struct RowAddresses {
+    first: u32,
+    apart: u32,
+}
+
 /// Moves a machine from one step of a run to a later one, both before their marks, and enters the side of each step on the way in a table
 /// that says what the steps before have done. A step of a machine that is halted has no side.
 fn enter_sides(
     machine: Machine,
     setup: &Setup,
     marks: &[Alteration],
-    first: u32,
-    apart: u32,
+    rows: RowAddresses,
     from: u32,
     to: u32,
     table: &mut Vec<Sides>,
 ) -> Result<Machine, AllocError>
     requires forward { from ≤ to }
-    requires apart { IsApart apart }
+    requires apart { IsApart rows.apart }
     ensures shows { IfOk result (λ r. (start : State) → Shows machine (pre start setup.now marks.now from) → Shows r (pre start setup.now marks.now to)) }
     ensures rows { OnOk result (length table.new.items ≡ length table.old.items) }
     ensures extends { OnOk result ((start : State) → Shows machine (pre start setup.now marks.now from)
-        → Extends start setup.now marks.now from to first apart table.old.items table.new.items) }
+        → Extends start setup.now marks.now from to rows.first rows.apart table.old.items table.new.items) }
 {
     stays_halted();
+    let RowAddresses { first, apart } = rows;
     let mut machine = machine;
     let mut next = next_step(marks, from);
     let mut at = from;

@@ -27,7 +27,7 @@ use std::alloc::Global;
 use std::io::{Read, Write};
 use suppressions::{Suppression, parse};
 use sweep_plans::Request;
-use sweep_tables::sweep_program;
+use sweep_tables::{Material, sweep_program};
 
 /// Prints the report of a program at a step.
 fn print_report<'a, W: Write>(
@@ -137,37 +137,46 @@ fn follow_order<'a, F: Files, R: Read, W: Write>(
     }
 }
 
+/// A program that was read: its file, and its image.
+#[derive(Drop)]
+struct Program<'p> {
+    file: &'p [u8],
+    image: Image<'p>,
+}
+
+/// What a sweep is asked for: its arguments, and the request that they make.
+#[derive(Drop)]
+struct Asked<'w, 'a> {
+    words: &'w SweepArgs<'a>,
+    request: Request,
+}
+
 /// Sweeps a program by the rest of an order: the suppressions are read, then the input, each judged before the next is read.
 fn sweep_image<'a, F: Files, R: Read, W: Write>(
     alloc: Global,
     order: &Order<'a>,
-    words: &SweepArgs<'a>,
-    request: Request,
-    file: &[u8],
-    image: Image<'_>,
+    asked: Asked<'_, 'a>,
+    program: Program<'_>,
     files: &F,
     reader: &mut R,
     writer: &mut W,
 ) -> Result<(), End<'a>>
-    requires near { words.now.step ≤ furthest_step }
-    requires part { IsPart request.part }
-    ensures { SweepsImage (F.gives files.now) order.now words.now request file.now image.entry
+    requires near { asked.words.now.step ≤ furthest_step }
+    requires part { IsPart asked.request.part }
+    ensures { SweepsImage (F.gives files.now) order.now asked.entry.words.now asked.entry.request program.entry.file.now program.entry.image
         (streams (R.remaining reader.old) (W.contents writer.old)) (W.contents writer.new) (end_of result) }
 {
     let text = read_named_text(alloc, files, order.suppressions)?;
     let suppressions = parse(alloc, &text)?;
     let input = read_sweep_input(alloc, files, reader, order.input)?;
-    sweep_program(
-        alloc,
-        file,
-        &text,
-        image,
-        input,
+    let material = Material {
+        file: program.file,
+        image: program.image,
+        text: &text,
         suppressions,
-        words,
-        request,
-        writer,
-    )
+        input,
+    };
+    sweep_program(alloc, material, asked.words, asked.request, writer)
 }
 
 /// Carries out an order for a sweep: its arguments are read, the name of the instruction set last, and then the program, the suppressions
@@ -189,9 +198,9 @@ fn follow_sweep<'a, F: Files, R: Read, W: Write>(
     let profile = profile_named(order.profile)?;
     let file = read_front(alloc, files, order.file, MOST_READ)?;
     let image = read_for(alloc, &file, profile)?;
-    sweep_image(
-        alloc, order, words, request, &file, image, files, reader, writer,
-    )
+    let asked = Asked { words, request };
+    let program = Program { file: &file, image };
+    sweep_image(alloc, order, asked, program, files, reader, writer)
 }
 
 /// How the program ends with a result.

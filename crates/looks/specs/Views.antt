@@ -8,10 +8,11 @@ use Rattle.checkpoints.specs.declared.sides.Sides.{Sides as SidesOf}
 use Rattle.line_protocol.specs.Answers.{AnswersBy}
 use Rattle.line_protocol.specs.Lines.{longest_line}
 use Rattle.replay_session.specs.Replies.{RepliesAs, is_over, refused_line}
-use Rattle.replay_session.specs.Stages.{Stage}
-use Rattle.replay_session.specs.Session.{Finds, happened_of, IsSidesOf, IsVerdictOf}
+use Rattle.replay_session.specs.Stages.{Stage, stage_of}
+use Rattle.replay_session.specs.Session.{Finds, happened_of, IsSidesOf, IsVerdictOf, turn_of}
 use Rattle.replay_session.specs.Texts.{last_text}
 use Rattle.replay_session.specs.Turns.{Turn, accepted_as}
+use Rattle.replay_session.specs.declared.session.Session.{Session}
 use Rattle.run_values.specs.declared.alteration.Alteration.{Alteration}
 use Rattle.scenario.specs.Scenario.{Scenario, chosen_state, limit_of}
 use Rattle.commands.specs.Commands.{parsed}
@@ -78,6 +79,10 @@ Told old look text new =
 abbrev pub Looked : Stage → Result Look Fault → List ℕ → Stage → Type 0
 Looked old (Ok look) text new = Told old look text new × Leaves old new
 Looked old (Err fault) text new = (text ≡ refused_line fault) × (new ≡ old)
+
+-- the reply of a session to a line that is read so
+abbrev pub RepliesRead : Session → List ℕ → Result Command Fault → List ℕ → Session → Type 0
+RepliesRead old line read text new = RepliesAs (stage_of old) (accepted_as (turn_of old) line read) text (stage_of new)
 
 -- the command of a line that alters: an edit that appends its alteration to the list of marks
 abbrev pub marking : Result Alteration Fault → Result Command Fault

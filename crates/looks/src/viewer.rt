@@ -106,14 +106,13 @@ pub struct Viewer<'a> {
 
 impl<'a> Viewer<'a> {
     ghost use Rattle.std.specs.Prelude.{◌≡◌, IfOk, None, Ok};
-    ghost use Rattle.replay_session.specs.Replies.{RepliesAs, refused_line};
+    ghost use Rattle.replay_session.specs.Replies.{refused_line};
     ghost use Rattle.replay_session.specs.Session.{turn_of};
     ghost use Rattle.replay_session.specs.Stages.{stage_of};
-    ghost use Rattle.replay_session.specs.Turns.{accepted_as};
     ghost use Rattle.look_lines.specs.Alterations.{alteration_asked};
     ghost use Rattle.look_lines.specs.Inputs.{edit_asked};
     ghost use Rattle.look_lines.specs.Looks.{asked, look_refusal};
-    ghost use Rattle.looks.specs.Views.{Looked, reply_of};
+    ghost use Rattle.looks.specs.Views.{Looked, RepliesRead, reply_of};
 
     /// Returns a viewer of a session.
     pub fn new(session: Session<'a>) -> Result<Self, AllocError>
@@ -173,7 +172,7 @@ impl<'a> Viewer<'a> {
     /// Answers a line that alters the machine at a step: as a session answers an edit.
     #[tactic(auto, unfolding(crate::specs::Views::reply_of))]
     fn alter(&mut self, line: &[u8])
-        ensures { RepliesAs (stage_of self.old.session) (accepted_as (turn_of self.old.session) line.now (marking (alteration_asked (limit_of (scenario_of self.old.session)) line.now))) (reply_of self.new) (stage_of self.new.session) }
+        ensures { RepliesRead self.old.session line.now (marking (alteration_asked (limit_of (scenario_of self.old.session)) line.now)) (reply_of self.new) self.new.session }
     {
         let asked = alteration_asked(self.session.limit(), line);
         self.texts
@@ -184,7 +183,7 @@ impl<'a> Viewer<'a> {
     /// Answers a line that the caller has read, as an edit or as why it is none: as a session answers an edit.
     #[tactic(auto, unfolding(crate::specs::Views::reply_of))]
     pub fn answer_as(&mut self, line: &[u8], read: Result<Edit, Fault>)
-        ensures { RepliesAs (stage_of self.old.session) (accepted_as (turn_of self.old.session) line.now (giving read)) (reply_of self.new) (stage_of self.new.session) }
+        ensures { RepliesRead self.old.session line.now (giving read) (reply_of self.new) self.new.session }
     {
         self.texts.answer_as(&mut self.session, line, giving(read));
         self.is_shown = false;
@@ -192,7 +191,7 @@ impl<'a> Viewer<'a> {
 
     /// Answers a line that gives the input bytes.
     fn give(&mut self, line: &[u8])
-        ensures { RepliesAs (stage_of self.old.session) (accepted_as (turn_of self.old.session) line.now (giving (edit_asked line.now))) (reply_of self.new) (stage_of self.new.session) }
+        ensures { RepliesRead self.old.session line.now (giving (edit_asked line.now)) (reply_of self.new) self.new.session }
     {
         let read = edit_asked(self.session.allocator(), line, self.session.input_len());
         self.answer_as(line, read);

@@ -24,6 +24,16 @@ pub(crate) struct Sources<'a> {
     pub(crate) suppressions: &'a [u8],
 }
 
+/// What is swept, as the command says it: its arguments, the plan that they make, the addresses of the words that they name, and the part of
+/// the places.
+#[derive(Clone, Copy)]
+pub(crate) struct Swept<'a> {
+    pub(crate) words: &'a SweepArgs<'a>,
+    pub(crate) plan: &'a Plan,
+    pub(crate) named: Option<Range>,
+    pub(crate) part: Part,
+}
+
 /// Appends the SHA-256 of bytes, in hexadecimal digits.
 fn push_digest(alloc: Global, out: &mut Vec<u8>, bytes: &[u8]) -> Result<(), AllocError>
     ensures { OnOk result (out.new.items ≡ out.old.items ++ encode_lower (sha256 bytes.now)) }
@@ -377,14 +387,18 @@ pub(crate) fn push_head(
     out: &mut Vec<u8>,
     sources: &Sources,
     profile: Profile,
-    words: &SweepArgs,
-    plan: &Plan,
-    named: Option<Range>,
-    part: Part,
+    swept: Swept,
 ) -> Result<(), AllocError>
     ensures { OnOk result (out.new.items ≡ out.old.items
-        ++ head_text sources.now.program.now sources.now.input.now sources.now.suppressions.now profile words.now plan.now named part) }
+        ++ head_text sources.now.program.now sources.now.input.now sources.now.suppressions.now profile
+        swept.entry.words.now swept.entry.plan.now swept.entry.named swept.entry.part) }
 {
+    let Swept {
+        words,
+        plan,
+        named,
+        part,
+    } = swept;
     push_text(out, version_line(plan.steps, profile, words.with_sides))?;
     push_profile(out, profile)?;
     push_files(alloc, out, sources)?;

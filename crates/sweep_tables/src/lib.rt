@@ -13,4 +13,4 @@ mod program;
 mod sides;
 mod table;
 
-pub use program::sweep_program;
+pub use program::{Material, sweep_program};

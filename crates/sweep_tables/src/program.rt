@@ -11,7 +11,7 @@ ghost use Rattle.sweeps.specs.Covered.{HasCovered, range_of};
 ghost use Rattle.sweeps.specs.Sweeps.{HasMet, scenario_of, tells_output};
 ghost use Rattle.sweeps.specs.Tables.{rows_text};
 
-use crate::head::{Sources, push_head};
+use crate::head::{Sources, Swept, push_head};
 use crate::sides::range_for;
 use crate::table::{first_place, write_all, write_table};
 use command_line::SweepArgs;
@@ -20,51 +20,56 @@ use guest_elf::Image;
 use std::alloc::{AllocError, Global};
 use std::io::Write;
 use suppressions::Suppression;
-use sweep_plans::{Part, Plan, Range, Request, plan_of};
-use sweeps::Sweep;
+use sweep_plans::{Plan, Request, plan_of};
+use sweeps::{Asked, Sweep};
+
+/// What a sweep reads: the program's file and its image, the text of the suppressions and the suppressions in it, and the input.
+#[derive(Drop)]
+pub struct Material<'p> {
+    pub file: &'p [u8],
+    pub image: Image<'p>,
+    pub text: &'p [u8],
+    pub suppressions: Vec<Suppression>,
+    pub input: Vec<u8>,
+}
 
 /// Returns the head of a table with the unedited run's outcome after it, and the sweep that has met that run.
 fn begin_table<'p>(
     alloc: Global,
-    file: &[u8],
-    text: &[u8],
-    image: Image<'p>,
-    input: Vec<u8>,
-    suppressions: Vec<Suppression>,
-    words: &SweepArgs,
-    plan: &Plan,
-    named: Option<Range>,
-    part: Part,
+    material: Material<'p>,
+    swept: Swept<'_>,
     out: &mut Vec<u8>,
 ) -> Result<Sweep<'p>, AllocError>
-    requires short { length input.items ≤ longest_input }
-    requires near { words.now.step ≤ furthest_step }
+    requires short { length material.input.items ≤ longest_input }
+    requires near { swept.words.now.step ≤ furthest_step }
     requires empty { out.old.items ≡ [] }
-    ensures scenario { IfOk result (λ sweep. scenario_of sweep ≡ at_step (begun_within (limit_for words.now.step) image.entry input.items suppressions.items) words.now.step) }
-    ensures output { IfOk result (λ sweep. tells_output sweep ≡ words.now.with_output) }
-    ensures range { IfOk result (λ sweep. range_of sweep ≡ range_for words.now.with_sides plan.now image.entry) }
+    ensures scenario { IfOk result (λ sweep. scenario_of sweep ≡ at_step (begun_within (limit_for swept.entry.words.now.step) material.entry.image material.entry.input.items material.entry.suppressions.items) swept.entry.words.now.step) }
+    ensures output { IfOk result (λ sweep. tells_output sweep ≡ swept.entry.words.now.with_output) }
+    ensures range { IfOk result (λ sweep. range_of sweep ≡ range_for swept.entry.words.now.with_sides swept.entry.plan.now material.entry.image) }
     ensures covered { IfOk result (λ sweep. HasCovered sweep []) }
     ensures met { IfOk result (λ sweep. (first : List ℕ) × HasMet sweep first []
-        × (out.new.items ≡ head_text file.now input.items text.now (profile_of image.entry) words.now plan.now named part ++ rows_text first [])) }
+        × (out.new.items ≡ head_text material.entry.file.now material.entry.input.items material.entry.text.now (profile_of material.entry.image)
+        swept.entry.words.now swept.entry.plan.now swept.entry.named swept.entry.part ++ rows_text first [])) }
 {
+    let Material {
+        file,
+        image,
+        text,
+        suppressions,
+        input,
+    } = material;
     let sources = Sources {
         program: file,
         input: &input,
         suppressions: text,
     };
-    let profile = image.profile();
-    let range = range_for(words.with_sides, plan, &image);
-    push_head(alloc, out, &sources, profile, words, plan, named, part)?;
-    Sweep::begin(
-        alloc,
-        image,
-        input,
-        suppressions,
-        words.step,
-        words.with_output,
-        range,
-        out,
-    )
+    let asked = Asked {
+        step: swept.words.step,
+        with_output: swept.words.with_output,
+        range: range_for(swept.words.with_sides, swept.plan, &image),
+    };
+    push_head(alloc, out, &sources, image.profile(), swept)?;
+    Sweep::begin(alloc, image, input, suppressions, asked, out)
 }
 
 /// Writes the first lines of a table, then the rows of the places from one on, up to another, and then the end of the table.
@@ -89,40 +94,24 @@ fn write_behind<'a, W: Write>(
 /// Sweeps the places of a plan that lie in a part, and writes the table.
 fn sweep_part<'a, W: Write>(
     alloc: Global,
-    file: &[u8],
-    text: &[u8],
-    image: Image<'_>,
-    input: Vec<u8>,
-    suppressions: Vec<Suppression>,
-    words: &SweepArgs<'a>,
-    plan: &Plan,
-    named: Option<Range>,
-    part: Part,
+    material: Material<'_>,
+    swept: Swept<'_>,
     writer: &mut W,
 ) -> Result<(), End<'a>>
-    requires short { length input.items ≤ longest_input }
-    requires near { words.now.step ≤ furthest_step }
-    requires part { IsPart part }
-    ensures { Writes (case_with file.now text.now image.entry input.items suppressions.items words.now named part plan.now)
-        (part_to plan.now part - part_from plan.now part) (W.contents writer.old) (W.contents writer.new) (end_of result) }
+    requires short { length material.input.items ≤ longest_input }
+    requires near { swept.words.now.step ≤ furthest_step }
+    requires part { IsPart swept.part }
+    ensures { Writes (case_with material.entry.file.now material.entry.text.now material.entry.image material.entry.input.items material.entry.suppressions.items
+        swept.entry.words.now swept.entry.named swept.entry.part swept.entry.plan.now)
+        (part_to swept.entry.plan.now swept.entry.part - part_from swept.entry.plan.now swept.entry.part)
+        (W.contents writer.old) (W.contents writer.new) (end_of result) }
 {
+    let Swept { plan, part, .. } = swept;
     let places = plan.places();
     let from = first_place(places, part.index - 1, part.count);
     let to = first_place(places, part.index, part.count);
     let mut out = Vec::new(alloc);
-    let Ok(mut sweep) = begin_table(
-        alloc,
-        file,
-        text,
-        image,
-        input,
-        suppressions,
-        words,
-        plan,
-        named,
-        part,
-        &mut out,
-    ) else {
+    let Ok(mut sweep) = begin_table(alloc, material, swept, &mut out) else {
         return Err(End::NoMemory);
     };
     write_behind(alloc, &out, &mut sweep, plan, from, to, writer)
@@ -131,34 +120,31 @@ fn sweep_part<'a, W: Write>(
 /// Sweeps a program with an input and suppressions, as a request says, and writes the table.
 pub fn sweep_program<'a, W: Write>(
     alloc: Global,
-    file: &[u8],
-    text: &[u8],
-    image: Image<'_>,
-    input: Vec<u8>,
-    suppressions: Vec<Suppression>,
+    material: Material<'_>,
     words: &SweepArgs<'a>,
     request: Request,
     writer: &mut W,
 ) -> Result<(), End<'a>>
-    requires short { length input.items ≤ longest_input }
+    requires short { length material.input.items ≤ longest_input }
     requires near { words.now.step ≤ furthest_step }
     requires part { IsPart request.part }
-    ensures { Sweeps file.now text.now image.entry input.items suppressions.items words.now request (W.contents writer.old) (W.contents writer.new) (end_of result) }
+    ensures { Sweeps material.entry.file.now material.entry.text.now material.entry.image material.entry.input.items material.entry.suppressions.items
+        words.now request (W.contents writer.old) (W.contents writer.new) (end_of result) }
 {
     let part = request.part;
     let named = request.words;
-    let plan = plan_of(alloc, request, &image, input.len() as u32, words.step)?;
-    sweep_part(
+    let plan = plan_of(
         alloc,
-        file,
-        text,
-        image,
-        input,
-        suppressions,
+        request,
+        &material.image,
+        material.input.len() as u32,
+        words.step,
+    )?;
+    let swept = Swept {
         words,
-        &plan,
+        plan: &plan,
         named,
         part,
-        writer,
-    )
+    };
+    sweep_part(alloc, material, swept, writer)
 }

@@ -57,10 +57,10 @@ IsByte _ = ⊥
 -- ---- the table of a sweep
 
 unfoldable pub range_of : Sweep → Span
-range_of sweep = sweep.range
+range_of sweep = sweep.coverage.range
 
 unfoldable pub table_of : Sweep → List Sides
-table_of sweep = sweep.table.items
+table_of sweep = sweep.coverage.table.items
 
 -- it says what the unedited run and those with these changes have executed of its range
 abbrev pub HasCovered : Sweep → List Change → Type 0

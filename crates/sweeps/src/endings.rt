@@ -16,11 +16,12 @@ ghost use Rattle.sweeps.specs.Outcomes.{IsOutcome};
 use crate::landmarks::{Landmarks, SPACING};
 use crate::outcomes::unmark;
 use crate::recall::{Recall, SharedOutcome};
+use crate::settings::Settings;
 use checkpoints::Fork;
 use guest_machine::{Machine, Meter};
 use scenario::Scenario;
 use scenario::laws::edits_follow;
-use std::alloc::{AllocError, Global};
+use std::alloc::AllocError;
 use sweep_plans::{Change, Glitch};
 
 /// The most machines that are held, so that they take little memory.
@@ -45,6 +46,14 @@ pub(crate) struct Ends {
     pub(crate) ahead: SharedOutcome,
 }
 
+/// Where a run may meet the unedited one: the machines of that which are held, how many steps it is ahead there, and the outcome then.
+#[derive(Clone, Copy)]
+pub(crate) struct Joint<'a> {
+    pub(crate) landmarks: &'a Landmarks,
+    pub(crate) lead: u32,
+    pub(crate) known: &'a SharedOutcome,
+}
+
 /// A machine of a run before a step.
 #[derive(Drop)]
 pub(crate) struct Pursued {
@@ -57,28 +66,27 @@ pub(crate) struct Pursued {
 impl Ends {
     /// Returns the machines of the unedited run from a fork's step on, and its outcomes.
     pub(crate) fn along(
-        alloc: Global,
+        settings: Settings,
         scenario: &Scenario,
         before: &Fork,
-        with_output: bool,
     ) -> Result<Ends, AllocError>
         requires { before.now.step ≤ scenario.now.step }
-        ensures { IfOk result (AreEnds with_output scenario.now) }
+        ensures { IfOk result (AreEnds settings.with_output scenario.now) }
     {
         let left = scenario.step() - before.step;
         let count = (left / SPACING).min(MOST_HELD);
-        let mut landmarks = Landmarks::begin(alloc, before.step);
+        let mut landmarks = Landmarks::begin(settings.alloc, before.step);
         let machine = before.machine.share_warm()?;
         let held = landmarks.run_held(machine, scenario.setup(), count)?;
         let rest = left - landmarks.steps;
         let last = landmarks.run(held, scenario.setup(), rest)?;
-        let same = scenario.outline(&last, with_output)?;
+        let same = scenario.outline(&last, settings.with_output)?;
         let after = last.run(scenario.setup(), 1, &mut Meter::new())?;
-        let ahead = scenario.outline(&after, with_output)?;
+        let ahead = scenario.outline(&after, settings.with_output)?;
         Ok(Ends {
             landmarks,
-            same: SharedOutcome::new(alloc, same)?,
-            ahead: SharedOutcome::new(alloc, ahead)?,
+            same: SharedOutcome::new(settings.alloc, same)?,
+            ahead: SharedOutcome::new(settings.alloc, ahead)?,
         })
     }
 
@@ -139,93 +147,75 @@ fn pursue(
     })
 }
 
-/// Returns the outcome of such a run: the known one, if it meets the unedited run.
+/// Returns the outcome of such a run: the known one, if it meets the unedited run where it may.
 pub(crate) fn outcome_from(
-    alloc: Global,
+    settings: Settings,
     scenario: &Scenario,
     recall: &Recall,
-    landmarks: &Landmarks,
-    known: &SharedOutcome,
+    joint: Joint,
     machine: Machine,
     from: u32,
-    lead: u32,
-    with_output: bool,
 ) -> Result<SharedOutcome, AllocError>
     requires { from ≤ scenario.now.step }
-    ensures { IfOk result (λ outcome. EndsIn with_output scenario.now landmarks.now lead known.now → (s : State) → Shows machine s
-        → Outlines with_output scenario.now (pre s scenario.now.setup [] (scenario.now.step - from)) outcome) }
+    ensures { IfOk result (λ outcome. EndsIn settings.with_output scenario.now joint.entry.landmarks.now joint.entry.lead joint.entry.known.now → (s : State) → Shows machine s
+        → Outlines settings.with_output scenario.now (pre s scenario.now.setup [] (scenario.now.step - from)) outcome) }
 {
-    let pursued = pursue(scenario, landmarks, machine, from, lead)?;
+    let pursued = pursue(scenario, joint.landmarks, machine, from, joint.lead)?;
     if pursued.is_met {
-        let outcome = known.clone()?;
+        let outcome = joint.known.clone()?;
         return Ok(outcome);
     }
     let Pursued { machine, step, .. } = pursued;
     let end = machine.run(scenario.setup(), scenario.step() - step, &mut Meter::new())?;
-    let text = scenario.outline(&end, with_output)?;
-    recall.outcome(alloc, text)
+    let text = scenario.outline(&end, settings.with_output)?;
+    recall.outcome(settings.alloc, text)
 }
 
 /// Returns the outcome of a scenario in which an earlier step was struck, as whose run before that one a fork is, if nothing is altered from
 /// a later step on.
 fn outcome_behind(
-    alloc: Global,
+    settings: Settings,
     scenario: &Scenario,
     recall: &Recall,
     ends: &Ends,
     fork: &Fork,
     from: u32,
     is_ahead: bool,
-    with_output: bool,
 ) -> Result<SharedOutcome, AllocError>
     requires before { fork.now.step ≤ from }
     requires within { from ≤ scenario.now.step }
     requires quiet { NoneFrom from scenario.now.marks }
     ensures { IfOk result (λ outcome. (s : ℕ) (one : Run) → LeadsTo (After s) one (run_of scenario.now)
-        → IsForkFor (After s) one scenario.now.step fork.now → AreEnds with_output scenario.now ends.now
-        → IsOutlineOf with_output scenario.now outcome) }
+        → IsForkFor (After s) one scenario.now.step fork.now → AreEnds settings.with_output scenario.now ends.now
+        → IsOutlineOf settings.with_output scenario.now outcome) }
 {
     let next = fork.go_on(from, scenario.setup(), scenario.marks())?;
     let Fork { machine, .. } = next;
-    let landmarks = &ends.landmarks;
     if is_ahead {
-        let known = &ends.ahead;
-        return outcome_from(
-            alloc,
-            scenario,
-            recall,
-            landmarks,
-            known,
-            machine,
-            from,
-            1,
-            with_output,
-        );
+        let joint = Joint {
+            landmarks: &ends.landmarks,
+            lead: 1,
+            known: &ends.ahead,
+        };
+        return outcome_from(settings, scenario, recall, joint, machine, from);
     }
-    let known = &ends.same;
-    outcome_from(
-        alloc,
-        scenario,
-        recall,
-        landmarks,
-        known,
-        machine,
-        from,
-        0,
-        with_output,
-    )
+    let joint = Joint {
+        landmarks: &ends.landmarks,
+        lead: 0,
+        known: &ends.same,
+    };
+    outcome_from(settings, scenario, recall, joint, machine, from)
 }
 
 /// Returns the outcome of a glitch just before a step, whose run continues from a fork. Afterwards the scenario is as it was.
 pub(crate) fn outcome_of_glitch(
-    alloc: Global,
+    settings: Settings,
     scenario: &mut Scenario,
     recall: &Recall,
     ends: &Ends,
     fork: &Fork,
     step: u32,
     glitch: Glitch,
-    with_output: bool,
 ) -> Result<SharedOutcome, AllocError>
     requires unmarked { scenario.old.marks ≡ [] }
     requires near { step ≤ limit_of scenario.old }
@@ -233,23 +223,14 @@ pub(crate) fn outcome_of_glitch(
     requires right { IsRight glitch }
     requires fork { IsForkFor (After step) (run_of scenario.old) scenario.old.step fork.now }
     ensures same { scenario.new ≡ scenario.old }
-    ensures outcome { IfOk result (λ outcome. AreEnds with_output scenario.old ends.now
-        → IsOutcome with_output scenario.old (Once step glitch) outcome) }
+    ensures outcome { IfOk result (λ outcome. AreEnds settings.with_output scenario.old ends.now
+        → IsOutcome settings.with_output scenario.old (Once step glitch) outcome) }
 {
     edits_follow();
     let is_ahead = matches!(glitch, Glitch::Skip);
     let change = Change::Once { step, glitch };
     scenario.edit(change.edit())?;
-    let told = outcome_behind(
-        alloc,
-        scenario,
-        recall,
-        ends,
-        fork,
-        step + 1,
-        is_ahead,
-        with_output,
-    );
+    let told = outcome_behind(settings, scenario, recall, ends, fork, step + 1, is_ahead);
     unmark(scenario);
     told
 }

@@ -17,6 +17,7 @@ ghost use Rattle.sweeps.specs.Sweeps.{CountsMore};
 use crate::counting::Counts;
 use crate::meeting::try_place;
 use crate::outcomes::take_back;
+use crate::settings::Settings;
 use crate::sites::Site;
 use checkpoints::{Effect, Fork, Sides, Trail};
 use guest_machine::Span;
@@ -24,6 +25,13 @@ use scenario::Scenario;
 use scenario::laws::edits_follow;
 use std::alloc::{AllocError, Global};
 use sweep_plans::{Change, Plan, Standing};
+
+/// A table of a range of addresses that says what runs have executed.
+#[derive(Drop)]
+pub(crate) struct Coverage {
+    pub(crate) range: Span,
+    pub(crate) table: Vec<Sides>,
+}
 
 /// Returns the table of a range that says what the unedited run has executed. That of a range of no bytes needs no run.
 pub(crate) fn unedited_table(
@@ -110,8 +118,7 @@ fn try_entering(
     counts: &mut Counts,
     site: &Site,
     change: Change,
-    first: u32,
-    table: &mut Vec<Sides>,
+    coverage: &mut Coverage,
     with_output: bool,
     out: &mut Vec<u8>,
 ) -> Result<(), AllocError>
@@ -119,17 +126,18 @@ fn try_entering(
     requires byte { IsByte site.now.standing }
     requires at { IsAt scenario.old site.now.standing change }
     requires fork { IsForkFor (row scenario.old (edit_of change)).effect (run_of scenario.old) scenario.old.step site.now.fork }
+    ensures range { coverage.new.range ≡ coverage.old.range }
     ensures same { scenario.new ≡ scenario.old }
     ensures met { OnOk result (CountsMore counts.old counts.new with_output scenario.old (change ∷ []) out.old.items out.new.items) }
-    ensures covers { OnOk result (CoversMore scenario.old first (change ∷ []) table.old.items table.new.items) }
+    ensures covers { OnOk result (CoversMore scenario.old coverage.old.range.start (change ∷ []) coverage.old.table.items coverage.new.table.items) }
 {
     let outcome = outcome_entering(
         scenario,
         &site.fork,
         site.standing,
         change,
-        first,
-        table,
+        coverage.range.start,
+        &mut coverage.table,
         with_output,
     )?;
     let steps = scenario.step() - site.fork.step;
@@ -144,8 +152,7 @@ fn try_each_entering(
     counts: &mut Counts,
     site: &Site,
     changes: &[Change],
-    first: u32,
-    table: &mut Vec<Sides>,
+    coverage: &mut Coverage,
     with_output: bool,
     out: &mut Vec<u8>,
 ) -> Result<(), AllocError>
@@ -153,21 +160,13 @@ fn try_each_entering(
     requires byte { IsByte site.now.standing }
     requires at { All (IsAt scenario.old site.now.standing) changes.now }
     requires fork { Continues scenario.old site.now.standing site.now.fork }
+    ensures range { coverage.new.range ≡ coverage.old.range }
     ensures same { scenario.new ≡ scenario.old }
     ensures met { OnOk result (CountsMore counts.old counts.new with_output scenario.old changes.now out.old.items out.new.items) }
-    ensures covers { OnOk result (CoversMore scenario.old first changes.now table.old.items table.new.items) }
+    ensures covers { OnOk result (CoversMore scenario.old coverage.old.range.start changes.now coverage.old.table.items coverage.new.table.items) }
 {
     for change in changes {
-        try_entering(
-            scenario,
-            counts,
-            site,
-            *change,
-            first,
-            table,
-            with_output,
-            out,
-        )?;
+        try_entering(scenario, counts, site, *change, coverage, with_output, out)?;
     }
     Ok(())
 }
@@ -175,14 +174,12 @@ fn try_each_entering(
 /// Applies each change of a plan to the byte at a site, one at a time, and enters in a table what the runs execute. Afterwards the scenario is
 /// as it was.
 fn try_byte(
-    alloc: Global,
+    settings: Settings,
     scenario: &mut Scenario,
     counts: &mut Counts,
     plan: &Plan,
     site: &Site,
-    first: u32,
-    table: &mut Vec<Sides>,
-    with_output: bool,
+    coverage: &mut Coverage,
     out: &mut Vec<u8>,
 ) -> Result<(), AllocError>
     requires near { scenario.old.step ≤ limit_of scenario.old }
@@ -190,19 +187,19 @@ fn try_byte(
     requires stands { Stands scenario.old site.now.standing }
     requires byte { IsByte site.now.standing }
     requires fork { Continues scenario.old site.now.standing site.now.fork }
+    ensures range { coverage.new.range ≡ coverage.old.range }
     ensures same { scenario.new ≡ scenario.old }
-    ensures met { OnOk result (CountsMore counts.old counts.new with_output scenario.old (all_changes scenario.old plan.now (Some site.now.standing)) out.old.items out.new.items) }
-    ensures covers { OnOk result (CoversMore scenario.old first (all_changes scenario.old plan.now (Some site.now.standing)) table.old.items table.new.items) }
+    ensures met { OnOk result (CountsMore counts.old counts.new settings.with_output scenario.old (all_changes scenario.old plan.now (Some site.now.standing)) out.old.items out.new.items) }
+    ensures covers { OnOk result (CoversMore scenario.old coverage.old.range.start (all_changes scenario.old plan.now (Some site.now.standing)) coverage.old.table.items coverage.new.table.items) }
 {
-    let changes = plan.changes(alloc, site.standing)?;
+    let changes = plan.changes(settings.alloc, site.standing)?;
     try_each_entering(
         scenario,
         counts,
         site,
         &changes,
-        first,
-        table,
-        with_output,
+        coverage,
+        settings.with_output,
         out,
     )
 }
@@ -210,14 +207,12 @@ fn try_byte(
 /// Applies each change of a plan at a site, one at a time, counts the outcomes and appends the rows. If a table has rows and a byte is there,
 /// what the runs execute is entered in it. Afterwards the scenario is as it was.
 pub(crate) fn try_site(
-    alloc: Global,
+    settings: Settings,
     scenario: &mut Scenario,
     counts: &mut Counts,
     plan: &Plan,
     site: &Site,
-    first: u32,
-    table: &mut Vec<Sides>,
-    with_output: bool,
+    coverage: &mut Coverage,
     out: &mut Vec<u8>,
 ) -> Result<(), AllocError>
     requires near { scenario.old.step ≤ limit_of scenario.old }
@@ -225,26 +220,17 @@ pub(crate) fn try_site(
     requires stands { Stands scenario.old site.now.standing }
     requires below { IsBelow scenario.old.step site.now.standing }
     requires fork { Continues scenario.old site.now.standing site.now.fork }
+    ensures range { coverage.new.range ≡ coverage.old.range }
     ensures same { scenario.new ≡ scenario.old }
-    ensures met { OnOk result (CountsMore counts.old counts.new with_output scenario.old (all_changes scenario.old plan.now (Some site.now.standing)) out.old.items out.new.items) }
-    ensures covers { OnOk result (MayCover site.now.standing table.old.items
-        → CoversMore scenario.old first (all_changes scenario.old plan.now (Some site.now.standing)) table.old.items table.new.items) }
+    ensures met { OnOk result (CountsMore counts.old counts.new settings.with_output scenario.old (all_changes scenario.old plan.now (Some site.now.standing)) out.old.items out.new.items) }
+    ensures covers { OnOk result (MayCover site.now.standing coverage.old.table.items
+        → CoversMore scenario.old coverage.old.range.start (all_changes scenario.old plan.now (Some site.now.standing)) coverage.old.table.items coverage.new.table.items) }
 {
-    if table.is_empty() {
-        return try_place(alloc, scenario, counts, plan, site, with_output, out);
+    if coverage.table.is_empty() {
+        return try_place(settings, scenario, counts, plan, site, out);
     }
     match site.standing {
-        Standing::Byte { .. } => try_byte(
-            alloc,
-            scenario,
-            counts,
-            plan,
-            site,
-            first,
-            table,
-            with_output,
-            out,
-        ),
-        _ => try_place(alloc, scenario, counts, plan, site, with_output, out),
+        Standing::Byte { .. } => { try_byte(settings, scenario, counts, plan, site, coverage, out) }
+        _ => try_place(settings, scenario, counts, plan, site, out),
     }
 }

@@ -56,8 +56,9 @@ mod outcomes;
 mod pairs;
 mod recall;
 mod rows;
+mod settings;
 mod sites;
 mod striking;
 mod sweep;
 
-pub use sweep::Sweep;
+pub use sweep::{Asked, Sweep};

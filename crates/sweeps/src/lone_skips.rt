@@ -11,6 +11,7 @@ ghost use Rattle.sweeps.specs.declared.lone_skips.LoneSkip.{LoneSkip as LoneSkip
 
 use crate::landmarks::Landmarks;
 use crate::recall::SharedOutcome;
+use crate::settings::Settings;
 use crate::sites::is_in_code;
 use checkpoints::Fork;
 use guest_machine::{Act, Alteration, Machine, Meter, Setup, Status};
@@ -78,18 +79,17 @@ fn skip_outline(
 
 /// Returns the row of a machine whose next instruction is left out.
 fn lone_skip(
-    alloc: Global,
+    settings: Settings,
     scenario: &Scenario,
     machine: &Machine,
     steps: u32,
-    with_output: bool,
 ) -> Result<LoneSkip, AllocError>
-    ensures { IfOk result (λ row. (s : State) → Shows machine.now s → IsLone with_output scenario.now s steps row) }
+    ensures { IfOk result (λ row. (s : State) → Shows machine.now s → IsLone settings.with_output scenario.now s steps row) }
 {
-    let text = skip_outline(scenario, machine, steps, with_output)?;
+    let text = skip_outline(scenario, machine, steps, settings.with_output)?;
     Ok(LoneSkip {
         pc: struck_pc(machine, scenario.setup()),
-        outcome: SharedOutcome::new(alloc, text)?,
+        outcome: SharedOutcome::new(settings.alloc, text)?,
     })
 }
 
@@ -113,43 +113,41 @@ impl LoneSkips {
     /// Adds the row of the machine before the next step.
     fn add(
         &mut self,
-        alloc: Global,
+        settings: Settings,
         scenario: &Scenario,
         machine: &Machine,
         steps: u32,
-        with_output: bool,
     ) -> Result<(), AllocError>
         requires steps { steps ≡ scenario.now.step + 1 - (self.old.landmarks.first + length self.old.rows.items) }
         requires rows { self.old.landmarks.steps ≡ length self.old.rows.items }
         ensures landmarks { OnOk result (self.new.landmarks ≡ self.old.landmarks) }
         ensures rows { OnOk result (length self.new.rows.items ≡ length self.old.rows.items + 1) }
-        ensures foreseen { OnOk result (Follows scenario.now.setup self.old.landmarks machine.now → AreForeseen with_output scenario.now self.old
-            → AreForeseen with_output scenario.now self.new) }
+        ensures foreseen { OnOk result (Follows scenario.now.setup self.old.landmarks machine.now → AreForeseen settings.with_output scenario.now self.old
+            → AreForeseen settings.with_output scenario.now self.new) }
     {
-        let row = lone_skip(alloc, scenario, machine, steps, with_output)?;
+        let row = lone_skip(settings, scenario, machine, steps)?;
         self.rows.push(row)?;
         Ok(())
     }
 
     /// Returns the table of the steps from one on up to another, given the machine before the first.
     pub(crate) fn along(
-        alloc: Global,
+        settings: Settings,
         scenario: &Scenario,
         before: &Machine,
         first: u32,
         end: u32,
-        with_output: bool,
     ) -> Result<LoneSkips, AllocError>
         requires within { end ≤ scenario.now.step }
         requires near { scenario.now.step ≤ limit_of scenario.now }
-        ensures { IfOk result (λ skips. AreForeseen with_output scenario.now skips) }
+        ensures { IfOk result (λ skips. AreForeseen settings.with_output scenario.now skips) }
     {
-        let mut skips = LoneSkips::begin(alloc, first);
+        let mut skips = LoneSkips::begin(settings.alloc, first);
         let mut machine = before.share_warm()?;
         for step in first..end + 1 {
             let steps = scenario.step() - step + 1;
             let held = skips.landmarks.hold(machine)?;
-            skips.add(alloc, scenario, &held, steps, with_output)?;
+            skips.add(settings, scenario, &held, steps)?;
             machine = skips.landmarks.run(held, scenario.setup(), 1)?;
         }
         Ok(skips)

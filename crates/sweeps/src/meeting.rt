@@ -15,10 +15,11 @@ use crate::counting::Counts;
 use crate::memory::try_memory;
 use crate::outcomes::outcome_of;
 use crate::pairs::try_pairs;
+use crate::settings::Settings;
 use crate::sites::Site;
 use crate::striking::try_step;
 use scenario::Scenario;
-use std::alloc::{AllocError, Global};
+use std::alloc::AllocError;
 use sweep_plans::{Change, Plan, Standing};
 
 /// Applies a change at a site, and no other edit, counts the outcome, and appends its row. Afterwards the scenario is as it was.
@@ -75,12 +76,11 @@ pub(crate) fn try_each(
 /// Applies each of some changes at a site, one at a time, counts the outcomes, and appends the rows. At a step, outcomes that are recalled come
 /// without a run. Afterwards the scenario is as it was.
 fn try_there(
-    alloc: Global,
+    settings: Settings,
     scenario: &mut Scenario,
     counts: &mut Counts,
     site: &Site,
     changes: &[Change],
-    with_output: bool,
     out: &mut Vec<u8>,
 ) -> Result<(), AllocError>
     requires unmarked { scenario.old.marks ≡ [] }
@@ -89,33 +89,23 @@ fn try_there(
     requires at { All (IsAt scenario.old site.now.standing) changes.now }
     requires fork { Continues scenario.old site.now.standing site.now.fork }
     ensures same { scenario.new ≡ scenario.old }
-    ensures met { OnOk result (CountsMore counts.old counts.new with_output scenario.old changes.now out.old.items out.new.items) }
+    ensures met { OnOk result (CountsMore counts.old counts.new settings.with_output scenario.old changes.now out.old.items out.new.items) }
 {
     if let Standing::Step { step, .. } = site.standing {
         if is_running(&site.fork.machine) {
-            return try_step(
-                alloc,
-                scenario,
-                counts,
-                site,
-                step,
-                changes,
-                with_output,
-                out,
-            );
+            return try_step(settings, scenario, counts, site, step, changes, out);
         }
     }
-    try_each(scenario, counts, site, changes, with_output, out)
+    try_each(scenario, counts, site, changes, settings.with_output, out)
 }
 
 /// Applies each change of a plan at a site, one at a time, counts the outcomes, and appends the rows. Afterwards the scenario is as it was.
 fn try_all(
-    alloc: Global,
+    settings: Settings,
     scenario: &mut Scenario,
     counts: &mut Counts,
     plan: &Plan,
     site: &Site,
-    with_output: bool,
     out: &mut Vec<u8>,
 ) -> Result<(), AllocError>
     requires near { scenario.old.step ≤ limit_of scenario.old }
@@ -124,22 +114,21 @@ fn try_all(
     requires below { IsBelow scenario.old.step site.now.standing }
     requires fork { Continues scenario.old site.now.standing site.now.fork }
     ensures same { scenario.new ≡ scenario.old }
-    ensures met { OnOk result (CountsMore counts.old counts.new with_output scenario.old (changes_of plan.now site.now.standing) out.old.items out.new.items) }
+    ensures met { OnOk result (CountsMore counts.old counts.new settings.with_output scenario.old (changes_of plan.now site.now.standing) out.old.items out.new.items) }
 {
-    let changes = plan.changes(alloc, site.standing)?;
-    counts.hold_course(alloc, scenario, &site.fork, changes.len())?;
-    try_there(alloc, scenario, counts, site, &changes, with_output, out)
+    let changes = plan.changes(settings.alloc, site.standing)?;
+    counts.hold_course(settings.alloc, scenario, &site.fork, changes.len())?;
+    try_there(settings, scenario, counts, site, &changes, out)
 }
 
 /// Applies each change of a plan at a site, one at a time, then those of bytes that the run reads later, and of pairs of faults of which the
 /// first strikes there. Counts the outcomes, and appends the rows. Afterwards the scenario is as it was.
 pub(crate) fn try_place(
-    alloc: Global,
+    settings: Settings,
     scenario: &mut Scenario,
     counts: &mut Counts,
     plan: &Plan,
     site: &Site,
-    with_output: bool,
     out: &mut Vec<u8>,
 ) -> Result<(), AllocError>
     requires near { scenario.old.step ≤ limit_of scenario.old }
@@ -148,9 +137,9 @@ pub(crate) fn try_place(
     requires below { IsBelow scenario.old.step site.now.standing }
     requires fork { Continues scenario.old site.now.standing site.now.fork }
     ensures same { scenario.new ≡ scenario.old }
-    ensures met { OnOk result (CountsMore counts.old counts.new with_output scenario.old (all_changes scenario.old plan.now (Some site.now.standing)) out.old.items out.new.items) }
+    ensures met { OnOk result (CountsMore counts.old counts.new settings.with_output scenario.old (all_changes scenario.old plan.now (Some site.now.standing)) out.old.items out.new.items) }
 {
-    try_all(alloc, scenario, counts, plan, site, with_output, out)?;
-    try_memory(alloc, scenario, counts, plan, site, with_output, out)?;
-    try_pairs(alloc, scenario, counts, plan, site, with_output, out)
+    try_all(settings, scenario, counts, plan, site, out)?;
+    try_memory(settings, scenario, counts, plan, site, out)?;
+    try_pairs(settings, scenario, counts, plan, site, out)
 }

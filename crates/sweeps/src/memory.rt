@@ -12,22 +12,22 @@ ghost use Rattle.sweeps.specs.Sweeps.{CountsMore};
 use crate::accesses::{READ, first_accesses};
 use crate::counting::Counts;
 use crate::meeting::try_each;
+use crate::settings::Settings;
 use crate::sites::Site;
-use crate::striking::try_changes;
+use crate::striking::{NextStep, try_changes};
 use guest_machine::{Machine, Setup, Touched};
 use scenario::Scenario;
 use shadow_memory::Memory;
-use std::alloc::{AllocError, Global};
+use std::alloc::AllocError;
 use sweep_plans::{Change, Plan, Standing, byte_flips};
 
 /// What the flips at a step need.
 #[derive(Clone, Copy)]
 struct Turning {
-    alloc: Global,
+    settings: Settings,
     step: u32,
     /// The ranges that the step touches.
     touched: Touched,
-    with_output: bool,
 }
 
 /// Returns the ranges that the next step of a machine touches.
@@ -50,22 +50,23 @@ fn try_turned(
     requires turning { MayTurn scenario.old site.now turning }
     requires at { All (IsAt scenario.old site.now.standing) changes.now }
     ensures same { scenario.new ≡ scenario.old }
-    ensures met { OnOk result (CountsMore counts.old counts.new turning.with_output scenario.old changes.now out.old.items out.new.items) }
+    ensures met { OnOk result (CountsMore counts.old counts.new turning.settings.with_output scenario.old changes.now out.old.items out.new.items) }
 {
     if counts.recall.step != turning.step {
-        return try_each(scenario, counts, site, changes, turning.with_output, out);
+        return try_each(
+            scenario,
+            counts,
+            site,
+            changes,
+            turning.settings.with_output,
+            out,
+        );
     }
-    try_changes(
-        turning.alloc,
-        scenario,
-        counts,
-        site,
-        turning.step,
-        Some(turning.touched),
-        changes,
-        turning.with_output,
-        out,
-    )
+    let next = NextStep {
+        step: turning.step,
+        touched: Some(turning.touched),
+    };
+    try_changes(turning.settings, scenario, counts, site, next, changes, out)
 }
 
 /// Turns each bit of a byte, one at a time, if the run reads the byte later.
@@ -81,12 +82,12 @@ fn try_byte(
     requires turning { MayTurn scenario.old site.now turning }
     requires table { IsTable scenario.old turning.step (scenario.old.step - turning.step) table.now }
     ensures same { scenario.new ≡ scenario.old }
-    ensures met { OnOk result (TurnsOn scenario.old turning.step turning.with_output addr (addr + 1) counts.old out.old.items counts.new out.new.items) }
+    ensures met { OnOk result (TurnsOn scenario.old turning.step turning.settings.with_output addr (addr + 1) counts.old out.old.items counts.new out.new.items) }
 {
     if table.byte(addr).byte != READ {
         return Ok(());
     }
-    let changes = byte_flips(turning.alloc, turning.step, addr)?;
+    let changes = byte_flips(turning.settings.alloc, turning.step, addr)?;
     try_turned(scenario, counts, site, turning, &changes, out)
 }
 
@@ -104,7 +105,7 @@ fn try_word(
     requires turning { MayTurn scenario.old site.now turning }
     requires table { IsTable scenario.old turning.step (scenario.old.step - turning.step) table.now }
     ensures same { scenario.new ≡ scenario.old }
-    ensures met { OnOk result (TurnsOn scenario.old turning.step turning.with_output word (word + 4) counts.old out.old.items counts.new out.new.items) }
+    ensures met { OnOk result (TurnsOn scenario.old turning.step turning.settings.with_output word (word + 4) counts.old out.old.items counts.new out.new.items) }
 {
     for i in 0..4 {
         try_byte(scenario, counts, table, site, turning, word + i, out)?;
@@ -124,7 +125,7 @@ fn try_bytes(
     requires turning { MayTurn scenario.old site.now turning }
     requires table { IsTable scenario.old turning.step (scenario.old.step - turning.step) table.now }
     ensures same { scenario.new ≡ scenario.old }
-    ensures met { OnOk result (TurnsOn scenario.old turning.step turning.with_output 0 (2 ^ 32) counts.old out.old.items counts.new out.new.items) }
+    ensures met { OnOk result (TurnsOn scenario.old turning.step turning.settings.with_output 0 (2 ^ 32) counts.old out.old.items counts.new out.new.items) }
 {
     let mut from = 0;
     while let Some(word) = table.next_word(from) {
@@ -141,12 +142,11 @@ fn try_bytes(
 /// time, if that was asked for. Afterwards the scenario is as it was.
 #[tactic(auto, unfolding(crate::specs::Memory::memory_at))]
 pub(crate) fn try_memory(
-    alloc: Global,
+    settings: Settings,
     scenario: &mut Scenario,
     counts: &mut Counts,
     plan: &Plan,
     site: &Site,
-    with_output: bool,
     out: &mut Vec<u8>,
 ) -> Result<(), AllocError>
     requires near { scenario.old.step ≤ limit_of scenario.old }
@@ -155,7 +155,7 @@ pub(crate) fn try_memory(
     requires below { IsBelow scenario.old.step site.now.standing }
     requires fork { Continues scenario.old site.now.standing site.now.fork }
     ensures same { scenario.new ≡ scenario.old }
-    ensures met { OnOk result (CountsMore counts.old counts.new with_output scenario.old (memory_at scenario.old plan.now site.now.standing) out.old.items out.new.items) }
+    ensures met { OnOk result (CountsMore counts.old counts.new settings.with_output scenario.old (memory_at scenario.old plan.now site.now.standing) out.old.items out.new.items) }
 {
     let Standing::Step { step, .. } = site.standing else {
         return Ok(());
@@ -163,13 +163,12 @@ pub(crate) fn try_memory(
     if !plan.models.memory {
         return Ok(());
     }
-    let table = first_accesses(alloc, scenario, &site.fork.machine, step)?;
+    let table = first_accesses(settings.alloc, scenario, &site.fork.machine, step)?;
     let touched = touched_by(&site.fork.machine, scenario.setup())?;
     let turning = Turning {
-        alloc,
+        settings,
         step,
         touched,
-        with_output,
     };
     try_bytes(scenario, counts, &table, site, turning, out)
 }

@@ -181,28 +181,41 @@ fn outcome_of_second(
     outcome_of_one(course, scenario, &next, standing, change, with_output)
 }
 
+/// A glitch, and the step that it strikes.
+#[derive(Clone, Copy)]
+struct Strike {
+    step: u32,
+    glitch: Glitch,
+}
+
 /// Returns the outcome of two glitches, the first of which strikes a step before which a fork is. Afterwards the scenario is as it was.
 fn outcome_of_two(
     course: Option<&Course>,
     scenario: &mut Scenario,
     fork: &Fork,
-    step: u32,
-    glitch: Glitch,
-    later: u32,
-    other: Glitch,
+    first: Strike,
+    second: Strike,
     with_output: bool,
 ) -> Result<Vec<u8>, AllocError>
-    requires fork { IsForkFor (After step) (run_of scenario.old) scenario.old.step fork.now }
-    requires may { MayFollow scenario.old step later }
-    requires first { IsRight glitch }
-    requires second { IsRight other }
+    requires fork { IsForkFor (After first.step) (run_of scenario.old) scenario.old.step fork.now }
+    requires may { MayFollow scenario.old first.step second.step }
+    requires right { IsRight first.glitch }
+    requires right_too { IsRight second.glitch }
     ensures same { scenario.new ≡ scenario.old }
-    ensures outcome { IfOk result (λ text. IsOutcome with_output scenario.old (Twice step glitch later other) text.items) }
+    ensures outcome { IfOk result (λ text. IsOutcome with_output scenario.old (Twice first.step first.glitch second.step second.glitch) text.items) }
 {
     edits_follow();
-    let first = Change::Once { step, glitch };
-    scenario.edit(first.edit())?;
-    let told = outcome_of_second(course, scenario, fork, later, other, with_output);
+    let Strike { step, glitch } = first;
+    let change = Change::Once { step, glitch };
+    scenario.edit(change.edit())?;
+    let told = outcome_of_second(
+        course,
+        scenario,
+        fork,
+        second.step,
+        second.glitch,
+        with_output,
+    );
     unmark(scenario);
     told
 }
@@ -228,16 +241,14 @@ pub(crate) fn outcome_of(
             glitch,
             later,
             other,
-        } => outcome_of_two(
-            course,
-            scenario,
-            fork,
-            step,
-            glitch,
-            later,
-            other,
-            with_output,
-        ),
+        } => {
+            let first = Strike { step, glitch };
+            let second = Strike {
+                step: later,
+                glitch: other,
+            };
+            outcome_of_two(course, scenario, fork, first, second, with_output)
+        }
         _ => outcome_of_one(course, scenario, fork, standing, change, with_output),
     }
 }

@@ -17,11 +17,12 @@ ghost use Rattle.sweeps.specs.declared.counting.Counts.{Counts as CountsOf};
 
 use crate::counting::Counts;
 use crate::outcomes::{outcome_of_one, unmark};
+use crate::settings::Settings;
 use crate::sites::{Site, standing_step};
 use checkpoints::Fork;
 use scenario::Scenario;
 use scenario::laws::edits_follow;
-use std::alloc::{AllocError, Global};
+use std::alloc::AllocError;
 use sweep_plans::{Change, Glitch, Plan, Range, Standing};
 
 /// The first instruction of some pairs.
@@ -236,12 +237,11 @@ fn try_after(
 /// Tries the pairs at a site, if they were asked for.
 #[tactic(auto, unfolding(crate::specs::Standing::pairs_at))]
 pub(crate) fn try_pairs(
-    alloc: Global,
+    settings: Settings,
     scenario: &mut Scenario,
     counts: &mut Counts,
     plan: &Plan,
     site: &Site,
-    with_output: bool,
     out: &mut Vec<u8>,
 ) -> Result<(), AllocError>
     requires near { scenario.old.step ≤ limit_of scenario.old }
@@ -249,7 +249,7 @@ pub(crate) fn try_pairs(
     requires below { IsBelow scenario.old.step site.now.standing }
     requires fork { Continues scenario.old site.now.standing site.now.fork }
     ensures same { scenario.new ≡ scenario.old }
-    ensures met { OnOk result (CountsMore counts.old counts.new with_output scenario.old (pairs_at scenario.old plan.now site.now.standing) out.old.items out.new.items) }
+    ensures met { OnOk result (CountsMore counts.old counts.new settings.with_output scenario.old (pairs_at scenario.old plan.now site.now.standing) out.old.items out.new.items) }
 {
     let Standing::Step { step, .. } = site.standing else {
         return Ok(());
@@ -266,10 +266,8 @@ pub(crate) fn try_pairs(
         step,
         steps: last - site.fork.step,
         code: plan.code,
-        with_output,
+        with_output: settings.with_output,
     };
-    counts
-        .recall
-        .foresee(alloc, scenario, &site.fork, end, with_output)?;
+    counts.recall.foresee(settings, scenario, &site.fork, end)?;
     try_after(scenario, counts, &site.fork, first, end, out)
 }

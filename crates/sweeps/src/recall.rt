@@ -9,6 +9,7 @@ ghost use Rattle.sweeps.specs.Standing.{state_before};
 
 use crate::endings::{Ends, is_long};
 use crate::lone_skips::LoneSkips;
+use crate::settings::Settings;
 use checkpoints::Fork;
 use scenario::Scenario;
 use std::alloc::{AllocError, Global};
@@ -135,15 +136,14 @@ impl Recall {
     /// be too many.
     pub(crate) fn foresee(
         &mut self,
-        alloc: Global,
+        settings: Settings,
         scenario: &Scenario,
         before: &Fork,
         end: u32,
-        with_output: bool,
     ) -> Result<(), AllocError>
         requires within { end ≤ scenario.now.step }
         requires near { scenario.now.step ≤ limit_of scenario.now }
-        ensures { OnOk result (Recalls with_output scenario.now self.old → Recalls with_output scenario.now self.new) }
+        ensures { OnOk result (Recalls settings.with_output scenario.now self.old → Recalls settings.with_output scenario.now self.new) }
     {
         let step = before.step;
         if self.lone.reaches(step, end) {
@@ -152,7 +152,7 @@ impl Recall {
         if end.saturating_sub(step) > MOST_FORESEEN {
             return Ok(());
         }
-        self.lone = LoneSkips::along(alloc, scenario, &before.machine, step, end, with_output)?;
+        self.lone = LoneSkips::along(settings, scenario, &before.machine, step, end)?;
         Ok(())
     }
 
@@ -170,20 +170,19 @@ impl Recall {
     /// Holds machines of the unedited run from a fork on, before which a number of changes are tried, if that pays.
     pub(crate) fn hold_ends(
         &mut self,
-        alloc: Global,
+        settings: Settings,
         scenario: &Scenario,
         before: &Fork,
         count: usize,
-        with_output: bool,
     ) -> Result<(), AllocError>
         requires { before.now.step ≤ scenario.now.step }
         ensures step { OnOk result (self.new.step ≡ self.old.step) }
-        ensures so { OnOk result (Recalls with_output scenario.now self.old → Recalls with_output scenario.now self.new) }
+        ensures so { OnOk result (Recalls settings.with_output scenario.now self.old → Recalls settings.with_output scenario.now self.new) }
     {
         if !self.wants_ends(scenario, before.step, count) {
             return Ok(());
         }
-        let ends = Ends::along(alloc, scenario, before, with_output)?;
+        let ends = Ends::along(settings, scenario, before)?;
         self.ends = Some(ends);
         Ok(())
     }

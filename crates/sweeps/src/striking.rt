@@ -20,12 +20,13 @@ use crate::endings::{is_long, often_meets, outcome_of_glitch};
 use crate::meeting::try_change_at;
 use crate::outcomes::outcome_of;
 use crate::recall::{Recall, SharedOutcome};
+use crate::settings::Settings;
 use crate::sites::Site;
 use guest_machine::{Machine, Register, Setup, Touched};
 use pruning::Passing;
 use pruning::laws::{runs_keep, runs_keep_words, runs_overwrite};
 use scenario::Scenario;
-use std::alloc::{AllocError, Global};
+use std::alloc::AllocError;
 use sweep_plans::{Change, Glitch};
 
 /// Returns what a register is to the next step of a machine; x0 counts as one that the step looks at.
@@ -102,6 +103,13 @@ fn keep(
     }
 }
 
+/// A step, and the ranges that it touches if they are known.
+#[derive(Clone, Copy)]
+pub(crate) struct NextStep {
+    pub(crate) step: u32,
+    pub(crate) touched: Option<Touched>,
+}
+
 /// A glitch just before a step, and the ranges that the step touches if they are known.
 #[derive(Clone, Copy)]
 struct Struck {
@@ -112,21 +120,20 @@ struct Struck {
 
 /// Returns the outcome of a glitch at a site: the one that is recalled, or that of a run. Afterwards the scenario is as it was.
 fn outcome_at(
-    alloc: Global,
+    settings: Settings,
     scenario: &mut Scenario,
     counts: &Counts,
     site: &Site,
     struck: Struck,
     passing: Passing,
-    with_output: bool,
 ) -> Result<SharedOutcome, AllocError>
     requires before { IsBefore scenario.old struck.step site.now }
     requires at { IsAt scenario.old site.now.standing (Once struck.step struck.glitch) }
     requires here { counts.now.recall.step ≡ struck.step }
     requires passing { Passes (state_before scenario.old struck.step) scenario.old.setup struck.glitch passing }
     ensures same { scenario.new ≡ scenario.old }
-    ensures outcome { IfOk result (λ outcome. Recalls with_output scenario.old counts.now.recall
-        → IsOutcome with_output scenario.old (Once struck.step struck.glitch) outcome) }
+    ensures outcome { IfOk result (λ outcome. Recalls settings.with_output scenario.old counts.now.recall
+        → IsOutcome settings.with_output scenario.old (Once struck.step struck.glitch) outcome) }
 {
     let Struck { step, glitch, .. } = struck;
     let recall = &counts.recall;
@@ -138,16 +145,7 @@ fn outcome_at(
         && is_long(scenario, step)
     {
         let fork = &site.fork;
-        return outcome_of_glitch(
-            alloc,
-            scenario,
-            recall,
-            ends,
-            fork,
-            step,
-            glitch,
-            with_output,
-        );
+        return outcome_of_glitch(settings, scenario, recall, ends, fork, step, glitch);
     }
     let change = Change::Once { step, glitch };
     let text = outcome_of(
@@ -156,19 +154,18 @@ fn outcome_at(
         &site.fork,
         site.standing,
         change,
-        with_output,
+        settings.with_output,
     )?;
-    recall.outcome(alloc, text)
+    recall.outcome(settings.alloc, text)
 }
 
 /// Applies a glitch at a site, and no other edit, counts the outcome, and appends its row. Afterwards the scenario is as it was.
 fn try_glitch(
-    alloc: Global,
+    settings: Settings,
     scenario: &mut Scenario,
     counts: &mut Counts,
     site: &Site,
     struck: Struck,
-    with_output: bool,
     out: &mut Vec<u8>,
 ) -> Result<(), AllocError>
     requires before { IsBefore scenario.old struck.step site.now }
@@ -178,7 +175,7 @@ fn try_glitch(
     requires here { counts.old.recall.step ≡ struck.step }
     ensures same { scenario.new ≡ scenario.old }
     ensures here { OnOk result (counts.new.recall.step ≡ struck.step) }
-    ensures met { OnOk result (CountsMore counts.old counts.new with_output scenario.old (Once struck.step struck.glitch ∷ []) out.old.items out.new.items) }
+    ensures met { OnOk result (CountsMore counts.old counts.new settings.with_output scenario.old (Once struck.step struck.glitch ∷ []) out.old.items out.new.items) }
 {
     let Struck {
         step,
@@ -186,7 +183,7 @@ fn try_glitch(
         touched,
     } = struck;
     let passing = passing_of(&site.fork.machine, scenario.setup(), touched, glitch);
-    let outcome = outcome_at(alloc, scenario, counts, site, struck, passing, with_output)?;
+    let outcome = outcome_at(settings, scenario, counts, site, struck, passing)?;
     let steps = scenario.step() - site.fork.step;
     counts.count(Change::Once { step, glitch }, outcome.text(), steps, out)?;
     keep(&mut counts.recall, glitch, passing, outcome)
@@ -195,69 +192,55 @@ fn try_glitch(
 /// Applies a change at a site just before a step, and no other edit, counts the outcome, and appends its row. Afterwards the scenario is as it
 /// was.
 fn try_change(
-    alloc: Global,
+    settings: Settings,
     scenario: &mut Scenario,
     counts: &mut Counts,
     site: &Site,
-    step: u32,
-    touched: Option<Touched>,
+    next: NextStep,
     change: Change,
-    with_output: bool,
     out: &mut Vec<u8>,
 ) -> Result<(), AllocError>
-    requires before { IsBefore scenario.old step site.now }
+    requires before { IsBefore scenario.old next.step site.now }
     requires at { IsAt scenario.old site.now.standing change }
-    requires touched { IfSome touched (IsTouched site.now.fork.machine scenario.old.setup) }
-    requires here { counts.old.recall.step ≡ step }
+    requires touched { IfSome next.touched (IsTouched site.now.fork.machine scenario.old.setup) }
+    requires here { counts.old.recall.step ≡ next.step }
     ensures same { scenario.new ≡ scenario.old }
-    ensures here { OnOk result (counts.new.recall.step ≡ step) }
-    ensures met { OnOk result (CountsMore counts.old counts.new with_output scenario.old (change ∷ []) out.old.items out.new.items) }
+    ensures here { OnOk result (counts.new.recall.step ≡ next.step) }
+    ensures met { OnOk result (CountsMore counts.old counts.new settings.with_output scenario.old (change ∷ []) out.old.items out.new.items) }
 {
     match change {
         Change::Once { glitch, .. } => {
             let struck = Struck {
-                step,
+                step: next.step,
                 glitch,
-                touched,
+                touched: next.touched,
             };
-            try_glitch(alloc, scenario, counts, site, struck, with_output, out)
+            try_glitch(settings, scenario, counts, site, struck, out)
         }
-        _ => try_change_at(scenario, counts, site, change, with_output, out),
+        _ => try_change_at(scenario, counts, site, change, settings.with_output, out),
     }
 }
 
 /// Applies each of some changes just before a step, one at a time, counts the outcomes, and appends the rows. Afterwards the scenario is as it
 /// was.
 pub(crate) fn try_changes(
-    alloc: Global,
+    settings: Settings,
     scenario: &mut Scenario,
     counts: &mut Counts,
     site: &Site,
-    step: u32,
-    touched: Option<Touched>,
+    next: NextStep,
     changes: &[Change],
-    with_output: bool,
     out: &mut Vec<u8>,
 ) -> Result<(), AllocError>
-    requires before { IsBefore scenario.old step site.now }
+    requires before { IsBefore scenario.old next.step site.now }
     requires at { All (IsAt scenario.old site.now.standing) changes.now }
-    requires touched { IfSome touched (IsTouched site.now.fork.machine scenario.old.setup) }
-    requires here { counts.old.recall.step ≡ step }
+    requires touched { IfSome next.touched (IsTouched site.now.fork.machine scenario.old.setup) }
+    requires here { counts.old.recall.step ≡ next.step }
     ensures same { scenario.new ≡ scenario.old }
-    ensures met { OnOk result (CountsMore counts.old counts.new with_output scenario.old changes.now out.old.items out.new.items) }
+    ensures met { OnOk result (CountsMore counts.old counts.new settings.with_output scenario.old changes.now out.old.items out.new.items) }
 {
     for change in changes {
-        try_change(
-            alloc,
-            scenario,
-            counts,
-            site,
-            step,
-            touched,
-            *change,
-            with_output,
-            out,
-        )?;
+        try_change(settings, scenario, counts, site, next, *change, out)?;
     }
     Ok(())
 }
@@ -265,34 +248,27 @@ pub(crate) fn try_changes(
 /// Has what is recalled go on to a step; then applies each of some changes just before it, one at a time, counts the outcomes, and appends the
 /// rows. Afterwards the scenario is as it was.
 pub(crate) fn try_step(
-    alloc: Global,
+    settings: Settings,
     scenario: &mut Scenario,
     counts: &mut Counts,
     site: &Site,
     step: u32,
     changes: &[Change],
-    with_output: bool,
     out: &mut Vec<u8>,
 ) -> Result<(), AllocError>
     requires before { IsBefore scenario.old step site.now }
     requires at { All (IsAt scenario.old site.now.standing) changes.now }
     requires runs { is_running (state_before scenario.old step).core.status ≡ true }
     ensures same { scenario.new ≡ scenario.old }
-    ensures met { OnOk result (CountsMore counts.old counts.new with_output scenario.old changes.now out.old.items out.new.items) }
+    ensures met { OnOk result (CountsMore counts.old counts.new settings.with_output scenario.old changes.now out.old.items out.new.items) }
 {
     counts
         .recall
-        .hold_ends(alloc, scenario, &site.fork, changes.len(), with_output)?;
+        .hold_ends(settings, scenario, &site.fork, changes.len())?;
     counts.recall.arrive(step);
-    try_changes(
-        alloc,
-        scenario,
-        counts,
-        site,
+    let next = NextStep {
         step,
-        None,
-        changes,
-        with_output,
-        out,
-    )
+        touched: None,
+    };
+    try_changes(settings, scenario, counts, site, next, changes, out)
 }

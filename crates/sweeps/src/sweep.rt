@@ -11,7 +11,8 @@ ghost use Rattle.sweeps.specs.Sites.{IsLastFork};
 
 use crate::beginning::{scenario_at, unedited_run};
 use crate::counting::Counts;
-use crate::entering::{try_site, unedited_table};
+use crate::entering::{Coverage, try_site, unedited_table};
+use crate::settings::Settings;
 use crate::sites::{Origin, find, keep_last_fork};
 use checkpoints::{Fork, Sides, Trail};
 use guest_elf::Image;
@@ -20,6 +21,15 @@ use scenario::Scenario;
 use std::alloc::{AllocError, Global};
 use suppressions::Suppression;
 use sweep_plans::Plan;
+
+/// What a sweep is asked for besides its places: the step at which outcomes are, whether they have the number of bytes written, and the range
+/// of addresses of which a table says what the runs have executed.
+#[derive(Clone, Copy)]
+pub struct Asked {
+    pub step: u32,
+    pub with_output: bool,
+    pub range: Span,
+}
 
 /// A run whose changes are tried individually, one after another; their outcomes so far; the number of edits; and the number of steps that
 /// they need by definition.
@@ -40,8 +50,7 @@ pub struct Sweep<'a> {
     ghost copied: { input.items ≡ scenario.setup.input },
     with_output: bool,
     counts: Counts,
-    range: Span,
-    table: Vec<Sides>,
+    coverage: Coverage,
 }
 
 impl<'a> Sweep<'a> {
@@ -63,22 +72,20 @@ impl<'a> Sweep<'a> {
         image: Image<'a>,
         input: Vec<u8>,
         suppressions: Vec<Suppression>,
-        step: u32,
-        with_output: bool,
-        range: Span,
+        asked: Asked,
         out: &mut Vec<u8>,
     ) -> Result<Self, AllocError>
         requires short { length input.items ≤ longest_input }
-        requires near { step ≤ furthest_step }
-        ensures scenario { IfOk result (λ sweep. scenario_of sweep ≡ at_step (begun_within (limit_for step) image.entry input.items suppressions.items) step) }
-        ensures output { IfOk result (λ sweep. tells_output sweep ≡ with_output) }
+        requires near { asked.step ≤ furthest_step }
+        ensures scenario { IfOk result (λ sweep. scenario_of sweep ≡ at_step (begun_within (limit_for asked.step) image.entry input.items suppressions.items) asked.step) }
+        ensures output { IfOk result (λ sweep. tells_output sweep ≡ asked.with_output) }
         ensures met { IfOk result (λ sweep. (first : List ℕ) × HasMet sweep first [] × (out.new.items ≡ out.old.items ++ rows_text first [])) }
-        ensures range { IfOk result (λ sweep. range_of sweep ≡ range) }
+        ensures range { IfOk result (λ sweep. range_of sweep ≡ asked.range) }
         ensures covered { IfOk result (λ sweep. HasCovered sweep []) }
     {
         let copy = input.as_slice().to_vec(alloc)?;
-        let scenario = scenario_at(alloc, image, input, suppressions, step)?;
-        Sweep::over(alloc, scenario, copy, with_output, range, out)
+        let scenario = scenario_at(alloc, image, input, suppressions, asked.step)?;
+        Sweep::over(alloc, scenario, copy, asked.with_output, asked.range, out)
     }
 
     /// Returns a sweep of an unedited scenario, with a copy of its input. Executes its run, and appends the outcome.
@@ -112,8 +119,7 @@ impl<'a> Sweep<'a> {
             input,
             with_output,
             counts,
-            range,
-            table,
+            coverage: Coverage { range, table },
         })
     }
 
@@ -144,15 +150,17 @@ impl<'a> Sweep<'a> {
         let Some(site) = found else {
             return Ok(());
         };
+        let settings = Settings {
+            alloc: self.alloc,
+            with_output: self.with_output,
+        };
         try_site(
-            self.alloc,
+            settings,
             &mut self.scenario,
             &mut self.counts,
             plan,
             &site,
-            self.range.start,
-            &mut self.table,
-            self.with_output,
+            &mut self.coverage,
             out,
         )?;
         keep_last_fork(&self.scenario, &mut self.last_fork, site);
@@ -164,7 +172,7 @@ impl<'a> Sweep<'a> {
     pub fn range(&self) -> Span
         ensures { result ≡ range_of self.now }
     {
-        self.range
+        self.coverage.range
     }
 
     /// Returns that table.
@@ -172,7 +180,7 @@ impl<'a> Sweep<'a> {
     pub fn table(&self) -> &[Sides]
         ensures { result.now ≡ table_of self.now }
     {
-        &self.table
+        &self.coverage.table
     }
 
     /// Returns how far the places of the table are apart.

@@ -12,6 +12,6 @@ invariant-loop-k l = record {
       → Shows l.machine (pre start l.setup l.marks l.k);
   none : NoneUntil l.k l.next l.marks;
   part : (start : State) → Shows l.fn.machine (pre start l.setup l.marks l.from)
-      → length (pre start l.setup l.marks l.from).output ≤ l.range.start
-      → l.bytes.items ≡ part l.range (pre start l.setup l.marks l.k).output;
+      → length (pre start l.setup l.marks l.from).output ≤ l.fn.wanted.range.start
+      → l.bytes.items ≡ part l.fn.wanted.range (pre start l.setup l.marks l.k).output;
 }

@@ -14,7 +14,7 @@ loop-at-init c = record {
   later = omega arith;
   within = c.requires.forward;
   rows = refl;
-  extends = λ start h. extends-none start c.args.setup.now c.args.marks.now c.args.first c.args.apart c.args.from _;
+  extends = λ start h. extends-none start c.args.setup.now c.args.marks.now c.args.rows.first c.args.rows.apart c.args.from _;
 }
 
 pub loop-at-preserved : goal.loop-at-preserved
@@ -35,7 +35,7 @@ loop-at-preserved c =
       later = omega (arith, inv.later, on);
       within = omega (arith, done.within, quiet.within);
       rows = done.rows ∙ inv.rows;
-      extends = λ start h. extends-then start c.args.setup.now marks c.args.first c.args.apart c.args.from at _ _ _ _
+      extends = λ start h. extends-then start c.args.setup.now marks c.args.rows.first c.args.rows.apart c.args.from at _ _ _ _
           inv.rows (inv.extends start h)
           (done.extends start marks none (c.in_ok-marked.ensures.shows _ (inv.shows start h)));
     }
@@ -47,9 +47,9 @@ returns-then-not-is_running-clause-extends c start h =
     let setup = c.args.setup.now in
     let marks = c.args.marks.now in
     let halted = sym (c.if-not-is_running.ensures _ (inv.shows start h)) in
-    extends-then start setup marks c.args.first c.args.apart c.args.from at c.args.to _ _ _ inv.rows
+    extends-then start setup marks c.args.rows.first c.args.rows.apart c.args.from at c.args.to _ _ _ inv.rows
     (inv.extends start h)
-    (extends-halted start setup marks c.args.first c.args.apart c.stays_halted.ensures at c.args.to _ (omega arith)
+    (extends-halted start setup marks c.args.rows.first c.args.rows.apart c.stays_halted.ensures at c.args.to _ (omega arith)
     halted)
 
 pub returns : goal.returns
@@ -60,6 +60,6 @@ returns c =
     let all : c.loop-at.at ≡ c.args.to = omega arith in record {
       shows = λ start h. subst (λ n. Shows c.loop-at.machine (pre start setup marks n)) all (inv.shows start h);
       rows = inv.rows;
-      extends = λ start h. subst (λ n. Extends start setup marks c.args.from n c.args.first c.args.apart
+      extends = λ start h. subst (λ n. Extends start setup marks c.args.from n c.args.rows.first c.args.rows.apart
           c.args.table.now.items c.loop-at.table.items) all (inv.extends start h);
     }

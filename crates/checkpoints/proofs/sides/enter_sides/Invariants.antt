@@ -15,7 +15,7 @@ invariant-loop-at l = record {
   within : l.at ≤ l.to;
   rows : length l.table.items ≡ length l.fn.table.items;
   extends : (start : State) → Shows l.fn.machine (pre start l.setup l.marks l.from)
-      → Extends start l.setup l.marks l.from l.at l.first l.apart l.fn.table.items l.table.items;
+      → Extends start l.setup l.marks l.from l.at l.fn.rows.first l.fn.rows.apart l.fn.table.items l.table.items;
 }
 
 abbrev pub decreases-loop-at : goal.decreases-loop-at

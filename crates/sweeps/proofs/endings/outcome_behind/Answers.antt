@@ -15,7 +15,7 @@ returns-then-is_ahead c =
     c.setup.ensures c.marks.ensures c.requires.within (c.in_ok-next.ensures.fork s one) leads fork in
     let shows = subst (λ k. Shows c.in_ok-next.next.machine (state_before now k)) c.in_ok-next.ensures.step next.shows
     in
-    outline-behind c.args.with_output now from outcome c.requires.quiet c.requires.within
+    outline-behind c.args.settings.with_output now from outcome c.requires.quiet c.requires.within
     (told ends.1 (state_before now from) shows)) c.outcome_from.ensures
 
 pub returns : goal.returns
@@ -27,5 +27,5 @@ returns c =
     c.setup.ensures c.marks.ensures c.requires.within (c.in_ok-next.ensures.fork s one) leads fork in
     let shows = subst (λ k. Shows c.in_ok-next.next.machine (state_before now k)) c.in_ok-next.ensures.step next.shows
     in
-    outline-behind c.args.with_output now from outcome c.requires.quiet c.requires.within
+    outline-behind c.args.settings.with_output now from outcome c.requires.quiet c.requires.within
     (told ends.0 (state_before now from) shows)) c.outcome_from-2.ensures

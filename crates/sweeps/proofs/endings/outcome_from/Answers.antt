@@ -9,17 +9,17 @@ use Rattle.sweeps.proofs.endings.outcome_from.Goals as goal
 pub returns-then-pursued : goal.returns-then-pursued
 returns-then-pursued c ends s shows =
     let sc = c.args.scenario.now in
-    let wo = c.args.with_output in
+    let wo = c.args.settings.with_output in
     let pursued = c.in_ok-pursued.pursued in
     let is = c.in_ok-pursued.ensures in
     subst (Outlines wo sc (pre s sc.setup [] (sc.step - c.args.from))) (sym c.in_ok-outcome.ensures.cases)
-    (met-end wo sc c.args.landmarks.now pursued.machine c.args.lead c.args.from pursued.step c.args.known.now s ends
+    (met-end wo sc c.args.joint.landmarks.now pursued.machine c.args.joint.lead c.args.from pursued.step c.args.joint.known.now s ends
     (is.met c.if-pursued.true) is.low is.high (is.shows s shows))
 
 pub returns : goal.returns
 returns c =
     let sc = c.args.scenario.now in
-    let wo = c.args.with_output in
+    let wo = c.args.settings.with_output in
     let from = c.args.from in
     let pursued = c.in_ok-pursued.pursued in
     let is = c.in_ok-pursued.ensures in

@@ -75,10 +75,10 @@ returns-clause-outcome c =
     let leads = c.edits_follow.ensures sc edit (glitch-taken sc c.args.step c.args.glitch c.requires.near few
     c.requires.right) in
     IfOk-weaker c.outcome_behind-told.result _ _
-    (λ outcome told ends. subst (λ (s : Scenario). IsOutlineOf c.args.with_output s outcome) after
+    (λ outcome told ends. subst (λ (s : Scenario). IsOutlineOf c.args.settings.with_output s outcome) after
     (told c.args.step (run_of sc)
     (subst (λ (s : Scenario). LeadsTo (After c.args.step) (run_of sc) (run_of s)) (sym after) leads)
     (subst (λ (s : Scenario). IsForkFor (After c.args.step) (run_of sc) s.step c.args.fork.now) (sym after)
     c.requires.fork)
-    (ends-struck c.args.with_output sc now c.args.step c.args.glitch c.args.ends.now after ends)))
+    (ends-struck c.args.settings.with_output sc now c.args.step c.args.glitch c.args.ends.now after ends)))
     c.outcome_behind-told.ensures

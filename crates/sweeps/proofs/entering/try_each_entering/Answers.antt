@@ -1,6 +1,7 @@
 use Rattle.std.proofs.Common.{◌∷◌, [], List, get_or, take, take_all, refl, sym, ◌∙◌, subst, arith}
 use Rattle.std.proofs.lemmas.List.{take_more}
 use Rattle.checkpoints.specs.Forks.{IsForkFor}
+use Rattle.run_values.specs.declared.span.Span.{Span}
 use Rattle.scenario.specs.Edits.{row}
 use Rattle.scenario.specs.Scenario.{Scenario, run_of}
 use Rattle.sweep_plans.specs.Changes.{edit_of}
@@ -15,9 +16,10 @@ use Rattle.sweeps.proofs.entering.try_each_entering.Goals as goal
 
 pub loop-change-init : goal.loop-change-init
 loop-change-init c = record {
+  range = refl;
   same = refl;
   met = counts-none c.args.counts.now c.args.with_output c.args.scenario.now c.args.out.now.items;
-  covers = covers-none c.args.scenario.now c.args.first c.args.table.now.items;
+  covers = covers-none c.args.scenario.now c.args.coverage.now.range.start c.args.coverage.now.table.items;
 }
 
 pub loop-change-preserved : goal.loop-change-preserved
@@ -31,6 +33,7 @@ loop-change-preserved c =
     c.loop-change.out.items c.try_entering.new.out.items) c.loop-change.invariant.same
     c.in_ok-try_entering.ensures.met in
     record {
+      range = c.try_entering.ensures.range ∙ c.loop-change.invariant.range;
       same = c.try_entering.ensures.same ∙ c.loop-change.invariant.same;
       met = subst (λ (xs : List Change). CountsMore c.args.counts.now c.try_entering.new.counts wo sc xs
           c.args.out.now.items
@@ -38,12 +41,15 @@ loop-change-preserved c =
           (counts-join wo sc c.args.counts.now c.loop-change.counts c.try_entering.new.counts (take i changes)
           (change ∷ [])
           c.args.out.now.items c.loop-change.out.items c.try_entering.new.out.items c.loop-change.invariant.met here);
-      covers = subst (λ (xs : List Change). CoversMore sc c.args.first xs c.args.table.now.items
-          c.try_entering.new.table.items) (sym (take_more changes i (Byte 0 0) c.loop-change-test.true))
-          (covers-join sc c.args.first (take i changes) (change ∷ []) c.args.table.now.items c.loop-change.table.items
-          c.try_entering.new.table.items c.loop-change.invariant.covers
-          (subst (λ (s : Scenario). CoversMore s c.args.first (change ∷ []) c.loop-change.table.items
-          c.try_entering.new.table.items) c.loop-change.invariant.same c.in_ok-try_entering.ensures.covers));
+      covers = subst (λ (xs : List Change). CoversMore sc c.args.coverage.now.range.start xs c.args.coverage.now.table.items
+          c.try_entering.new.coverage.table.items) (sym (take_more changes i (Byte 0 0) c.loop-change-test.true))
+          (covers-join sc c.args.coverage.now.range.start (take i changes) (change ∷ []) c.args.coverage.now.table.items c.loop-change.coverage.table.items
+          c.try_entering.new.coverage.table.items c.loop-change.invariant.covers
+          (subst (λ (r : Span). CoversMore sc r.start (change ∷ []) c.loop-change.coverage.table.items
+          c.try_entering.new.coverage.table.items) c.loop-change.invariant.range
+          (subst (λ (s : Scenario). CoversMore s c.loop-change.coverage.range.start (change ∷ [])
+          c.loop-change.coverage.table.items c.try_entering.new.coverage.table.items) c.loop-change.invariant.same
+          c.in_ok-try_entering.ensures.covers)));
     }
 
 pub try_entering-requires-clause-stands : goal.try_entering-requires-clause-stands
@@ -71,6 +77,6 @@ returns-clause-met c =
 
 pub returns-clause-covers : goal.returns-clause-covers
 returns-clause-covers c =
-    subst (λ (xs : List Change). CoversMore c.args.scenario.now c.args.first xs c.args.table.now.items
-    c.loop-change.table.items)
+    subst (λ (xs : List Change). CoversMore c.args.scenario.now c.args.coverage.now.range.start xs c.args.coverage.now.table.items
+    c.loop-change.coverage.table.items)
     (take_all c.loop-change.change-index c.args.changes.now (omega arith)) c.loop-change.invariant.covers

@@ -9,10 +9,10 @@ use Rattle.sweeps.proofs.entering.try_site.Goals as goal
 pub returns-then-is_empty-clause-covers : goal.returns-then-is_empty-clause-covers
 returns-then-is_empty-clause-covers c =
     let sc = c.args.scenario.now in
-    let table = c.args.table.now.items in
+    let table = c.args.coverage.now.table.items in
     let all = all_changes sc c.args.plan.now (Some c.args.site.now.standing) in
     let none : length table ≡ 0 = grind (arith, nat_tests, c.is_empty.ensures, c.if-is_empty.true) in
-    on_ok_weaker c.try_place.result (λ met may. covers-empty sc c.args.first all table table (no-length table none)
+    on_ok_weaker c.try_place.result (λ met may. covers-empty sc c.args.coverage.now.range.start all table table (no-length table none)
     refl) c.try_place.ensures.met
 
 pub try_byte-requires-clause-byte : goal.try_byte-requires-clause-byte
@@ -24,8 +24,8 @@ returns-in-Byte-clause-covers c = on_ok_weaker c.try_byte.result (λ covers may.
 pub returns-in_default-clause-covers : goal.returns-in_default-clause-covers
 returns-in_default-clause-covers c =
     let sc = c.args.scenario.now in
-    let table = c.args.table.now.items in
+    let table = c.args.coverage.now.table.items in
     let standing = c.args.site.now.standing in
     let all = all_changes sc c.args.plan.now (Some standing) in
-    on_ok_weaker c.try_place-in_default.result (λ met may. covers-empty sc c.args.first all table table
+    on_ok_weaker c.try_place-in_default.result (λ met may. covers-empty sc c.args.coverage.now.range.start all table table
     (not-byte standing table c.in_default.not-Byte may) refl) c.try_place-in_default.ensures.met

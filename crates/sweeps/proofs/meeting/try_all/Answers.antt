@@ -22,10 +22,10 @@ try_there-requires-clause-at c =
 pub returns-clause-met : goal.returns-clause-met
 returns-clause-met c =
     on_ok_weaker c.try_there.result (λ met.
-    subst (λ (xs : List Change). CountsMore c.args.counts.now c.try_there.new.counts c.args.with_output
+    subst (λ (xs : List Change). CountsMore c.args.counts.now c.try_there.new.counts c.args.settings.with_output
     c.args.scenario.now xs c.args.out.now.items c.try_there.new.out.items) (c.deref.ensures.value
     ∙ c.in_ok-changes.ensures)
-    (counts-same c.args.with_output c.args.scenario.now c.args.counts.now c.hold_course.new.self
+    (counts-same c.args.settings.with_output c.args.scenario.now c.args.counts.now c.hold_course.new.self
     c.try_there.new.counts c.deref.result.now c.args.out.now.items c.try_there.new.out.items
     c.in_ok-hold_course.ensures met))
     c.try_there.ensures.met

@@ -11,7 +11,7 @@ use Rattle.sweeps.proofs.meeting.try_place.Goals as goal
 pub returns-clause-met : goal.returns-clause-met
 returns-clause-met c =
     let sc = c.args.scenario.now in
-    let wo = c.args.with_output in
+    let wo = c.args.settings.with_output in
     let plan = c.args.plan.now in
     let standing = c.args.site.now.standing in
     let memory = subst (λ (s : Scenario). CountsMore c.try_all.new.counts c.try_memory.new.counts wo s

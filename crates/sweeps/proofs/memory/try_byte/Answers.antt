@@ -9,7 +9,7 @@ use Rattle.sweeps.proofs.memory.try_byte.Goals as goal
 
 pub returns-then-byte-ne-READ-clause-met : goal.returns-then-byte-ne-READ-clause-met
 returns-then-byte-ne-READ-clause-met c =
-    counts-unread c.args.scenario.now c.args.turning.step c.args.addr c.args.table.now c.args.turning.with_output
+    counts-unread c.args.scenario.now c.args.turning.step c.args.addr c.args.table.now c.args.turning.settings.with_output
     c.args.counts.now c.args.out.now.items c.requires.table c.ranges.addr.fits
     (λ one. c.if-byte-ne-READ.true (c.byte.ensures.byte ∙ one))
 
@@ -24,7 +24,7 @@ try_turned-requires-clause-at c =
 pub returns-clause-met : goal.returns-clause-met
 returns-clause-met c =
     let sc = c.args.scenario.now in
-    let wo = c.args.turning.with_output in
+    let wo = c.args.turning.settings.with_output in
     let up : c.args.addr + 1 ≡ suc c.args.addr = omega arith in
     let read = read-there sc c.args.turning.step c.args.table.now c.requires.table c.args.addr c.ranges.addr.fits
     (sym c.byte.ensures.byte ∙ c.if-byte-ne-READ.false) in

@@ -8,7 +8,7 @@ loop-word-preserved c =
     let found = c.in-Some.ensures.some in
     let sc = c.args.scenario.now in
     let step = c.args.turning.step in
-    let wo = c.args.turning.with_output in
+    let wo = c.args.turning.settings.with_output in
     let from = c.loop-word.from in
     let word = c.in-Some.word in
     let next : c.in-Some-checked_add.next ≡ word + 4 = search rules in
@@ -34,7 +34,7 @@ returns-in-None-clause-met c =
     let found = c.in-Some.ensures.some in
     let sc = c.args.scenario.now in
     let step = c.args.turning.step in
-    let wo = c.args.turning.with_output in
+    let wo = c.args.turning.settings.with_output in
     let from = c.loop-word.from in
     let word = c.in-Some.word in
     let aligned : word % 4 ≡ 0 = found.aligned in
@@ -57,7 +57,7 @@ returns-clause-met c =
     let step = c.args.turning.step in
     let from = c.loop-word.from in
     let low : from ≤ 4294967296 = let within = inv.within in omega (arith, within) in
-    counts-past sc step 0 from 4294967296 c.args.turning.with_output c.args.counts.now c.loop-word.counts
+    counts-past sc step 0 from 4294967296 c.args.turning.settings.with_output c.args.counts.now c.loop-word.counts
     c.args.out.now.items c.loop-word.out.items
     (turned-past sc step from 4294967296 low
     (unread-between sc step c.args.table.now c.requires.table from 4294967296 inv.aligned (omega arith)

@@ -7,7 +7,7 @@ invariant-loop-word l = record {
   within : l.from < 2 ^ 32;
   aligned : l.from % 4 ≡ 0;
   same : l.scenario ≡ l.fn.scenario;
-  met : TurnsOn l.fn.scenario l.turning.step l.turning.with_output 0 l.from l.fn.counts l.fn.out.items l.counts
+  met : TurnsOn l.fn.scenario l.turning.step l.turning.settings.with_output 0 l.from l.fn.counts l.fn.out.items l.counts
       l.out.items;
 }
 

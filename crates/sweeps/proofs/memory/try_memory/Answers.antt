@@ -13,20 +13,20 @@ returns-in_default c =
     let sc = c.args.scenario.now in
     record {
       same = refl;
-      met = subst (λ (xs : List Change). CountsMore c.args.counts.now c.args.counts.now c.args.with_output sc xs
+      met = subst (λ (xs : List Change). CountsMore c.args.counts.now c.args.counts.now c.args.settings.with_output sc xs
           c.args.out.now.items c.args.out.now.items)
           (sym (no-memory sc c.args.plan.now c.args.site.now.standing c.in_default.not-Step))
-          (counts-none c.args.counts.now c.args.with_output sc c.args.out.now.items);
+          (counts-none c.args.counts.now c.args.settings.with_output sc c.args.out.now.items);
     }
 
 pub returns-then-not-plan-clause-met : goal.returns-then-not-plan-clause-met
 returns-then-not-plan-clause-met c =
     let sc = c.args.scenario.now in
-    subst (λ (xs : List Change). CountsMore c.args.counts.now c.args.counts.now c.args.with_output sc xs
+    subst (λ (xs : List Change). CountsMore c.args.counts.now c.args.counts.now c.args.settings.with_output sc xs
     c.args.out.now.items c.args.out.now.items)
     (sym (memory-off sc c.args.plan.now c.args.site.now.standing c.in-Step.step c.in-Step.pc c.in-Step.is_half
     c.in-Step.is c.if-not-plan.true))
-    (counts-none c.args.counts.now c.args.with_output sc c.args.out.now.items)
+    (counts-none c.args.counts.now c.args.settings.with_output sc c.args.out.now.items)
 
 pub first_accesses-requires-clause-before : goal.first_accesses-requires-clause-before
 first_accesses-requires-clause-before c =
@@ -46,7 +46,7 @@ pub returns-clause-met : goal.returns-clause-met
 returns-clause-met c =
     let sc = c.args.scenario.now in
     let step = c.in-Step.step in
-    let wo = c.args.with_output in
+    let wo = c.args.settings.with_output in
     let all = memory-on sc c.args.plan.now c.args.site.now.standing step c.in-Step.pc c.in-Step.is_half c.in-Step.is
     c.if-not-plan.false in
     on_ok_weaker c.try_bytes.result (λ on.

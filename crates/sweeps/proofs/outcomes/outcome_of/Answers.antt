@@ -21,13 +21,13 @@ outcome_of_two-requires-clause-may c =
     (two-at c.args.scenario.now c.args.standing c.in-Twice.step c.in-Twice.glitch c.in-Twice.later c.in-Twice.other
     (subst (IsAt c.args.scenario.now c.args.standing) c.in-Twice.is c.requires.at)).2
 
-pub outcome_of_two-requires-clause-first : goal.outcome_of_two-requires-clause-first
-outcome_of_two-requires-clause-first c =
+pub outcome_of_two-requires-clause-right : goal.outcome_of_two-requires-clause-right
+outcome_of_two-requires-clause-right c =
     (two-at c.args.scenario.now c.args.standing c.in-Twice.step c.in-Twice.glitch c.in-Twice.later c.in-Twice.other
     (subst (IsAt c.args.scenario.now c.args.standing) c.in-Twice.is c.requires.at)).0
 
-pub outcome_of_two-requires-clause-second : goal.outcome_of_two-requires-clause-second
-outcome_of_two-requires-clause-second c =
+pub outcome_of_two-requires-clause-right_too : goal.outcome_of_two-requires-clause-right_too
+outcome_of_two-requires-clause-right_too c =
     (two-at c.args.scenario.now c.args.standing c.in-Twice.step c.in-Twice.glitch c.in-Twice.later c.in-Twice.other
     (subst (IsAt c.args.scenario.now c.args.standing) c.in-Twice.is c.requires.at)).1
 

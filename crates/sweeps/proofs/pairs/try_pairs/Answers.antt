@@ -16,10 +16,10 @@ returns-in_default c =
     let sc = c.args.scenario.now in
     record {
       same = refl;
-      met = subst (λ (xs : List Change). CountsMore c.args.counts.now c.args.counts.now c.args.with_output sc xs
+      met = subst (λ (xs : List Change). CountsMore c.args.counts.now c.args.counts.now c.args.settings.with_output sc xs
           c.args.out.now.items c.args.out.now.items)
           (sym (no-pairs sc c.args.plan.now c.args.site.now.standing c.in_default.not-Step))
-          (counts-none c.args.counts.now c.args.with_output sc c.args.out.now.items);
+          (counts-none c.args.counts.now c.args.settings.with_output sc c.args.out.now.items);
     }
 
 pub try_after-requires-clause-fork : goal.try_after-requires-clause-fork
@@ -43,27 +43,27 @@ overflow_sub-first c =
 pub returns-then-not-plan-clause-met : goal.returns-then-not-plan-clause-met
 returns-then-not-plan-clause-met c =
     let sc = c.args.scenario.now in
-    subst (λ (xs : List Change). CountsMore c.args.counts.now c.args.counts.now c.args.with_output sc xs
+    subst (λ (xs : List Change). CountsMore c.args.counts.now c.args.counts.now c.args.settings.with_output sc xs
     c.args.out.now.items c.args.out.now.items)
     (sym (pairs-off sc c.args.plan.now c.args.site.now.standing c.in-Step.step c.in-Step.pc c.in-Step.is_half
     c.in-Step.is c.if-not-plan.true))
-    (counts-none c.args.counts.now c.args.with_output sc c.args.out.now.items)
+    (counts-none c.args.counts.now c.args.settings.with_output sc c.args.out.now.items)
 
 pub returns-then-end-step-clause-met : goal.returns-then-end-step-clause-met
 returns-then-end-step-clause-met c =
     let sc = c.args.scenario.now in
     let end : c.min-end.result ≡ min c.args.plan.now.steps.end sc.step = c.min-end.ensures
     ∙ ap (min c.args.plan.now.steps.end) c.step-last.ensures in
-    subst (λ (xs : List Change). CountsMore c.args.counts.now c.args.counts.now c.args.with_output sc xs
+    subst (λ (xs : List Change). CountsMore c.args.counts.now c.args.counts.now c.args.settings.with_output sc xs
     c.args.out.now.items c.args.out.now.items)
     (sym (pairs-short sc c.args.plan.now c.args.site.now.standing c.in-Step.step c.in-Step.pc c.in-Step.is_half
     c.in-Step.is (subst (λ n. n ≤ c.in-Step.step) end c.if-end-step.true)))
-    (counts-none c.args.counts.now c.args.with_output sc c.args.out.now.items)
+    (counts-none c.args.counts.now c.args.settings.with_output sc c.args.out.now.items)
 
 pub returns-clause-met : goal.returns-clause-met
 returns-clause-met c =
     let sc = c.args.scenario.now in
-    let wo = c.args.with_output in
+    let wo = c.args.settings.with_output in
     let old = c.args.counts.now in
     let out = c.args.out.now.items in
     let step = c.in-Step.step in

@@ -11,7 +11,7 @@ use Rattle.sweeps.proofs.striking.outcome_at.Goals as goal
 pub returns-in-Some-clause-outcome : goal.returns-in-Some-clause-outcome
 returns-in-Some-clause-outcome c h =
     let sc = c.args.scenario.now in
-    let wo = c.args.with_output in
+    let wo = c.args.settings.with_output in
     let glitch = c.args.struck.glitch in
     let same = c.requires.here in
     let told = of-found (IsRecalled c.args.counts.now.recall glitch c.args.passing) c.in_ok-outcome.field-0
@@ -23,7 +23,7 @@ returns-in-Some-clause-outcome c h =
 
 pub returns-clause-outcome : goal.returns-clause-outcome
 returns-clause-outcome c =
-    let known = AreEnds c.args.with_output c.args.scenario.now in
+    let known = AreEnds c.args.settings.with_output c.args.scenario.now in
     IfOk-weaker c.outcome_of_glitch.result _ _
     (λ outcome told h. told (of-found known c.args.counts.now.recall.ends c.in-Some-ends.ends c.in-Some-ends.is h.ends))
     c.outcome_of_glitch.ensures.outcome

@@ -9,23 +9,23 @@ use Rattle.sweeps.proofs.striking.try_change.Goals as goal
 
 pub try_glitch-requires-clause-at : goal.try_glitch-requires-clause-at
 try_glitch-requires-clause-at c =
-    (at-once c.args.scenario.now c.args.site.now.standing c.args.step c.in-Once.step c.in-Once.glitch
+    (at-once c.args.scenario.now c.args.site.now.standing c.args.next.step c.in-Once.step c.in-Once.glitch
     c.requires.before.standing
     (subst (IsAt c.args.scenario.now c.args.site.now.standing) c.in-Once.is c.requires.at)).1.0
 
 pub try_glitch-requires-clause-right : goal.try_glitch-requires-clause-right
 try_glitch-requires-clause-right c =
-    (at-once c.args.scenario.now c.args.site.now.standing c.args.step c.in-Once.step c.in-Once.glitch
+    (at-once c.args.scenario.now c.args.site.now.standing c.args.next.step c.in-Once.step c.in-Once.glitch
     c.requires.before.standing
     (subst (IsAt c.args.scenario.now c.args.site.now.standing) c.in-Once.is c.requires.at)).1.1
 
 pub returns-in-Once-clause-met : goal.returns-in-Once-clause-met
 returns-in-Once-clause-met c =
-    let step = (at-once c.args.scenario.now c.args.site.now.standing c.args.step c.in-Once.step c.in-Once.glitch
+    let step = (at-once c.args.scenario.now c.args.site.now.standing c.args.next.step c.in-Once.step c.in-Once.glitch
     c.requires.before.standing
     (subst (IsAt c.args.scenario.now c.args.site.now.standing) c.in-Once.is c.requires.at)).0 in
     on_ok_weaker c.try_glitch.result (λ met.
-    subst (λ (change : Change). CountsMore c.args.counts.now c.try_glitch.new.counts c.args.with_output
+    subst (λ (change : Change). CountsMore c.args.counts.now c.try_glitch.new.counts c.args.settings.with_output
     c.args.scenario.now (change ∷ []) c.args.out.now.items c.try_glitch.new.out.items)
     (ap (λ k. Once k c.in-Once.glitch) (sym step) ∙ sym c.in-Once.is) met) c.try_glitch.ensures.met
 

@@ -15,7 +15,7 @@ pub loop-change-init : goal.loop-change-init
 loop-change-init c = record {
   same = refl;
   here = c.requires.here;
-  met = counts-none c.args.counts.now c.args.with_output c.args.scenario.now c.args.out.now.items;
+  met = counts-none c.args.counts.now c.args.settings.with_output c.args.scenario.now c.args.out.now.items;
 }
 
 pub loop-change-preserved : goal.loop-change-preserved
@@ -24,7 +24,7 @@ loop-change-preserved c =
     let changes = c.args.changes.now in
     let i = c.loop-change.change-index in
     let change = get_or changes i (Byte 0 0) in
-    let wo = c.args.with_output in
+    let wo = c.args.settings.with_output in
     let here = subst (λ (s : Scenario). CountsMore c.loop-change.counts c.try_change.new.counts wo s (change ∷ [])
     c.loop-change.out.items c.try_change.new.out.items) c.loop-change.invariant.same c.in_ok-try_change.ensures.met in
     record {
@@ -40,12 +40,12 @@ loop-change-preserved c =
 
 pub try_change-requires-clause-before : goal.try_change-requires-clause-before
 try_change-requires-clause-before c =
-    subst (λ (s : Scenario). IsBefore s c.args.step c.args.site.now) (sym c.loop-change.invariant.same)
+    subst (λ (s : Scenario). IsBefore s c.args.next.step c.args.site.now) (sym c.loop-change.invariant.same)
     c.requires.before
 
 pub try_change-requires-clause-touched : goal.try_change-requires-clause-touched
 try_change-requires-clause-touched c =
-    subst (λ (s : Scenario). IfSome c.args.touched (IsTouched c.args.site.now.fork.machine s.setup))
+    subst (λ (s : Scenario). IfSome c.args.next.touched (IsTouched c.args.site.now.fork.machine s.setup))
     (sym c.loop-change.invariant.same) c.requires.touched
 
 pub try_change-requires-clause-at : goal.try_change-requires-clause-at
@@ -59,6 +59,6 @@ try_change-requires-clause-here c = c.loop-change.invariant.here
 
 pub returns-clause-met : goal.returns-clause-met
 returns-clause-met c =
-    subst (λ (xs : List Change). CountsMore c.args.counts.now c.loop-change.counts c.args.with_output
+    subst (λ (xs : List Change). CountsMore c.args.counts.now c.loop-change.counts c.args.settings.with_output
     c.args.scenario.now xs c.args.out.now.items c.loop-change.out.items)
     (take_all c.loop-change.change-index c.args.changes.now (omega arith)) c.loop-change.invariant.met

@@ -26,7 +26,7 @@ pub returns-clause-met : goal.returns-clause-met
 unfolding TakesSteps
 returns-clause-met c =
     let sc = c.args.scenario.now in
-    let wo = c.args.with_output in
+    let wo = c.args.settings.with_output in
     let glitch = c.args.struck.glitch in
     let change = Once c.args.struck.step glitch in
     let fork = c.args.site.now.fork in

@@ -13,7 +13,7 @@ hold_ends-requires c =
 pub returns-clause-met : goal.returns-clause-met
 returns-clause-met c =
     let sc = c.args.scenario.now in
-    let wo = c.args.with_output in
+    let wo = c.args.settings.with_output in
     let old = c.args.counts.now in
     let out = c.args.out.now.items in
     let arrived = c.arrive.new.self in

@@ -10,7 +10,7 @@ use Rattle.sweeps.proofs.endings.Ends.along.Goals as goal
 pub returns : goal.returns
 returns c =
     let sc = c.args.scenario.now in
-    let wo = c.args.with_output in
+    let wo = c.args.settings.with_output in
     let first = c.args.before.now.step in
     let held = c.run_held.new.self in
     let landmarks = c.run.new.self in

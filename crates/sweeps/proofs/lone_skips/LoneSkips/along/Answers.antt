@@ -18,7 +18,7 @@ loop-step-init c =
       rows = omega (arith, none);
       spaced = none-spaced skips.landmarks begun.machines;
       follows = none-follow c.args.scenario.now.setup skips.landmarks c.in_ok-machine.machine begun.machines;
-      foreseen = none-foreseen c.args.with_output c.args.scenario.now skips begun.rows;
+      foreseen = none-foreseen c.args.settings.with_output c.args.scenario.now skips begun.rows;
     }
 
 pub loop-step-preserved : goal.loop-step-preserved
@@ -44,7 +44,7 @@ loop-step-preserved c =
     let there = subst (λ (l : Landmarks). Follows sc.setup l here) (sym add.landmarks) follows in
     let goes = run.follows spaced (subst (λ (setup : Setup). Follows setup added.landmarks here) (sym c.setup.ensures)
     there) in
-    let foreseen = foreseen-held c.args.with_output sc c.loop-step.skips held hold.first hold.another
+    let foreseen = foreseen-held c.args.settings.with_output sc c.loop-step.skips held hold.first hold.another
     (count ∙ sym size) inv.foreseen in
     record {
       first = run.first ∙ ap (λ (l : Landmarks). l.first) add.landmarks ∙ hold.first ∙ inv.first;
@@ -52,6 +52,6 @@ loop-step-preserved c =
       rows = omega (arith, more, size, from);
       spaced = run.spaced spaced;
       follows = subst (λ (setup : Setup). Follows setup c.run.new.self next-machine) c.setup.ensures goes;
-      foreseen = foreseen-on c.args.with_output sc added c.run.new.self run.first run.machines
+      foreseen = foreseen-on c.args.settings.with_output sc added c.run.new.self run.first run.machines
           (add.foreseen follows foreseen);
     }

@@ -10,5 +10,5 @@ invariant-loop-step l = record {
   rows : length l.skips.rows.items ≡ l.step - l.first;
   spaced : AreSpaced l.skips.landmarks;
   follows : Follows l.scenario.setup l.skips.landmarks l.machine;
-  foreseen : AreForeseen l.with_output l.scenario l.skips;
+  foreseen : AreForeseen l.settings.with_output l.scenario l.skips;
 }

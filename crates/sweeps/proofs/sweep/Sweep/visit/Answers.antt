@@ -70,25 +70,25 @@ returns-in_default-clause-covered c done fits are =
     let none = found-none self.scenario _ c.in_ok-found.found c.in_default.not-Some c.in_ok-found.ensures.found in
     let nothing = ap (all_changes self.scenario plan) (ap (standing_in self.scenario plan) (sym c.place-place.ensures)
     ∙ none) in
-    subst (λ (xs : List Change). AreCovered self.scenario (done ++ xs) self.range self.table.items) (sym nothing)
-    (covers-none self.scenario self.range.start self.table.items done self.range.len are)
+    subst (λ (xs : List Change). AreCovered self.scenario (done ++ xs) self.coverage.range self.coverage.table.items) (sym nothing)
+    (covers-none self.scenario self.coverage.range.start self.coverage.table.items done self.coverage.range.len are)
 
 pub returns-clause-covered : goal.returns-clause-covered
 unfolding scenario_of range_of table_of
 returns-clause-covered c done fits are =
     let self = c.args.self.now in
     let plan = c.args.plan.now in
-    let new = c.try_site.new.table.items in
+    let new = c.try_site.new.coverage.table.items in
     let there = found-some self.scenario _ c.in_ok-found.found c.in-Some.site c.in-Some.is c.in_ok-found.ensures.found
     in
     let is = ap (standing_in self.scenario plan) (sym c.place-place.ensures) ∙ there.0 in
-    let may = may-cover self.scenario plan c.args.place self.range done self.table.items c.in-Some.site.standing fits
+    let may = may-cover self.scenario plan c.args.place self.coverage.range done self.coverage.table.items c.in-Some.site.standing fits
     are is in
     let more = done ++ changes_at self.scenario plan c.args.place in
-    subst (λ (s : Scenario). AreCovered s more self.range new) (sym c.try_site.ensures.same)
-    (subst (λ (xs : List Change). AreCovered self.scenario (done ++ xs) self.range new)
+    subst (λ (s : Scenario). AreCovered s more self.coverage.range new) (sym c.try_site.ensures.same)
+    (subst (λ (xs : List Change). AreCovered self.scenario (done ++ xs) self.coverage.range new)
     (sym (ap (all_changes self.scenario plan) is))
-    (c.in_ok-try_site.ensures.covers may done self.range.len are))
+    (c.in_ok-try_site.ensures.covers may done self.coverage.range.len are))
 
 pub invariant_of-self-in-Break-branch-2 : goal.invariant_of-self-in-Break-branch-2
 invariant_of-self-in-Break-branch-2 c =
