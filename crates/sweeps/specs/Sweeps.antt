@@ -11,7 +11,7 @@ use Rattle.sweeps.specs.declared.sweep.Sweep.{Sweep}
 
 -- the scenario whose edits are tried, and whether outcomes have the number of bytes written
 unfoldable pub scenario_of : Sweep → Scenario
-scenario_of sweep = sweep.scenario
+scenario_of sweep = sweep.run.scenario
 
 unfoldable pub tells_output : Sweep → Bool
 tells_output sweep = sweep.with_output

@@ -15,6 +15,7 @@ ghost use Rattle.sweeps.specs.Standing.{IsAt, IsBelow, Stands, all_changes};
 ghost use Rattle.sweeps.specs.Sweeps.{CountsMore};
 
 use crate::counting::Counts;
+use crate::held_run::HeldRun;
 use crate::meeting::try_place;
 use crate::outcomes::take_back;
 use crate::settings::Settings;
@@ -205,32 +206,42 @@ fn try_byte(
 }
 
 /// Applies each change of a plan at a site, one at a time, counts the outcomes and appends the rows. If a table has rows and a byte is there,
-/// what the runs execute is entered in it. Afterwards the scenario is as it was.
+/// what the runs execute is entered in it. Afterwards the run's scenario is as it was.
 pub(crate) fn try_site(
     settings: Settings,
-    scenario: &mut Scenario,
+    run: &mut HeldRun,
     counts: &mut Counts,
     plan: &Plan,
     site: &Site,
     coverage: &mut Coverage,
     out: &mut Vec<u8>,
 ) -> Result<(), AllocError>
-    requires near { scenario.old.step ≤ limit_of scenario.old }
-    requires unmarked { scenario.old.marks ≡ [] }
-    requires stands { Stands scenario.old site.now.standing }
-    requires below { IsBelow scenario.old.step site.now.standing }
-    requires fork { Continues scenario.old site.now.standing site.now.fork }
+    requires near { run.old.scenario.step ≤ limit_of run.old.scenario }
+    requires unmarked { run.old.scenario.marks ≡ [] }
+    requires stands { Stands run.old.scenario site.now.standing }
+    requires below { IsBelow run.old.scenario.step site.now.standing }
+    requires fork { Continues run.old.scenario site.now.standing site.now.fork }
     ensures range { coverage.new.range ≡ coverage.old.range }
-    ensures same { scenario.new ≡ scenario.old }
-    ensures met { OnOk result (CountsMore counts.old counts.new settings.with_output scenario.old (all_changes scenario.old plan.now (Some site.now.standing)) out.old.items out.new.items) }
+    ensures same { run.new.scenario ≡ run.old.scenario }
+    ensures met { OnOk result (CountsMore counts.old counts.new settings.with_output run.old.scenario (all_changes run.old.scenario plan.now (Some site.now.standing)) out.old.items out.new.items) }
     ensures covers { OnOk result (MayCover site.now.standing coverage.old.table.items
-        → CoversMore scenario.old coverage.old.range.start (all_changes scenario.old plan.now (Some site.now.standing)) coverage.old.table.items coverage.new.table.items) }
+        → CoversMore run.old.scenario coverage.old.range.start (all_changes run.old.scenario plan.now (Some site.now.standing)) coverage.old.table.items coverage.new.table.items) }
 {
     if coverage.table.is_empty() {
-        return try_place(settings, scenario, counts, plan, site, out);
+        return try_place(settings, &mut run.scenario, counts, plan, site, out);
     }
     match site.standing {
-        Standing::Byte { .. } => { try_byte(settings, scenario, counts, plan, site, coverage, out) }
-        _ => try_place(settings, scenario, counts, plan, site, out),
+        Standing::Byte { .. } => {
+            try_byte(
+                settings,
+                &mut run.scenario,
+                counts,
+                plan,
+                site,
+                coverage,
+                out,
+            )
+        }
+        _ => try_place(settings, &mut run.scenario, counts, plan, site, out),
     }
 }

@@ -47,6 +47,7 @@ mod beginning;
 mod counting;
 mod endings;
 mod entering;
+mod held_run;
 mod landmarks;
 pub mod laws;
 mod lone_skips;

@@ -11,7 +11,8 @@ ghost use Rattle.scenario.specs.Scenario.{first_state, run_of, limit_of};
 ghost use Rattle.sweeps.specs.Sites.{Continues, ForksEachCode, IsFoundAt, IsLastFork};
 ghost use Rattle.sweeps.specs.Standing.{is_half_next, is_in_code, standing_byte, standing_half, standing_in, standing_step, standing_word, state_before};
 
-use checkpoints::{Fork, Trail};
+use crate::held_run::HeldRun;
+use checkpoints::Fork;
 use guest_machine::{Machine, Status};
 use scenario::{Edit, Scenario};
 use std::alloc::AllocError;
@@ -110,43 +111,6 @@ pub(crate) fn standing_step(
     }
 }
 
-/// Returns the machine from which each run continues that has another byte at an offset.
-fn byte_fork(trail: &mut Trail, scenario: &Scenario, offset: u32) -> Result<Fork, AllocError>
-    requires near { scenario.now.step ≤ limit_of scenario.now }
-    requires loads { LoadsAs trail.old scenario.now.image }
-    requires right { IsRightForRun trail.old (run_of scenario.now) }
-    ensures fork { IfOk result (λ fork. IsForkFor (Input offset) (run_of scenario.now) scenario.now.step fork) }
-    ensures loads { LoadsAs trail.new scenario.now.image }
-    ensures right { IsRightForRun trail.new (run_of scenario.now) }
-{
-    trail.fork_at_byte(offset, scenario.step(), scenario.setup(), scenario.marks())
-}
-
-/// Returns the machine from which each run continues that has another code at an address, of a number of bytes, 2 or 4.
-fn code_fork(
-    trail: &mut Trail,
-    scenario: &Scenario,
-    addr: u32,
-    len: u32,
-) -> Result<Fork, AllocError>
-    requires near { scenario.now.step ≤ limit_of scenario.now }
-    requires loads { LoadsAs trail.old scenario.now.image }
-    requires right { IsRightForRun trail.old (run_of scenario.now) }
-    requires code { IsCodeIn (loaded_of trail.old) addr len }
-    ensures fork { IfOk result (ForksEachCode scenario.now addr len) }
-    ensures loads { LoadsAs trail.new scenario.now.image }
-    ensures right { IsRightForRun trail.new (run_of scenario.now) }
-{
-    trail.fork_at_code(
-        addr,
-        len,
-        scenario.step(),
-        scenario.image().profile().isa,
-        scenario.setup(),
-        scenario.marks(),
-    )
-}
-
 /// Returns the fork before a step, given one before that step or the step before it.
 fn next_fork(scenario: &Scenario, last_fork: &Fork, step: u32) -> Result<Fork, AllocError>
     requires within { step ≤ scenario.now.step }
@@ -158,135 +122,85 @@ fn next_fork(scenario: &Scenario, last_fork: &Fork, step: u32) -> Result<Fork, A
     last_fork.go_on(step, scenario.setup(), scenario.marks())
 }
 
-/// Returns the fork before a step, from the trail.
-fn trail_fork(trail: &mut Trail, scenario: &Scenario, step: u32) -> Result<Fork, AllocError>
-    requires near { scenario.now.step ≤ limit_of scenario.now }
-    requires within { step ≤ scenario.now.step }
-    requires loads { LoadsAs trail.old scenario.now.image }
-    requires right { IsRightForRun trail.old (run_of scenario.now) }
-    ensures fork { IfOk result (λ fork. IsForkFor (After step) (run_of scenario.now) scenario.now.step fork) }
-    ensures step { IfOk result (λ fork. fork.step ≡ step) }
-    ensures loads { LoadsAs trail.new scenario.now.image }
-    ensures right { IsRightForRun trail.new (run_of scenario.now) }
-{
-    trail.fork_at_step(step, scenario.step(), scenario.setup(), scenario.marks())
-}
-
 /// Returns the machine from which each run continues that is struck at a step: from the last fork, if that is before this step or the step
 /// before it, and else from the trail.
-fn step_fork(
-    trail: &mut Trail,
-    scenario: &Scenario,
-    last_fork: &Option<Fork>,
-    step: u32,
-) -> Result<Fork, AllocError>
-    requires near { scenario.now.step ≤ limit_of scenario.now }
-    requires within { step ≤ scenario.now.step }
-    requires loads { LoadsAs trail.old scenario.now.image }
-    requires right { IsRightForRun trail.old (run_of scenario.now) }
-    requires last_fork { IsLastFork scenario.now last_fork.now }
-    ensures fork { IfOk result (λ fork. IsForkFor (After step) (run_of scenario.now) scenario.now.step fork) }
+fn step_fork(run: &mut HeldRun, last_fork: &Option<Fork>, step: u32) -> Result<Fork, AllocError>
+    requires near { run.old.scenario.step ≤ limit_of run.old.scenario }
+    requires within { step ≤ run.old.scenario.step }
+    requires last_fork { IsLastFork run.old.scenario last_fork.now }
+    ensures fork { IfOk result (λ fork. IsForkFor (After step) (run_of run.old.scenario) run.old.scenario.step fork) }
     ensures step { IfOk result (λ fork. fork.step ≡ step) }
-    ensures loads { LoadsAs trail.new scenario.now.image }
-    ensures right { IsRightForRun trail.new (run_of scenario.now) }
+    ensures same { run.new.scenario ≡ run.old.scenario }
 {
     if let Some(last) = last_fork
         && last.step <= step
         && step - last.step <= 1
     {
-        return next_fork(scenario, last, step);
+        return next_fork(&run.scenario, last, step);
     }
-    trail_fork(trail, scenario, step)
+    run.fork_at_step(step)
 }
 
 /// Finds a byte.
-fn find_byte(
-    trail: &mut Trail,
-    scenario: &Scenario,
-    input: &[u8],
-    offset: u32,
-) -> Result<Option<Site>, AllocError>
-    requires near { scenario.now.step ≤ limit_of scenario.now }
-    requires input { input.now ≡ scenario.now.setup.input }
-    requires loads { LoadsAs trail.old scenario.now.image }
-    requires right { IsRightForRun trail.old (run_of scenario.now) }
-    ensures found { IfOk result (IsFoundAt scenario.now (standing_byte scenario.now offset)) }
-    ensures loads { LoadsAs trail.new scenario.now.image }
-    ensures right { IsRightForRun trail.new (run_of scenario.now) }
+fn find_byte(run: &mut HeldRun, input: &[u8], offset: u32) -> Result<Option<Site>, AllocError>
+    requires near { run.old.scenario.step ≤ limit_of run.old.scenario }
+    requires input { input.now ≡ run.old.scenario.setup.input }
+    ensures found { IfOk result (IsFoundAt run.old.scenario (standing_byte run.old.scenario offset)) }
+    ensures same { run.new.scenario ≡ run.old.scenario }
 {
-    let Some(standing) = standing_byte(scenario, input, offset) else {
+    let Some(standing) = standing_byte(&run.scenario, input, offset) else {
         return Ok(None);
     };
-    let fork = byte_fork(trail, scenario, offset)?;
+    let fork = run.fork_at_byte(offset)?;
     Ok(Some(Site { standing, fork }))
 }
 
 /// Finds a word.
-fn find_word(
-    trail: &mut Trail,
-    scenario: &Scenario,
-    start: &Machine,
-    addr: u32,
-) -> Result<Option<Site>, AllocError>
-    requires near { scenario.now.step ≤ limit_of scenario.now }
-    requires starts { Shows start.now (first_state scenario.now) }
-    requires loads { LoadsAs trail.old scenario.now.image }
-    requires right { IsRightForRun trail.old (run_of scenario.now) }
-    ensures found { IfOk result (IsFoundAt scenario.now (standing_word scenario.now addr)) }
-    ensures loads { LoadsAs trail.new scenario.now.image }
-    ensures right { IsRightForRun trail.new (run_of scenario.now) }
+fn find_word(run: &mut HeldRun, start: &Machine, addr: u32) -> Result<Option<Site>, AllocError>
+    requires near { run.old.scenario.step ≤ limit_of run.old.scenario }
+    requires starts { Shows start.now (first_state run.old.scenario) }
+    ensures found { IfOk result (IsFoundAt run.old.scenario (standing_word run.old.scenario addr)) }
+    ensures same { run.new.scenario ≡ run.old.scenario }
 {
-    let Some(standing) = standing_word(scenario, start, addr) else {
+    let Some(standing) = standing_word(&run.scenario, start, addr) else {
         return Ok(None);
     };
-    let fork = code_fork(trail, scenario, addr, 4)?;
+    let fork = run.fork_at_code(addr, 4)?;
     Ok(Some(Site { standing, fork }))
 }
 
 /// Finds an instruction of 16 bits.
-fn find_half(
-    trail: &mut Trail,
-    scenario: &Scenario,
-    start: &Machine,
-    addr: u32,
-) -> Result<Option<Site>, AllocError>
-    requires near { scenario.now.step ≤ limit_of scenario.now }
-    requires starts { Shows start.now (first_state scenario.now) }
-    requires loads { LoadsAs trail.old scenario.now.image }
-    requires right { IsRightForRun trail.old (run_of scenario.now) }
-    ensures found { IfOk result (IsFoundAt scenario.now (standing_half scenario.now addr)) }
-    ensures loads { LoadsAs trail.new scenario.now.image }
-    ensures right { IsRightForRun trail.new (run_of scenario.now) }
+fn find_half(run: &mut HeldRun, start: &Machine, addr: u32) -> Result<Option<Site>, AllocError>
+    requires near { run.old.scenario.step ≤ limit_of run.old.scenario }
+    requires starts { Shows start.now (first_state run.old.scenario) }
+    ensures found { IfOk result (IsFoundAt run.old.scenario (standing_half run.old.scenario addr)) }
+    ensures same { run.new.scenario ≡ run.old.scenario }
 {
-    let Some(standing) = standing_half(scenario, start, addr) else {
+    let Some(standing) = standing_half(&run.scenario, start, addr) else {
         return Ok(None);
     };
-    let fork = code_fork(trail, scenario, addr, 2)?;
+    let fork = run.fork_at_code(addr, 2)?;
     Ok(Some(Site { standing, fork }))
 }
 
 /// Finds a step. If it isn't struck, its fork is the last one then.
 fn find_step(
-    trail: &mut Trail,
-    scenario: &Scenario,
+    run: &mut HeldRun,
     last_fork: &mut Option<Fork>,
     code: Option<Range>,
     step: u32,
 ) -> Result<Option<Site>, AllocError>
-    requires near { scenario.now.step ≤ limit_of scenario.now }
-    requires loads { LoadsAs trail.old scenario.now.image }
-    requires right { IsRightForRun trail.old (run_of scenario.now) }
-    requires last_fork { IsLastFork scenario.now last_fork.old }
-    ensures found { IfOk result (IsFoundAt scenario.now (standing_step scenario.now code step)) }
-    ensures loads { LoadsAs trail.new scenario.now.image }
-    ensures right { IsRightForRun trail.new (run_of scenario.now) }
-    ensures last_fork { IsLastFork scenario.now last_fork.new }
+    requires near { run.old.scenario.step ≤ limit_of run.old.scenario }
+    requires last_fork { IsLastFork run.old.scenario last_fork.old }
+    ensures found { IfOk result (IsFoundAt run.old.scenario (standing_step run.old.scenario code step)) }
+    ensures same { run.new.scenario ≡ run.old.scenario }
+    ensures last_fork { IsLastFork run.old.scenario last_fork.new }
 {
-    if step >= scenario.step() {
+    if step >= run.scenario.step() {
         return Ok(None);
     }
-    let fork = step_fork(trail, scenario, last_fork, step)?;
-    let Some(standing) = standing_step(scenario, &fork.machine, code, step) else {
+    let fork = step_fork(run, last_fork, step)?;
+    let Some(standing) = standing_step(&run.scenario, &fork.machine, code, step) else {
         *last_fork = Some(fork);
         return Ok(None);
     };
@@ -308,29 +222,25 @@ pub(crate) fn keep_last_fork(scenario: &Scenario, last_fork: &mut Option<Fork>, 
 /// Returns what is at a place, with the machine from which each run continues that is changed there, if there is something. The fork of the
 /// last step, if there is one, may save steps.
 pub(crate) fn find(
-    trail: &mut Trail,
-    scenario: &Scenario,
+    run: &mut HeldRun,
     last_fork: &mut Option<Fork>,
     origin: &Origin<'_>,
     plan: &Plan,
     place: SweepPlace,
 ) -> Result<Option<Site>, AllocError>
-    requires near { scenario.now.step ≤ limit_of scenario.now }
-    requires input { origin.now.input.now ≡ scenario.now.setup.input }
-    requires starts { Shows origin.now.start.now (first_state scenario.now) }
-    requires loads { LoadsAs trail.old scenario.now.image }
-    requires right { IsRightForRun trail.old (run_of scenario.now) }
-    requires last_fork { IsLastFork scenario.now last_fork.old }
-    ensures found { IfOk result (IsFoundAt scenario.now (standing_in scenario.now plan.now place)) }
-    ensures loads { LoadsAs trail.new scenario.now.image }
-    ensures right { IsRightForRun trail.new (run_of scenario.now) }
-    ensures last_fork { IsLastFork scenario.now last_fork.new }
+    requires near { run.old.scenario.step ≤ limit_of run.old.scenario }
+    requires input { origin.now.input.now ≡ run.old.scenario.setup.input }
+    requires starts { Shows origin.now.start.now (first_state run.old.scenario) }
+    requires last_fork { IsLastFork run.old.scenario last_fork.old }
+    ensures found { IfOk result (IsFoundAt run.old.scenario (standing_in run.old.scenario plan.now place)) }
+    ensures same { run.new.scenario ≡ run.old.scenario }
+    ensures last_fork { IsLastFork run.old.scenario last_fork.new }
 {
     match place {
-        SweepPlace::Byte(offset) => find_byte(trail, scenario, origin.input, offset),
-        SweepPlace::Word(addr) => find_word(trail, scenario, origin.start, addr),
-        SweepPlace::Half(addr) => find_half(trail, scenario, origin.start, addr),
-        SweepPlace::Step(step) => find_step(trail, scenario, last_fork, plan.code, step),
+        SweepPlace::Byte(offset) => find_byte(run, origin.input, offset),
+        SweepPlace::Word(addr) => find_word(run, origin.start, addr),
+        SweepPlace::Half(addr) => find_half(run, origin.start, addr),
+        SweepPlace::Step(step) => find_step(run, last_fork, plan.code, step),
         SweepPlace::Nowhere => Ok(None),
     }
 }

@@ -1,20 +1,19 @@
 //! A sweep, and one place of it.
 ghost use Rattle.std.specs.Prelude.{◌≡◌, ◌≤◌, []};
-ghost use Rattle.checkpoints.specs.Edits.{IsRightForRun};
-ghost use Rattle.checkpoints.specs.OneProof.{right-prop, shows-prop};
-ghost use Rattle.checkpoints.specs.Trails.{LoadsAs};
+ghost use Rattle.checkpoints.specs.OneProof.{shows-prop};
 ghost use Rattle.guest_machine.specs.Shows.{Shows};
 ghost use Rattle.scenario.specs.Limits.{furthest_step};
-ghost use Rattle.scenario.specs.Scenario.{first_state, run_of, limit_of};
+ghost use Rattle.scenario.specs.Scenario.{first_state, limit_of};
 ghost use Rattle.sweeps.specs.LastForks.{last-fork-prop};
 ghost use Rattle.sweeps.specs.Sites.{IsLastFork};
 
 use crate::beginning::{scenario_at, unedited_run};
 use crate::counting::Counts;
 use crate::entering::{Coverage, try_site, unedited_table};
+use crate::held_run::HeldRun;
 use crate::settings::Settings;
 use crate::sites::{Origin, find, keep_last_fork};
-use checkpoints::{Fork, Sides, Trail};
+use checkpoints::{Fork, Sides};
 use guest_elf::Image;
 use guest_machine::{Machine, Span};
 use scenario::Scenario;
@@ -36,18 +35,15 @@ pub struct Asked {
 #[derive(Drop)]
 pub struct Sweep<'a> {
     alloc: Global,
-    scenario: Scenario<'a>,
-    trail: Trail,
-    ghost loads: { LoadsAs trail scenario.image },
-    ghost right: { IsRightForRun trail (run_of scenario) } by { right-prop trail (run_of scenario) },
-    ghost near: { scenario.step ≤ limit_of scenario },
-    ghost unmarked: { scenario.marks ≡ [] },
+    run: HeldRun<'a>,
+    ghost near: { run.scenario.step ≤ limit_of run.scenario },
+    ghost unmarked: { run.scenario.marks ≡ [] },
     last_fork: Option<Fork>,
-    ghost continued: { IsLastFork scenario last_fork } by { last-fork-prop scenario last_fork },
+    ghost continued: { IsLastFork run.scenario last_fork } by { last-fork-prop run.scenario last_fork },
     start: Machine,
-    ghost starts: { Shows start (first_state scenario) } by { shows-prop start (first_state scenario) },
+    ghost starts: { Shows start (first_state run.scenario) } by { shows-prop start (first_state run.scenario) },
     input: Vec<u8>,
-    ghost copied: { input.items ≡ scenario.setup.input },
+    ghost copied: { input.items ≡ run.scenario.setup.input },
     with_output: bool,
     counts: Counts,
     coverage: Coverage,
@@ -110,10 +106,10 @@ impl<'a> Sweep<'a> {
     {
         let (start, trail, counts) = unedited_run(alloc, &scenario, with_output, out)?;
         let table = unedited_table(alloc, &trail, &scenario, range)?;
+        let run = HeldRun { scenario, trail };
         Ok(Sweep {
             alloc,
-            scenario,
-            trail,
+            run,
             last_fork: None,
             start,
             input,
@@ -139,14 +135,7 @@ impl<'a> Sweep<'a> {
             start: &self.start,
         };
         let place = plan.place(place);
-        let found = find(
-            &mut self.trail,
-            &self.scenario,
-            &mut self.last_fork,
-            &origin,
-            plan,
-            place,
-        )?;
+        let found = find(&mut self.run, &mut self.last_fork, &origin, plan, place)?;
         let Some(site) = found else {
             return Ok(());
         };
@@ -156,14 +145,15 @@ impl<'a> Sweep<'a> {
         };
         try_site(
             settings,
-            &mut self.scenario,
+            &mut self.run,
             &mut self.counts,
             plan,
             &site,
             &mut self.coverage,
             out,
         )?;
-        keep_last_fork(&self.scenario, &mut self.last_fork, site);
+        let run = &self.run;
+        keep_last_fork(&run.scenario, &mut self.last_fork, site);
         Ok(())
     }
 

@@ -3,16 +3,16 @@ use Rattle.scenario.proofs.TrailFacts.{word-in}
 use Rattle.sweeps.proofs.ChangeSteps.{loaded, word-continues}
 use Rattle.sweeps.proofs.sites.find_word.Goals as goal
 
-pub code_fork-requires-clause-code : goal.code_fork-requires-clause-code
-code_fork-requires-clause-code c =
-    word-in c.args.trail.now c.args.scenario.now.image c.args.addr c.requires.loads
-    (loaded c.args.scenario.now c.args.addr c.in-Some.standing
+pub fork_at_code-requires-clause-code : goal.fork_at_code-requires-clause-code
+fork_at_code-requires-clause-code c =
+    word-in c.args.run.now.trail c.args.run.now.scenario.image c.args.addr c.args.run.now.loads
+    (loaded c.args.run.now.scenario c.args.addr c.in-Some.standing
     (sym c.standing_word.ensures ∙ c.in-Some.is))
 
 pub returns-clause-found : goal.returns-clause-found
 returns-clause-found c =
     let is = sym c.standing_word.ensures ∙ c.in-Some.is in (
       is,
-      word-continues c.args.scenario.now c.args.addr c.in-Some.standing c.in_ok-fork.fork is
+      word-continues c.args.run.now.scenario c.args.addr c.in-Some.standing c.in_ok-fork.fork is
           c.in_ok-fork.ensures.fork,
     )

@@ -3,8 +3,6 @@ use Rattle.sweeps.proofs.sweep.Sweep.over.Goals as goal
 
 pub invariant_of-result : goal.invariant_of-result
 invariant_of-result c = record {
-  loads = c.in_ok-start.ensures.loads;
-  right = c.in_ok-start.ensures.right;
   near = c.requires.near;
   unmarked = c.requires.unmarked;
   continued = tt;
