@@ -36,8 +36,8 @@ returns-then-output_len-end c start h early is =
     let k = c.loop-k.k in
     let setup = c.args.setup.now in
     let marks = c.args.marks.now in
-    let full : min (c.args.wanted.range.start + c.args.wanted.range.len) (length (pre start setup marks c.args.to).output)
-    ≤ length (pre start setup marks k).output =
+    let full : min (c.args.wanted.range.start + c.args.wanted.range.len)
+    (length (pre start setup marks c.args.to).output) ≤ length (pre start setup marks k).output =
     omega (arith, c.if-output_len-end.true, c.output_len.ensures _ (inv.shows start h), is) in
     inv.part start h early
     ∙ part-later c.writes_what_it_reads.ensures start setup marks c.args.wanted.range k c.args.to (omega arith) full

@@ -14,7 +14,8 @@ loop-at-init c = record {
   later = omega arith;
   within = c.requires.forward;
   rows = refl;
-  extends = λ start h. extends-none start c.args.setup.now c.args.marks.now c.args.rows.first c.args.rows.apart c.args.from _;
+  extends = λ start h. extends-none start c.args.setup.now c.args.marks.now c.args.rows.first c.args.rows.apart
+      c.args.from _;
 }
 
 pub loop-at-preserved : goal.loop-at-preserved
@@ -35,8 +36,8 @@ loop-at-preserved c =
       later = omega (arith, inv.later, on);
       within = omega (arith, done.within, quiet.within);
       rows = done.rows ∙ inv.rows;
-      extends = λ start h. extends-then start c.args.setup.now marks c.args.rows.first c.args.rows.apart c.args.from at _ _ _ _
-          inv.rows (inv.extends start h)
+      extends = λ start h. extends-then start c.args.setup.now marks c.args.rows.first c.args.rows.apart c.args.from
+          at _ _ _ _ inv.rows (inv.extends start h)
           (done.extends start marks none (c.in_ok-marked.ensures.shows _ (inv.shows start h)));
     }
 
@@ -49,8 +50,8 @@ returns-then-not-is_running-clause-extends c start h =
     let halted = sym (c.if-not-is_running.ensures _ (inv.shows start h)) in
     extends-then start setup marks c.args.rows.first c.args.rows.apart c.args.from at c.args.to _ _ _ inv.rows
     (inv.extends start h)
-    (extends-halted start setup marks c.args.rows.first c.args.rows.apart c.stays_halted.ensures at c.args.to _ (omega arith)
-    halted)
+    (extends-halted start setup marks c.args.rows.first c.args.rows.apart c.stays_halted.ensures at c.args.to _
+    (omega arith) halted)
 
 pub returns : goal.returns
 returns c =

@@ -46,8 +46,8 @@ returns g c =
     let old = g.W.Write.contents c.args.writer.now in
     let later = g.W.Write.contents c.sweep_program.new.writer in
     let swept = transport (λ i. Sweeps c.args.program.file.now (c.deref-2.ensures.value i) c.args.program.image
-    c.in_ok-input.input.items (list i) c.args.asked.words.now c.args.asked.request old later (end_of c.sweep_program.result))
-    c.sweep_program.ensures in
+    c.in_ok-input.input.items (list i) c.args.asked.words.now c.args.asked.request old later (end_of
+    c.sweep_program.result)) c.sweep_program.ensures in
     inr (
       c.in_ok-text.text.items,
       c.in_ok-text.ensures.ok,

@@ -16,7 +16,8 @@ returns g c =
     let part = c.args.swept.part in
     let old = g.W.Write.contents c.args.writer.now in
     let later = g.W.Write.contents c.write_behind.new.writer in
-    let case = case_with c.args.material.file.now c.args.material.text.now c.args.material.image c.args.material.input.items c.args.material.suppressions.items
+    let case = case_with c.args.material.file.now c.args.material.text.now c.args.material.image
+    c.args.material.input.items c.args.material.suppressions.items
     c.args.swept.words.now c.args.swept.named part plan in
     let from : part_from plan part ≡ c.first_place-from.result = sym (c.first_place-from.ensures
     ∙ ap (λ places. first_place places (part.index - 1) part.count) c.places-places.ensures.number) in

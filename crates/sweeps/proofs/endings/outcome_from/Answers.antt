@@ -13,8 +13,8 @@ returns-then-pursued c ends s shows =
     let pursued = c.in_ok-pursued.pursued in
     let is = c.in_ok-pursued.ensures in
     subst (Outlines wo sc (pre s sc.setup [] (sc.step - c.args.from))) (sym c.in_ok-outcome.ensures.cases)
-    (met-end wo sc c.args.joint.landmarks.now pursued.machine c.args.joint.lead c.args.from pursued.step c.args.joint.known.now s ends
-    (is.met c.if-pursued.true) is.low is.high (is.shows s shows))
+    (met-end wo sc c.args.joint.landmarks.now pursued.machine c.args.joint.lead c.args.from pursued.step
+    c.args.joint.known.now s ends (is.met c.if-pursued.true) is.low is.high (is.shows s shows))
 
 pub returns : goal.returns
 returns c =

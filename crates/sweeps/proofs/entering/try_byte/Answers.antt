@@ -24,13 +24,15 @@ returns-clause-met c =
     let all = c.deref.ensures.value ∙ c.in_ok-changes.ensures
     ∙ byte-changes sc c.args.plan.now c.args.site.now.standing c.requires.byte in
     on_ok_weaker c.try_each_entering.result (subst (λ (xs : List Change). CountsMore c.args.counts.now
-    c.try_each_entering.new.counts c.args.settings.with_output sc xs c.args.out.now.items c.try_each_entering.new.out.items)
-    all) c.try_each_entering.ensures.met
+    c.try_each_entering.new.counts c.args.settings.with_output sc xs c.args.out.now.items
+    c.try_each_entering.new.out.items) all) c.try_each_entering.ensures.met
 
 pub returns-clause-covers : goal.returns-clause-covers
 returns-clause-covers c =
     let sc = c.args.scenario.now in
     let all = c.deref.ensures.value ∙ c.in_ok-changes.ensures
     ∙ byte-changes sc c.args.plan.now c.args.site.now.standing c.requires.byte in
-    on_ok_weaker c.try_each_entering.result (subst (λ (xs : List Change). CoversMore sc c.args.coverage.now.range.start xs
-    c.args.coverage.now.table.items c.try_each_entering.new.coverage.table.items) all) c.try_each_entering.ensures.covers
+    on_ok_weaker c.try_each_entering.result (subst (λ (xs : List Change). CoversMore sc
+    c.args.coverage.now.range.start xs
+    c.args.coverage.now.table.items c.try_each_entering.new.coverage.table.items) all)
+    c.try_each_entering.ensures.covers

@@ -41,9 +41,11 @@ loop-change-preserved c =
           (counts-join wo sc c.args.counts.now c.loop-change.counts c.try_entering.new.counts (take i changes)
           (change ∷ [])
           c.args.out.now.items c.loop-change.out.items c.try_entering.new.out.items c.loop-change.invariant.met here);
-      covers = subst (λ (xs : List Change). CoversMore sc c.args.coverage.now.range.start xs c.args.coverage.now.table.items
+      covers = subst (λ (xs : List Change). CoversMore sc c.args.coverage.now.range.start xs
+          c.args.coverage.now.table.items
           c.try_entering.new.coverage.table.items) (sym (take_more changes i (Byte 0 0) c.loop-change-test.true))
-          (covers-join sc c.args.coverage.now.range.start (take i changes) (change ∷ []) c.args.coverage.now.table.items c.loop-change.coverage.table.items
+          (covers-join sc c.args.coverage.now.range.start (take i changes) (change ∷ [])
+          c.args.coverage.now.table.items c.loop-change.coverage.table.items
           c.try_entering.new.coverage.table.items c.loop-change.invariant.covers
           (subst (λ (r : Span). CoversMore sc r.start (change ∷ []) c.loop-change.coverage.table.items
           c.try_entering.new.coverage.table.items) c.loop-change.invariant.range
@@ -77,6 +79,6 @@ returns-clause-met c =
 
 pub returns-clause-covers : goal.returns-clause-covers
 returns-clause-covers c =
-    subst (λ (xs : List Change). CoversMore c.args.scenario.now c.args.coverage.now.range.start xs c.args.coverage.now.table.items
-    c.loop-change.coverage.table.items)
+    subst (λ (xs : List Change). CoversMore c.args.scenario.now c.args.coverage.now.range.start xs
+    c.args.coverage.now.table.items c.loop-change.coverage.table.items)
     (take_all c.loop-change.change-index c.args.changes.now (omega arith)) c.loop-change.invariant.covers

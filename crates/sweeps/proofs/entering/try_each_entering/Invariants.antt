@@ -9,5 +9,6 @@ invariant-loop-change l = record {
   same : l.scenario ≡ l.initial.scenario;
   met : CountsMore l.initial.counts l.counts l.with_output l.initial.scenario (take l.change-index l.changes)
       l.initial.out.items l.out.items;
-  covers : CoversMore l.initial.scenario l.initial.coverage.range.start (take l.change-index l.changes) l.initial.coverage.table.items l.coverage.table.items;
+  covers : CoversMore l.initial.scenario l.initial.coverage.range.start (take l.change-index l.changes)
+      l.initial.coverage.table.items l.coverage.table.items;
 }

@@ -15,8 +15,8 @@ returns-then-is_empty-clause-covers c =
     let table = c.args.coverage.now.table.items in
     let all = all_changes sc c.args.plan.now (Some c.args.site.now.standing) in
     let none : length table ≡ 0 = grind (arith, nat_tests, c.is_empty.ensures, c.if-is_empty.true) in
-    on_ok_weaker c.try_place.result (λ met may. covers-empty sc c.args.coverage.now.range.start all table table (no-length table none)
-    refl) c.try_place.ensures.met
+    on_ok_weaker c.try_place.result (λ met may. covers-empty sc c.args.coverage.now.range.start all table table
+    (no-length table none) refl) c.try_place.ensures.met
 
 pub try_byte-requires-clause-byte : goal.try_byte-requires-clause-byte
 try_byte-requires-clause-byte c = subst IsByte (sym c.in-Byte.is) tt
@@ -30,8 +30,8 @@ returns-in_default-clause-covers c =
     let table = c.args.coverage.now.table.items in
     let standing = c.args.site.now.standing in
     let all = all_changes sc c.args.plan.now (Some standing) in
-    on_ok_weaker c.try_place-in_default.result (λ met may. covers-empty sc c.args.coverage.now.range.start all table table
-    (not-byte standing table c.in_default.not-Byte may) refl) c.try_place-in_default.ensures.met
+    on_ok_weaker c.try_place-in_default.result (λ met may. covers-empty sc c.args.coverage.now.range.start all table
+    table (not-byte standing table c.in_default.not-Byte may) refl) c.try_place-in_default.ensures.met
 
 pub invariant_of-run : goal.invariant_of-run
 invariant_of-run c =

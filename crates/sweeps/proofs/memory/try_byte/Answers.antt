@@ -9,8 +9,8 @@ use Rattle.sweeps.proofs.memory.try_byte.Goals as goal
 
 pub returns-then-byte-ne-READ-clause-met : goal.returns-then-byte-ne-READ-clause-met
 returns-then-byte-ne-READ-clause-met c =
-    counts-unread c.args.scenario.now c.args.turning.step c.args.addr c.args.table.now c.args.turning.settings.with_output
-    c.args.counts.now c.args.out.now.items c.requires.table c.ranges.addr.fits
+    counts-unread c.args.scenario.now c.args.turning.step c.args.addr c.args.table.now
+    c.args.turning.settings.with_output c.args.counts.now c.args.out.now.items c.requires.table c.ranges.addr.fits
     (λ one. c.if-byte-ne-READ.true (c.byte.ensures.byte ∙ one))
 
 pub try_turned-requires-clause-at : goal.try_turned-requires-clause-at

@@ -16,8 +16,8 @@ returns-in_default c =
     let sc = c.args.scenario.now in
     record {
       same = refl;
-      met = subst (λ (xs : List Change). CountsMore c.args.counts.now c.args.counts.now c.args.settings.with_output sc xs
-          c.args.out.now.items c.args.out.now.items)
+      met = subst (λ (xs : List Change). CountsMore c.args.counts.now c.args.counts.now c.args.settings.with_output sc
+          xs c.args.out.now.items c.args.out.now.items)
           (sym (no-pairs sc c.args.plan.now c.args.site.now.standing c.in_default.not-Step))
           (counts-none c.args.counts.now c.args.settings.with_output sc c.args.out.now.items);
     }

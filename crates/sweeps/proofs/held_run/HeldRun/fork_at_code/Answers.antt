@@ -25,7 +25,8 @@ returns-clause-fork c =
 pub invariant_of-self : goal.invariant_of-self
 invariant_of-self c =
     let self = c.args.self.now in record {
-      loads = still-loads self.trail c.fork_at_code.new.self self.scenario.image c.fork_at_code.ensures.loaded self.loads;
-      right = moved self.scenario c.setup.result.now c.marks.result.now self.trail c.fork_at_code.new.self c.setup.ensures
-          c.marks.ensures c.fork_at_code.ensures.right self.right;
+      loads = still-loads self.trail c.fork_at_code.new.self self.scenario.image c.fork_at_code.ensures.loaded
+          self.loads;
+      right = moved self.scenario c.setup.result.now c.marks.result.now self.trail c.fork_at_code.new.self
+          c.setup.ensures c.marks.ensures c.fork_at_code.ensures.right self.right;
     }

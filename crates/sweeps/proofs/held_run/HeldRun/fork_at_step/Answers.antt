@@ -14,7 +14,8 @@ returns-clause-fork c =
 pub invariant_of-self : goal.invariant_of-self
 invariant_of-self c =
     let self = c.args.self.now in record {
-      loads = still-loads self.trail c.fork_at_step.new.self self.scenario.image c.fork_at_step.ensures.loaded self.loads;
-      right = moved self.scenario c.setup.result.now c.marks.result.now self.trail c.fork_at_step.new.self c.setup.ensures
-          c.marks.ensures c.fork_at_step.ensures.right self.right;
+      loads = still-loads self.trail c.fork_at_step.new.self self.scenario.image c.fork_at_step.ensures.loaded
+          self.loads;
+      right = moved self.scenario c.setup.result.now c.marks.result.now self.trail c.fork_at_step.new.self
+          c.setup.ensures c.marks.ensures c.fork_at_step.ensures.right self.right;
     }

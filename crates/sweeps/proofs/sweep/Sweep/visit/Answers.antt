@@ -15,7 +15,8 @@ use Rattle.sweeps.proofs.sweep.Sweep.visit.Goals as goal
 pub try_site-requires-clause-stands : goal.try_site-requires-clause-stands
 try_site-requires-clause-stands c =
     let self = c.args.self.now in
-    let there = found-some self.run.scenario _ c.in_ok-found.found c.in-Some.site c.in-Some.is c.in_ok-found.ensures.found
+    let there = found-some self.run.scenario _ c.in_ok-found.found c.in-Some.site c.in-Some.is
+    c.in_ok-found.ensures.found
     in
     subst (λ (s : Scenario). Stands s c.in-Some.site.standing) (sym c.find.ensures.same)
     (stands-there self.run.scenario c.args.plan.now self.near self.unmarked c.place-place.result c.in-Some.site.standing
@@ -24,7 +25,8 @@ try_site-requires-clause-stands c =
 pub try_site-requires-clause-below : goal.try_site-requires-clause-below
 try_site-requires-clause-below c =
     let self = c.args.self.now in
-    let there = found-some self.run.scenario _ c.in_ok-found.found c.in-Some.site c.in-Some.is c.in_ok-found.ensures.found
+    let there = found-some self.run.scenario _ c.in_ok-found.found c.in-Some.site c.in-Some.is
+    c.in_ok-found.ensures.found
     in
     subst (λ (s : Scenario). IsBelow s.step c.in-Some.site.standing) (sym c.find.ensures.same)
     (stands-there self.run.scenario c.args.plan.now self.near self.unmarked c.place-place.result c.in-Some.site.standing
@@ -42,8 +44,8 @@ returns-in_default-clause-met c =
     let self = c.args.self.now in
     let plan = c.args.plan.now in
     let none = found-none self.run.scenario _ c.in_ok-found.found c.in_default.not-Some c.in_ok-found.ensures.found in
-    let nothing = ap (all_changes self.run.scenario plan) (ap (standing_in self.run.scenario plan) (sym c.place-place.ensures)
-    ∙ none) in
+    let nothing = ap (all_changes self.run.scenario plan) (ap (standing_in self.run.scenario plan) (sym
+    c.place-place.ensures) ∙ none) in
     meets-from self.with_output self.run.scenario c.find.new.run.scenario self.counts self.counts _
     c.args.out.now.items c.args.out.now.items c.find.ensures.same
     (subst (λ (xs : List Change). CountsMore self.counts self.counts self.with_output self.run.scenario xs
@@ -55,10 +57,11 @@ unfolding HasMet scenario_of tells_output
 returns-clause-met c =
     let self = c.args.self.now in
     let plan = c.args.plan.now in
-    let there = found-some self.run.scenario _ c.in_ok-found.found c.in-Some.site c.in-Some.is c.in_ok-found.ensures.found
+    let there = found-some self.run.scenario _ c.in_ok-found.found c.in-Some.site c.in-Some.is
+    c.in_ok-found.ensures.found
     in
-    let all = ap (all_changes self.run.scenario plan) (ap (standing_in self.run.scenario plan) (sym c.place-place.ensures)
-    ∙ there.0) in
+    let all = ap (all_changes self.run.scenario plan) (ap (standing_in self.run.scenario plan) (sym
+    c.place-place.ensures) ∙ there.0) in
     meets-from self.with_output self.run.scenario c.try_site.new.run.scenario self.counts c.try_site.new.counts _
     c.args.out.now.items c.try_site.new.out.items (c.try_site.ensures.same ∙ c.find.ensures.same)
     (subst (λ (xs : List Change). CountsMore self.counts c.try_site.new.counts self.with_output self.run.scenario xs
@@ -73,8 +76,8 @@ returns-in_default-clause-covered c done fits are =
     let self = c.args.self.now in
     let plan = c.args.plan.now in
     let none = found-none self.run.scenario _ c.in_ok-found.found c.in_default.not-Some c.in_ok-found.ensures.found in
-    let nothing = ap (all_changes self.run.scenario plan) (ap (standing_in self.run.scenario plan) (sym c.place-place.ensures)
-    ∙ none) in
+    let nothing = ap (all_changes self.run.scenario plan) (ap (standing_in self.run.scenario plan) (sym
+    c.place-place.ensures) ∙ none) in
     let more = done ++ changes_at self.run.scenario plan c.args.place in
     subst (λ (s : Scenario). AreCovered s more self.coverage.range self.coverage.table.items)
     (sym c.find.ensures.same)
@@ -89,7 +92,8 @@ returns-clause-covered c done fits are =
     let self = c.args.self.now in
     let plan = c.args.plan.now in
     let new = c.try_site.new.coverage.table.items in
-    let there = found-some self.run.scenario _ c.in_ok-found.found c.in-Some.site c.in-Some.is c.in_ok-found.ensures.found
+    let there = found-some self.run.scenario _ c.in_ok-found.found c.in-Some.site c.in-Some.is
+    c.in_ok-found.ensures.found
     in
     let is = ap (standing_in self.run.scenario plan) (sym c.place-place.ensures) ∙ there.0 in
     let may = may-cover self.run.scenario plan c.args.place self.coverage.range done self.coverage.table.items
