@@ -1,7 +1,6 @@
 //! The changes of a byte, one at a time, each by a run that enters in a table what it executes.
 ghost use Rattle.std.specs.Prelude.{◌≡◌, ◌≤◌, ◌∷◌, [], ℕ, IfOk, OnOk, Some, length};
 ghost use Rattle.std.specs.List.{All};
-ghost use Rattle.checkpoints.specs.Edits.{IsRightForRun};
 ghost use Rattle.checkpoints.specs.Effects.{IsOfSetup, LeadsTo, Run};
 ghost use Rattle.checkpoints.specs.Forks.{IsForkFor};
 ghost use Rattle.checkpoints.specs.Merged.{AlsoEnters};
@@ -20,7 +19,7 @@ use crate::meeting::try_place;
 use crate::outcomes::take_back;
 use crate::settings::Settings;
 use crate::sites::Site;
-use checkpoints::{Effect, Fork, Sides, Trail};
+use checkpoints::{Effect, Fork, Sides};
 use guest_machine::Span;
 use scenario::Scenario;
 use scenario::laws::edits_follow;
@@ -37,17 +36,16 @@ pub(crate) struct Coverage {
 /// Returns the table of a range that says what the unedited run has executed. That of a range of no bytes needs no run.
 pub(crate) fn unedited_table(
     alloc: Global,
-    trail: &Trail,
-    scenario: &Scenario,
+    run: &HeldRun,
     range: Span,
 ) -> Result<Vec<Sides>, AllocError>
-    requires { IsRightForRun trail.now (run_of scenario.now) }
-    ensures { IfOk result (λ table. AreCovered scenario.now [] range table.items) }
+    ensures { IfOk result (λ table. AreCovered run.now.scenario [] range table.items) }
 {
     if range.len == 0 {
         return Ok(Vec::new(alloc));
     }
-    trail.sides(
+    let scenario = &run.scenario;
+    run.trail.sides(
         alloc,
         range,
         scenario.step(),

@@ -1,16 +1,16 @@
 //! A scenario together with the trail of its run.
-ghost use Rattle.std.specs.Prelude.{◌≡◌, ◌≤◌, IfOk};
+ghost use Rattle.std.specs.Prelude.{◌≡◌, ◌≤◌, [], IfOk};
 ghost use Rattle.checkpoints.specs.Edits.{IsRightForRun};
 ghost use Rattle.checkpoints.specs.Forks.{IsForkFor};
 ghost use Rattle.checkpoints.specs.OneProof.{right-prop};
 ghost use Rattle.checkpoints.specs.Trails.{LoadsAs, loaded_of};
 ghost use Rattle.checkpoints.specs.Words.{IsCodeIn};
 ghost use Rattle.checkpoints.specs.declared.effect.Effect.TheVariants.{After, Input};
-ghost use Rattle.scenario.specs.Scenario.{run_of, limit_of};
+ghost use Rattle.scenario.specs.Scenario.{IsOutlineOf, run_of, limit_of};
 
-use checkpoints::{Fork, Trail};
+use checkpoints::{Fork, Trail, spacing_for};
 use scenario::Scenario;
-use std::alloc::AllocError;
+use std::alloc::{AllocError, Global};
 
 /// A scenario, and machines of its run.
 #[derive(Drop)]
@@ -21,8 +21,29 @@ pub(crate) struct HeldRun<'a> {
     ghost right: { IsRightForRun trail (run_of scenario) } by { right-prop trail (run_of scenario) },
 }
 
-impl HeldRun<'_> {
+impl<'a> HeldRun<'a> {
     ghost use Rattle.sweeps.specs.Sites.{ForksEachCode};
+
+    /// Returns the run of an unedited scenario, without a machine but the first.
+    pub(crate) fn begin(alloc: Global, scenario: Scenario<'a>) -> Result<Self, AllocError>
+        requires { scenario.words ≡ [] }
+        ensures { IfOk result (λ run. run.scenario ≡ scenario.entry) }
+    {
+        let trail = Trail::begin_apart(alloc, scenario.image(), spacing_for(scenario.limit()))?;
+        Ok(HeldRun { scenario, trail })
+    }
+
+    /// Returns the outline of the scenario.
+    pub(crate) fn outline(&mut self, with_output: bool) -> Result<Vec<u8>, AllocError>
+        ensures same { self.new.scenario ≡ self.old.scenario }
+        ensures outline { IfOk result (λ text. IsOutlineOf with_output self.old.scenario text.items) }
+    {
+        let scenario = &self.scenario;
+        let machine = self
+            .trail
+            .at_altered(scenario.step(), scenario.setup(), scenario.marks())?;
+        scenario.outline(&machine, with_output)
+    }
 
     /// Returns the machine from which each run continues that has another byte at an offset.
     pub(crate) fn fork_at_byte(&mut self, offset: u32) -> Result<Fork, AllocError>

@@ -7,7 +7,7 @@ ghost use Rattle.scenario.specs.Scenario.{first_state, limit_of};
 ghost use Rattle.sweeps.specs.LastForks.{last-fork-prop};
 ghost use Rattle.sweeps.specs.Sites.{IsLastFork};
 
-use crate::beginning::{scenario_at, unedited_run};
+use crate::beginning::{count_unedited, scenario_at};
 use crate::counting::Counts;
 use crate::entering::{Coverage, try_site, unedited_table};
 use crate::held_run::HeldRun;
@@ -104,9 +104,10 @@ impl<'a> Sweep<'a> {
         ensures range { IfOk result (λ sweep. range_of sweep ≡ range) }
         ensures covered { IfOk result (λ sweep. HasCovered sweep []) }
     {
-        let (start, trail, counts) = unedited_run(alloc, &scenario, with_output, out)?;
-        let table = unedited_table(alloc, &trail, &scenario, range)?;
-        let run = HeldRun { scenario, trail };
+        let start = Machine::start(alloc, scenario.image())?;
+        let mut run = HeldRun::begin(alloc, scenario)?;
+        let counts = count_unedited(alloc, &mut run, with_output, out)?;
+        let table = unedited_table(alloc, &run, range)?;
         Ok(Sweep {
             alloc,
             run,

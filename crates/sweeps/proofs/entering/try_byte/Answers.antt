@@ -33,6 +33,6 @@ returns-clause-covers c =
     let all = c.deref.ensures.value ∙ c.in_ok-changes.ensures
     ∙ byte-changes sc c.args.plan.now c.args.site.now.standing c.requires.byte in
     on_ok_weaker c.try_each_entering.result (subst (λ (xs : List Change). CoversMore sc
-    c.args.coverage.now.range.start xs
-    c.args.coverage.now.table.items c.try_each_entering.new.coverage.table.items) all)
+    c.args.coverage.now.range.start xs c.args.coverage.now.table.items c.try_each_entering.new.coverage.table.items)
+    all)
     c.try_each_entering.ensures.covers

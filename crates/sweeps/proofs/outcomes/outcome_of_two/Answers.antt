@@ -53,14 +53,14 @@ unmark-requires-clause-few c =
     let after = c.outcome_of_second-told.ensures.same ∙ c.in_ok-edit.ensures.ok
     ∙ ap (λ e. (row sc e).after) c.edit.ensures in
     let few : length c.args.scenario.now.marks < most_marks = omega (arith, c.requires.may.room) in
-    subst (λ (s : Scenario). length s.marks ≤ most_marks) (sym after) (with-mark sc c.args.first.step
-    c.args.first.glitch few).1
+    subst (λ (s : Scenario). length s.marks ≤ most_marks) (sym after)
+    (with-mark sc c.args.first.step c.args.first.glitch few).1
 
 pub returns-clause-same : goal.returns-clause-same
 returns-clause-same c =
     let sc = c.args.scenario.now in
-    c.unmark.ensures sc c.args.first.step c.args.first.glitch (c.outcome_of_second-told.ensures.same ∙
-    c.in_ok-edit.ensures.ok ∙ ap (λ e. (row sc e).after) c.edit.ensures)
+    c.unmark.ensures sc c.args.first.step c.args.first.glitch (c.outcome_of_second-told.ensures.same
+    ∙ c.in_ok-edit.ensures.ok ∙ ap (λ e. (row sc e).after) c.edit.ensures)
 
 pub returns-clause-outcome : goal.returns-clause-outcome
 unfolding IsOutcome
@@ -73,7 +73,8 @@ returns-clause-outcome c =
     let few : length sc.marks < most_marks = omega (arith, may.room) in
     let near : c.args.first.step ≤ limit_of c.args.scenario.now = omega (arith, may.forward, may.near) in
     let leads = c.edits_follow.ensures sc edit (glitch-taken sc c.args.first.step c.args.first.glitch near few
-    c.requires.right) in IfOk-weaker c.outcome_of_second-told.result _ _
+    c.requires.right) in
+    IfOk-weaker c.outcome_of_second-told.result _ _
     (λ text told. subst (λ (s : Scenario). IsOutlineOf c.args.with_output
     (row s (glitch_edit c.args.second.step c.args.second.glitch)).after text.items) after
     (told c.args.first.step (run_of sc) (subst (λ (s : Scenario). LeadsTo (After c.args.first.step) (run_of sc)
