@@ -11,7 +11,7 @@ from packaging.helps import helps
 from packaging.man import man_pages
 from packaging.notices import notices
 from packaging.pages import manual
-from packaging.source import PROGRAM
+from packaging.source import PROGRAM, output
 from paging.folder import one_file, write_folder
 from paging.module import module
 from replaycheck import installed_page
@@ -72,6 +72,7 @@ def fill(tree, source):
             to.parent.mkdir(parents=True, exist_ok=True)
             shutil.copy(TOP / name, to, follow_symlinks=False)
     put(tree / HOME / "replaycheck", source.program.read_bytes(), runs=True)
+    put(tree / HOME / "replaycheck.options", output(TOP / "build" / "options", source.program))
     put(tree / HOME / "built-from", f"{source.commit}\n")
     for name in ("replaycheck", "replaycheck-exec"):  # the launcher is `replaycheck exec` by the second
         link(tree / "bin" / name, tree / HOME / "cli" / "replaycheck")

@@ -550,6 +550,13 @@ def launcher_rows():
               "*Usage: replaycheck* run [OPTIONS] <FILE>*--errors-for-leak-kinds LIST*--require-heap*Exit status with these options:*")
     for words in (["run", "--error-exitcode=1", "--help"], ["run", "-h"], ["help", "run"]):
         yield Row(f"both helps of run, by {' '.join(words)}", words, 0, "*Usage: replaycheck* run *--errors-for-leak-kinds LIST*")
+    for words in (["exec", "--help"], ["exec", "-q", "-h"], ["help", "exec"]):
+        yield Row(f"both helps of exec, by {' '.join(words)}", words, 0, "*Usage: replaycheck* exec *As Valgrind has them:*")
+    yield Row("help of help", ["help"], 0, "*Usage: replaycheck*  replaycheck word *those for test runners.\n*")
+    yield Row("help of a command", ["help", "look"], 0, "*Usage: replaycheck look*")
+    yield Row("help of no command", ["help", "walks"], 2, "", "*walks*")
+    yield Row("an option that nobody has", ["--walks"], 2, "", "*error: unexpected argument '--walks' found*")
+    yield Row("an empty word", [""], 2, "", "*error: unrecognized subcommand ''*")
     yield Row("help of a tool", ["help", "when"], 0, "*usage: replaycheck when FILE*")
     yield Row("a path that isn't there is no tool", ["../bin/ls"], 2, "", "*no such command, tool or file: ../bin/ls: *")
     yield Row("a program by its path", ["./use-after-free.elf"], 0, "*step 1048576\nstate exited 0\n*error 1: Invalid read*")

@@ -4,10 +4,10 @@ from __future__ import annotations
 import os
 import sys
 from argparse import Namespace
-from typing import NoReturn
 
 from replaycheck.children import outcome
 from replaycheck.endings import Fault, flush, write
+from replaycheck.launching import become_program
 from replaycheck.options import LAST_STEP, BadValue, Parser, number
 from replaycheck.programs import isa_words, path_of, program
 from replaycheck.refusals import Ended, Refused
@@ -217,15 +217,10 @@ def checked(options: Namespace) -> int:
     return options.error_exitcode if verdict.fails(options.errors_for_leak_kinds[1]) else 0
 
 
-def become_program(words: list[str]) -> NoReturn:
-    """The program itself has to do with arguments of which no option is another one's."""
-    path = program()
-    os.execvp(path, [path, "run", *words])
-
-
 def run(page: str) -> int:
     """Makes a report as the command line asks for, or becomes the program. Returns the exit status."""
     words = sys.argv[1:]
     names = names_of(words)
-    is_own = names & OWN or "--help" in names or any(elsewhere(name) is not None for name in names)
-    return checked(options_of(page, words)) if is_own else become_program(words)
+    if not names & OWN and not any(elsewhere(name) is not None for name in names):
+        become_program(["run", *words])
+    return checked(options_of(page, words))

@@ -187,7 +187,7 @@ def outcome_of(name, main):
 
 
 def end(name, main):
-    """Ends a tool of this name with the status that its work gives, or as a signal does that comes meanwhile."""
+    """Ends a tool of this name with the status that its work gives, or as a signal does that comes meanwhile. The launcher has no name."""
     open_streams()
     try:
         status = outcome_of(name, main)
@@ -199,7 +199,7 @@ def end(name, main):
 
 def tell(name, fault):
     """Says on standard error what keeps a tool from its work, after what it has written already. Gives the status."""
-    said = fault.said or f"replaycheck {name}: {fault}\n"
+    said = fault.said or f"replaycheck{name and ' '}{name}: {fault}\n"
     try:
         flush()
     except Fault:

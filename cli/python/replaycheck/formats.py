@@ -3,7 +3,6 @@ import functools
 import json
 import os
 import re
-from typing import Any
 
 from replaycheck.findings import RULES, RUNNING
 from replaycheck.programs import ISAS
@@ -31,7 +30,7 @@ class Encoded(str):
     """A text that is JSON already. What is in many results is encoded once."""
 
 
-def flat(value: Any) -> str:
+def flat(value: object) -> str:
     """A value as JSON in one line."""
     if isinstance(value, Encoded):
         return value
@@ -42,7 +41,7 @@ def flat(value: Any) -> str:
     return json.dumps(value)
 
 
-def dumped(value: Any, depth: int, indent: str = "") -> str:
+def dumped(value: object, depth: int, indent: str = "") -> str:
     """A value as JSON, with each part on a line of its own down to a depth."""
     inner = indent + " "
     if isinstance(value, Encoded):

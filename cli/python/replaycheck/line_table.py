@@ -10,8 +10,8 @@ import functools
 import itertools
 import os
 import re
+from collections.abc import Iterator
 from dataclasses import dataclass
-from typing import Iterator, List, Optional, Tuple
 
 from replaycheck.guest.elf import Elf, beginning, tables
 
@@ -110,7 +110,7 @@ class Row:
 
     path: str
     line: int
-    including: Optional[str] = None
+    including: str | None = None
 
 
 class Unit:
@@ -166,7 +166,7 @@ class Unit:
                 raise Malformed
         return folders, files
 
-    def entries(self, reader) -> Iterator[Tuple[int, str]]:
+    def entries(self, reader) -> Iterator[tuple[int, str]]:
         columns = [(reader.number(), reader.number()) for _ in range(reader.fixed(1))]
         count = reader.number() if columns else 0
         if count > MOST_FILES:
@@ -195,7 +195,7 @@ class Unit:
         return os.path.join("", *self.folders[:1], *self.folders[folder:folder + 1], name) if name else ""
 
     @functools.cached_property
-    def including(self) -> Optional[str]:
+    def including(self) -> str | None:
         """The path of file 0, where some begin a sequence, if the file in which it does begin is another one."""
         zero, first = (self.path(it) for it in (0, FIRST_FILE)) if self.has_header and self.version == 5 else ("", "")
         return zero if zero != first else None
@@ -217,10 +217,10 @@ class Sequence:
 
     def __init__(self, unit: Unit, at):
         self.unit, self.at, self.address, self.file, self.line = unit, at, 0, None, 1
-        self.starts: List[int] = []
-        self.lines: List[Tuple[Optional[int], int]] = []
+        self.starts: list[int] = []
+        self.lines: list[tuple[int | None, int]] = []
 
-    def row(self, address) -> Optional[Row]:
+    def row(self, address) -> Row | None:
         """The row of an address, if the sequence has it and is as the standard has it."""
         try:
             while self.at is not None and self.address <= address:
@@ -288,7 +288,7 @@ class Sequence:
         self.at = reader.at
 
 
-def last_of(items: list, starts: List[int], address) -> list:
+def last_of(items: list, starts: list[int], address) -> list:
     """Of items by their starts those that have the last start which isn't after an address. They have one, unless the linker has left out
     functions, which it then puts at 0."""
     after = bisect.bisect_right(starts, address)
@@ -300,7 +300,7 @@ class LineTable:
 
     def __init__(self, path):
         self.sections = Sections(path)
-        self.units: List[Unit] = [*itertools.islice(self.all_units(), MOST_UNITS)]
+        self.units: list[Unit] = [*itertools.islice(self.all_units(), MOST_UNITS)]
         begins = sorted(self.beginnings(), key=lambda it: it[0])
         self.starts, self.sequences = [it for it, _ in begins], [it for _, it in begins]
 
@@ -315,7 +315,7 @@ class LineTable:
             yield Unit(self.sections, begin, at + size, at, width)
             begin = at + size
 
-    def beginnings(self) -> Iterator[Tuple[int, Sequence]]:
+    def beginnings(self) -> Iterator[tuple[int, Sequence]]:
         """The addresses at which sequences begin, with these. Other bytes that look like the opcode aren't near the end of a sequence."""
         lines, ends = self.sections.lines, [it.end for it in self.units]
         at = lines.find(BEGINNING)
@@ -328,12 +328,12 @@ class LineTable:
                 yield int.from_bytes(lines[after:after + 4], "little"), Sequence(unit, begin - unit.begin)
             at = lines.find(BEGINNING, after)
 
-    def row(self, address, is_wanted=lambda unit: True) -> Optional[Row]:
+    def row(self, address, is_wanted=lambda unit: True) -> Row | None:
         """The row of an address, or None, also where it isn't of a unit that is wanted."""
         wanted = (it for it in last_of(self.sequences, self.starts, address) if it.unit.has_header and is_wanted(it.unit))
         return next(filter(None, (it.row(address) for it in wanted)), None)
 
-    def misread(self, address) -> Optional[Row]:
+    def misread(self, address) -> Row | None:
         """The row of an address of which some take file 0 for its file, though that is another one."""
         found = self.row(address, lambda unit: unit.including is not None)
         return found if found and found.including is not None else None

@@ -3,12 +3,16 @@ from __future__ import annotations
 
 import argparse
 import sys
-from typing import Any, Callable, NoReturn, Sequence
+from collections.abc import Callable, Sequence
 
 from replaycheck.endings import Fault, write
 from replaycheck.guest.regions import (GREATEST_MOVED, GREATEST_OUTPUT, HEAP_WANTED, STACK_WANTED, USUAL_MOVED, USUAL_OUTPUT, USUAL_REGIONS,
                                  Regions, is_heap, is_stack, overlap)
 from replaycheck.programs import ISAS
+
+TYPE_CHECKING = False  # its name in the module typing, which takes long to import
+if TYPE_CHECKING:
+    from typing import Any, NoReturn
 
 # The last step that there is without `--limit`, that of many commands without another one, and the greatest that `--limit` takes.
 LAST_STEP, USUAL_STEP, FURTHEST_STEP = 4194304, 1048576, 2147483647

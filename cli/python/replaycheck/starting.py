@@ -12,7 +12,7 @@ from replaycheck.endings import end, write  # noqa: E402
 
 def start(name: str) -> None:
     """Runs the tool of a name, a module of replaycheck/commands, and ends with its status. For its page nothing is imported that it needs
-    for its work."""
+    for its work: that is the module's text, unless the module has a `show_page`. Lines of errors name it `NAME`, if the module has that."""
     tool = import_module(f"replaycheck.commands.{name.replace('-', '_')}")
-    asks_for_page = sys.argv[1:] in (["-h"], ["--help"])
-    end(name.partition("-")[0], (lambda: write(str(tool.__doc__).strip() + "\n")) if asks_for_page else tool.main)
+    show_page = getattr(tool, "show_page", lambda: write(str(tool.__doc__).strip() + "\n"))
+    end(getattr(tool, "NAME", name), show_page if sys.argv[1:] in (["-h"], ["--help"]) else tool.main)

@@ -45,8 +45,13 @@ binutils for RISC-V. Without c++filt names stay, and a line says so.
 
 The exit status is 125 if the log can't be written, and 126 if FILE has no room
 for arguments. All others are those of `exec` without these options."""
+from replaycheck.launching import show_helps
+
+
+def show_page() -> int:
+    return show_helps("exec", str(__doc__))
 
 
 def main() -> int:
     from replaycheck.executing.execution import run  # here, as the page needs none of it
-    return run(__doc__)
+    return run(show_page)

@@ -1,12 +1,14 @@
 """Writes the log of a quiet run, which the launcher has made: of the report on standard input, whose first byte is an argument.
 
-usage: exec-log PID FIRST ISA FILE
-
-ISA is what --isa names, or empty."""
+usage: exec-log PID FIRST [--OPTION[=VALUE] ..] -- FILE"""
+import gc
 import sys
 
-from replaycheck.executing.execution import log_of_quiet_run
+NAME = "exec"
 
 
 def main() -> int:
-    return log_of_quiet_run(*sys.argv[1:])
+    gc.disable()  # it mostly imports, and what it makes is needed to its end
+    from replaycheck.executing.quiet_log import write_log
+    process, first, *options, _, file = sys.argv[1:]
+    return write_log(process, first, options, file)

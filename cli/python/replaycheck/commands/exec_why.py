@@ -5,6 +5,8 @@ import sys
 
 from replaycheck.executing.execution import say_why
 
+NAME = "exec"
+
 
 def main() -> int:
     return say_why(int(sys.argv[1]), sys.argv[2:])

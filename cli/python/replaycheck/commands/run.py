@@ -60,8 +60,19 @@ Environment:
                binutils for RISC-V
   CXXFILT      the c++filt that makes names readable, instead of that of the
                binutils"""
+import gc
+import sys
+
+from replaycheck.launching import asks_for_help, show_helps
+
+
+def show_page() -> int:
+    return show_helps("run", str(__doc__))
 
 
 def main() -> int:
+    if asks_for_help(sys.argv[1:]):
+        return show_page()
+    gc.disable()  # it mostly imports, and what it makes is needed to its end
     from replaycheck.checked_run import run  # here, as the page needs none of it
-    return run(__doc__)
+    return run(str(__doc__))

@@ -40,12 +40,13 @@ Environment:
 from typing import Optional
 
 from replaycheck.endings import Fault, write
+from replaycheck.guest.encodings import read
+from replaycheck.guest.rv32 import ZERO, jump
 from replaycheck.options import USUAL_STEP, Parser, edit, one_line
 from replaycheck.programs import unit_of
 from replaycheck.sessions import Session
 
-
-SELF_JUMP, SHORT_SELF_JUMP = "6f000000", "01a0"  # the bytes of `j .` and of `c.j .`
+SELF_JUMP = jump(ZERO, 0)  # `j .`, and what `c.j .` stands for
 
 
 class NotYet(Fault):
@@ -59,8 +60,9 @@ def goes_on(session: Session, last: int, isa: str) -> bool:
     _, state, *at = session.report_at(last)[1].split()
     if state != "running":
         return False
-    code = session.accepted(f"look memory {at[0]} 4")[0].rpartition(" ")[2]
-    return code != SELF_JUMP and not (unit_of(isa) == 2 and code.startswith(SHORT_SELF_JUMP))
+    code = bytes.fromhex(session.accepted(f"look memory {at[0]} 4")[0].rpartition(" ")[2])
+    instruction = read(code, 0, len(code), unit_of(isa))
+    return instruction is None or instruction[1] != SELF_JUMP
 
 
 def first_step(session: Session, last: int, text: str) -> Optional[int]:

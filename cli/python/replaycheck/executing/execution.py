@@ -1,19 +1,18 @@
 """`replaycheck exec` with options that the program itself doesn't have: a run by the program, and a log of its report."""
 import os
 import sys
+from collections.abc import Callable
 
 from replaycheck.children import outcome, started, tied
-from replaycheck.endings import Fault, Interrupted, write
+from replaycheck.endings import Fault, Interrupted
 from replaycheck.executing.arguments import patches_for
-from replaycheck.executing.choices import FAILED, Choices, choices_of
-from replaycheck.executing.logs import Log, Unwritten, log_text, note
+from replaycheck.executing.command import choices_of
+from replaycheck.executing.logs import Log, guarded, log_text, note, parsed
 from replaycheck.options import LAST_STEP
-from replaycheck.programs import USUAL, isa_words, path_of, program
+from replaycheck.programs import isa_words, path_of, program
 from replaycheck.refusals import why_unreadable, with_words
-from replaycheck.reports import Lines, NoReport, read_report
 
 UNREADABLE, REFUSED = 127, 126
-READ_AT_ONCE = 65536
 
 
 class Unreadable(Fault):
@@ -99,14 +98,6 @@ def reasons(choices, status):
                 yield choices.file + with_words(line)[len(line):]
 
 
-def parsed(told):
-    """The report that a text is."""
-    try:
-        return read_report(Lines(told.split("\n")[:-1]))
-    except NoReport as fault:
-        raise Fault(f"{program()}: {fault}") from None
-
-
 def is_told(choices, report):
     """Whether a log is written of a report: always, but of a quiet run only where it has an error, a listed leak or a stop."""
     if not choices.quiet or choices.log_format not in ("valgrind", "report"):
@@ -157,49 +148,18 @@ def executed(choices):
     return status
 
 
-def guarded(action):
-    """Does something whose faults have the statuses of `exec`."""
-    try:
-        return action()
-    except Fault as fault:
-        fault.status = FAILED if fault.status == 2 else fault.status
-        raise
-    except OSError as fault:
-        named = f"{os.fspath(fault.filename)}: " if fault.filename else ""
-        raise Unwritten(f"{named}{fault.strerror or fault}") from None
-
-
-def begin(page: str) -> int:
+def begin(show_page: Callable[[], int]) -> int:
     choices = choices_of(sys.argv[1:])
     if choices.asks_for_help:
-        write(page.strip() + "\n")
-        return 0
+        return show_page()
+    if not os.path.exists("/dev/fd"):
+        raise Fault("there is no /dev/fd, which is a link into /proc: mount /proc")
     return executed(choices)
 
 
-def run(page: str) -> int:
-    """Does what a command line asks for. Returns the exit status."""
-    return guarded(lambda: begin(page))
-
-
-def rest_of(number):
-    """What is left to be read from a descriptor."""
-    parts = []
-    while part := os.read(number, READ_AT_ONCE):
-        parts.append(part)
-    return b"".join(parts)
-
-
-def log_of_quiet_run(process: str, first: str, isa: str, file: str) -> int:
-    """Writes the log of a run that the launcher has made, whose report is on standard input after its first byte. `isa` is empty for the
-    usual instruction set."""
-    def main():
-        choices = Choices()
-        choices.file, choices.quiet, choices.isa = file, True, isa or USUAL
-        told = first + rest_of(0).decode("utf-8", "surrogateescape")
-        Log(choices).write(log_text(choices, told, parsed(told), process))
-        return 0
-    return guarded(main)
+def run(show_page: Callable[[], int]) -> int:
+    """Does what a command line asks for, or shows the page. Returns the exit status."""
+    return guarded(lambda: begin(show_page))
 
 
 def say_why(status: int, words: list[str]) -> int:

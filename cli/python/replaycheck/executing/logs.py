@@ -3,6 +3,8 @@ import os
 
 from replaycheck.endings import Fault, tell
 from replaycheck.executing.choices import FAILED, Usage
+from replaycheck.programs import program
+from replaycheck.reports import Lines, NoReport, read_report
 
 NAME = "exec"
 
@@ -11,6 +13,26 @@ class Unwritten(Fault):
     """A log that can't be written."""
 
     status = FAILED
+
+
+def guarded(action):
+    """Does something whose faults have the statuses of `exec`."""
+    try:
+        return action()
+    except Fault as fault:
+        fault.status = FAILED if fault.status == 2 else fault.status
+        raise
+    except OSError as fault:
+        named = f"{os.fspath(fault.filename)}: " if fault.filename else ""
+        raise Unwritten(f"{named}{fault.strerror or fault}") from None
+
+
+def parsed(told):
+    """The report that a text is."""
+    try:
+        return read_report(Lines(told.split("\n")[:-1]))
+    except NoReport as fault:
+        raise Fault(f"{program()}: {fault}") from None
 
 
 def note(text):

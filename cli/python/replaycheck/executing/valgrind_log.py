@@ -1,5 +1,4 @@
 """A log in the form of Valgrind's Memcheck, which ctest's MemCheck step reads."""
-from replaycheck.file_heaps import has_heap
 from replaycheck.findings import is_at_atomic
 from replaycheck.other_sets import hint
 from replaycheck.programs import unit_of
@@ -68,6 +67,7 @@ def leak_lines(shown):
 
 def summary_lines(shown):
     """The sums of leaks, or that there are none, where a heap was seen; and of errors."""
+    from replaycheck.file_heaps import has_heap  # here, as a quiet log has no sums
     report = shown.report
     if any(it.blocks for it in report.sums.values()):
         yield "LEAK SUMMARY:"
