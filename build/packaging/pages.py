@@ -28,13 +28,11 @@ IN_RELEASE = (
     (" In a checkout the first command builds `replaycheck`, once: a first report comes in about 2 minutes, its proof in 12 to 40.", ""),
     ("`./replaycheck` at the top of the repository builds the program first if it has to. If that build fails, it ends with 1 too, and "
      "says at which crate, and where its log is.", ""),
-    ("| `--anew`, `--kept` | `page` | compiles the module again; uses only a kept one | [the page](page.md) |", ""),
-    (" `--unproved`, as the first word after `./replaycheck` in a checkout, answers by a build that is "
+    ("| `--anew`, `--kept` | `page` | compiles the module again; uses only a kept one |", ""),
+    (" `--unproved`, as the first argument of `./replaycheck` in a checkout, uses a build that is "
      "[tested and not proved](../../README.md#get-it).", ""),
-    ("In a checkout `./replaycheck page` [builds it](#in-the-repository).", ""),
+    ("In a checkout `./replaycheck page` [builds it](../../page/README.md#how-it-is-built), in some four minutes.", ""),
 )
-# A part of a page that speaks of the repository only.
-OF_REPOSITORY = re.compile(r"^## In the repository\n(?:(?!## ).*\n)*", re.M)
 LINK = re.compile(r'<a href="(?!#|https?:)([^"#]*)(#[^"]*)?">(.*?)</a>', re.S)
 
 
@@ -48,7 +46,7 @@ def sources():
         if changed == texts:
             raise Fault(f"docs: no page of a release has the text that packaging/pages.py replaces: {old.strip()}")
         texts = changed
-    return {name: OF_REPOSITORY.sub("", re.sub(r"\n{3,}", "\n\n", text)) for name, text in texts.items()}
+    return {name: re.sub(r"\n{3,}", "\n\n", text) for name, text in texts.items()}
 
 
 def turned(text, *words):

@@ -1,4 +1,4 @@
-"""The workflows of examples/ci/, for test-manual: whether the chapter on CI quotes them as they are, and what their shell commands do."""
+"""The workflows of examples/ci/, for test-manual: whether the chapter on CI quotes one as it is, and what their shell commands do."""
 import pathlib
 import re
 import subprocess
@@ -27,11 +27,10 @@ def steps(text: str) -> list[str]:
 
 
 def copies() -> Iterator[str]:
-    """The workflows that the chapter quotes otherwise than they are."""
+    """Whether the chapter quotes the first of the workflows otherwise than it is, or another one."""
     shown = YAML.findall(CHAPTER.read_text())
-    yield from (f"not as in examples/ci/{name}" for name, text in zip(WORKFLOWS, shown) if text != text_of(name))
-    if len(shown) != len(WORKFLOWS):
-        yield f"{len(shown)} workflows, and examples/ci has {len(WORKFLOWS)}"
+    if shown != [text_of(next(iter(WORKFLOWS)))]:
+        yield f"not as in examples/ci/{next(iter(WORKFLOWS))}"
 
 
 def typed(project: pathlib.Path, text: str) -> tuple[str, int, str]:

@@ -7,7 +7,7 @@
         with run.edited("input 27 2"):
             print(run.report().errors[0].text)
 
-The chapter "From Python" of the manual has all of it. The other modules of this package belong to the tools: they change without notice.
+The chapter "From Python" of the manual has examples. The other modules of this package belong to the tools: they change without notice.
 """
 TYPE_CHECKING = False  # as of the module typing, whose import takes longer than a short run of a tool
 if TYPE_CHECKING:
