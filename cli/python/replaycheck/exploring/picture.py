@@ -78,12 +78,7 @@ class Picture:
 
     def kind_of(self, number):
         """The kind of an outcome of a sweep of bytes or words, by the worst that is new in it."""
-        if number == 0:
-            return "o0"
-        news = self.summary.news[number]
-        if news:
-            return next(name for name, (begins, _, _) in BY_KIND.items() if news[0].text.startswith(begins or ("\n",)))
-        return "o1" if self.badness(number) > 0 else "o"
+        return kind_of_outcome(number, self.summary.news[number], self.badness(number) > 0)
 
     def style(self):
         light, dark = ("".join(f".{name}{{fill:{pair[i]}}}" for name, pair in self.colours.items()) for i in (0, 1))
@@ -206,3 +201,13 @@ class Picture:
                 text += f": {self.first_of(numbers)}"
             yield (f'<rect class="{name}" x="16" y="{y - 11}" width="14" height="14"/><text class="ink e" x="110" y="{y}">{edits}</text>'
                    f'<text class="{style}" x="120" y="{y}">{xml(text, 120 if self.steps else 94)}<title>{xml(told, 1000)}</title></text>')
+
+
+def kind_of_outcome(number, news, runs_on):
+    """The name in BY_KIND of an outcome by its number, where the unedited run's is 0, and by what is new in it, the worst first. `runs_on`
+    says whether it still runs where the unedited run ends."""
+    if number == 0:
+        return "o0"
+    if news:
+        return next(name for name, (begins, _, _) in BY_KIND.items() if news[0].text.startswith(begins or ("\n",)))
+    return "o1" if runs_on else "o"
