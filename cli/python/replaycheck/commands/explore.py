@@ -98,8 +98,9 @@ What is printed:
                        standard output, without a summary
   --svg OUT            draw a picture: a column for each place, a row for each
                        value, a colour for each kind of error, greys for what
-                       is harmless. Of steps, a row for each register, bit or
-                       address, a colour for the worst that an edit leads to
+                       is harmless, blue for the goal. Of steps, a row for each
+                       register, bit or address, a colour for the worst that an
+                       edit leads to
   --html OUT           write the sweep as a page that a browser opens from disk,
                        without a server and without replaycheck: the picture,
                        the errors by their places, and of each edit its report,

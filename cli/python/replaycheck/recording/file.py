@@ -26,7 +26,7 @@ from .sources import Sources
 PARTS = pathlib.Path(__file__).parent / "parts"
 SCRIPTS = ("data.js", "picture.js", "view.js")
 MARK = re.compile(r"\[\[([a-z]+)\]\]")
-GOAL, GOAL_COLOUR = "goal", ("#4478bf", "#73b4ff")
+GOAL = "g"
 HARMLESS = ("o1", "o", "o0")
 FILES = ("program", "input", "suppressions")
 
@@ -255,8 +255,8 @@ def hash_of(text: str) -> str:
 
 
 def colours() -> str:
-    """The colours of outcomes, those of the picture that `--svg` draws, and the goal's."""
-    pairs = {**{name: pair for name, (_, _, pair) in BY_KIND.items()}, GOAL: GOAL_COLOUR}
+    """The colours of outcomes, those of the picture that `--svg` draws."""
+    pairs = {name: pair for name, (_, _, pair) in BY_KIND.items()}
     light, dark = ("".join(f"--{name}:{pair[i]};" for name, pair in pairs.items()) for i in (0, 1))
     swatches = "".join(f".{name}{{background:var(--{name})}}" for name in pairs)
     return f":root{{{light}}}@media(prefers-color-scheme:dark){{:root{{{dark}}}}}{swatches}\n"

@@ -1,7 +1,7 @@
 // What a recording has, edit by edit. Edit 0 is the unedited run.
 
 // The kinds of outcomes, the worst first.
-const KINDS = ['goal', 'n1', 'n2', 'n3', 'n4', 'n5', 'n6', 'n7', 'n8', 'n9', 'o1', 'o', 'o0'];
+const KINDS = ['g', 'n1', 'n2', 'n3', 'n4', 'n5', 'n6', 'n7', 'n8', 'n9', 'o1', 'o', 'o0'];
 
 // The numbers of runs: of each run its first number, how many there are, and by how much one is greater than the one before.
 function numbersOf(runs) {
