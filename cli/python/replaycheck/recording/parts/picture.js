@@ -1,6 +1,6 @@
 // The picture: a column for each place, a row for each value, with neighbouring rows that are alike drawn as one. Only the columns that are
 // in view are drawn.
-const HEAD_OF_BYTES = 34, HEAD = 18, FOOT = 4, NARROWEST = 13, WIDEST = 48, ROOM = 42;
+const HEAD_OF_BYTES = 34, HEAD = 18, FOOT = 4, FOOT_OF_BYTES = 18, NARROWEST = 16, WIDEST = 48, ROOM = 42;
 const NONE = -1, AS_RECORDED = -2;
 
 class Picture {
@@ -66,7 +66,8 @@ class Picture {
       Object.assign(it, { y, tall: least + (rows > 19 ? 9 : rows > 3 ? 4 : 0) });
       y += it.tall;
     }
-    this.height = y + FOOT;
+    this.below = y;
+    this.height = y + (this.has.isOfBytes ? FOOT_OF_BYTES : FOOT);
   }
 
   // The width of a column, and the columns that are in view.
@@ -116,11 +117,12 @@ class Picture {
   drawNames(on, colour) {
     on.font = '11px ui-monospace, "DejaVu Sans Mono", monospace';
     on.textAlign = 'center';
-    const every = this.has.isOfBytes ? 1 : Math.ceil(90 / this.wide);
+    const every = Math.ceil((this.has.isOfBytes ? 44 : 90) / this.wide);
     for (let column = this.first; column < this.last; column++) {
       const middle = this.x(column) + this.wide / 2, value = this.has.before[column];
       on.fillStyle = colour(this.has.isOfBytes ? 'ink' : 'quiet');
       if (!this.has.isOfBytes && column % every === 0) on.fillText(this.has.columns[column], middle + ROOM / 2, 12);
+      if (this.has.isOfBytes) this.drawOffset(on, column, middle, every, colour);
       if (!this.has.isOfBytes || typeof value !== 'number') continue;
       on.fillText(value.toString(16).padStart(2, '0'), middle, 12);
       on.fillStyle = colour('quiet');
@@ -138,13 +140,20 @@ class Picture {
     }
   }
 
+  // The offset of a byte below its column.
+  drawOffset(on, column, middle, every, colour) {
+    on.fillStyle = colour('quiet');
+    if (column % every === 0) on.fillText(this.has.columns[column], middle, this.below + 13);
+    on.fillStyle = colour('ink');
+  }
+
   drawChosen(on, colour) {
     const { recorded, chosen } = this, column = recorded.column[chosen];
     const it = this.groups.find(({ from, to }) => from <= recorded.row[chosen] && recorded.row[chosen] <= to);
     if (!chosen || !it || recorded.panel[chosen] !== this.panel || column < this.first) return;
     on.strokeStyle = colour('ink');
     on.lineWidth = 1;
-    on.strokeRect(this.x(column) - 1.5, this.top - 1.5, this.wide + 2, this.height - this.top - FOOT + 2.5);
+    on.strokeRect(this.x(column) - 1.5, this.top - 1.5, this.wide + 2, this.below - this.top + 2.5);
     on.strokeStyle = colour('pick');
     on.lineWidth = 3;
     on.strokeRect(this.x(column) - 1, it.y - 1, this.wide + 1, it.tall + 1.5);
