@@ -46,8 +46,9 @@ def test_picture(tests):
         rects, text = drawn(tests, Made(41, values="all"), [f"--goal={goal}"])
         reached = [it for it in rects if it[0] == "g"]
         is_well = len(reached) == len([it for it in rects if wanted and f" {wanted}" in it[5]]) and (not wanted) == (not reached)
-        tests.check(f"picture: a goal, {label}", "" if is_well and (not wanted or f"reaches the goal: a line that begins with `{goal}`" in text)
-                    and not any(it[3] < 3 or it[4] < 3 for it in reached) else (len(reached), text[:300]))
+        is_told = not wanted or f"reaches the goal: a line that begins with `{goal}`" in text
+        small = [it for it in reached if it[3] < 3 or it[4] < 3]
+        tests.check(f"picture: a goal, {label}", "" if is_well and is_told and not small else (len(reached), text[:300]))
     tests.check("picture: the colour-blind, of a goal", close_colours(drawn(tests, Made(41, values="all"), ["--goal=exited 1"])[1]))
     few = ["exited 0", f"exited 0\n{ERROR}"]
     for label, count, few in (("1", 1, few), ("41", 41, None), ("400", 400, None), ("100,000", 100000, None)):

@@ -147,9 +147,15 @@ class Picture {
     on.fillStyle = colour('ink');
   }
 
+  // The rows that are drawn as one with that of an edit.
+  groupOf(edit) {
+    const row = this.recorded.row[edit];
+    return this.groups.find(({ from, to }) => from <= row && row <= to);
+  }
+
   drawChosen(on, colour) {
     const { recorded, chosen } = this, column = recorded.column[chosen];
-    const it = this.groups.find(({ from, to }) => from <= recorded.row[chosen] && recorded.row[chosen] <= to);
+    const it = this.groupOf(chosen);
     if (!chosen || !it || recorded.panel[chosen] !== this.panel || column < this.first) return;
     on.strokeStyle = colour('ink');
     on.lineWidth = 1;
@@ -166,6 +172,8 @@ class Picture {
     this.measure();
     const column = this.recorded.column[edit];
     if (edit && (column < this.first || column >= this.last - 1)) this.frame.scrollLeft = (column - 1) * this.wide;
+    const it = this.groupOf(edit), { scrollTop, clientHeight } = this.frame;
+    if (edit && it && (it.y < scrollTop || it.y + it.tall > scrollTop + clientHeight)) this.frame.scrollTop = it.y - clientHeight / 2;
     this.draw();
   }
 
@@ -190,8 +198,8 @@ class Picture {
     const [across, down] = { ArrowLeft: [-1, 0], ArrowRight: [1, 0], ArrowUp: [0, -1], ArrowDown: [0, 1] }[event.key] ?? [0, 0];
     if (!across && !down) return;
     event.preventDefault();
-    const { recorded, chosen } = this, row = recorded.row[chosen];
-    let column = chosen ? recorded.column[chosen] : 0, at = this.groups.findIndex(({ from, to }) => from <= row && row <= to);
+    const { recorded, chosen } = this;
+    let column = chosen ? recorded.column[chosen] : 0, at = this.groups.indexOf(this.groupOf(chosen));
     for (;;) {
       column += across;
       at += down;

@@ -128,7 +128,7 @@ class View {
       ...lines.map((text, i) => this.row(first + i, text, first + i === line ? one : null))]) : [];
     const missing = one ? `${one.title}${one.where && ` in ${one.where}`}` : 'There is no error or leak to show.';
     if (!rows.length || !file.pieces.some(([first, lines]) => line >= first && line < first + lines.length)) {
-      rows.unshift(this.message(one, missing));
+      rows.unshift(this.message(one, missing), ...(line ? [made('p', 'quiet', 'The source isn’t in this file.')] : []));
     }
     byId('source').replaceChildren(...rows);
     const hit = byId('source').querySelector('.message');
