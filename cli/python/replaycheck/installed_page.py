@@ -34,8 +34,9 @@ Options:
                     that opens from disk, DIR/page, a folder to serve, and
                     DIR/index.html, a sweep that leads to replaycheck.html;
                     open nothing
-  --recording FILE  make DIR/index.html of this file, which `replaycheck explore
-                    --html` has written; without it, it is a sweep of an example
+  --recording FILE  make DIR/index.html of this file, which is one that
+                    `explore --html` has written; without it, it is a sweep of
+                    an example
 
 Exit status:
   0  the page was opened or written

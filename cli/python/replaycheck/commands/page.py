@@ -17,8 +17,8 @@ of caches until the program, the shim or the toolchain changes.
 
 Options:
   --output DIR      the folder to write to, by default `out` of this repository
-  --recording FILE  make DIR/index.html of this file, which `replaycheck explore
-                    --html` has written
+  --recording FILE  make DIR/index.html of this file, which is one that
+                    `explore --html` has written
   --anew            compile the module again
   --kept            use only a kept module, and build nothing
 
