@@ -8,6 +8,7 @@ import random
 import re
 import shlex
 import shutil
+import signal
 import subprocess
 import sys
 
@@ -15,6 +16,7 @@ from checkout import TOP
 from coverage_cases import GCC, START, words_of
 from explore_executed import looker
 from explore_room import EXAMPLES, EXPLORE, PACKET
+from explore_signals import ended_by
 from guest_files import ENTRY, elf
 from replaycheck.guest.assembly import assemble
 from replaycheck.recording import file, runs
@@ -285,6 +287,11 @@ def test_wrong_runs(tests):
         shutil.copy(tests.room / "packet.input", tests.room / "changing.input")
         tests.refuses(f"--html: {label}", [PACKET[0], "--input=changing.input", *PACKET[2:], "--jobs=1", "--html=no.html"], text,
                       REPLAYCHECK=looker(tests, does))
+    looker(tests, "exec sleep 30")
+    for number in (signal.SIGINT, signal.SIGTERM):
+        (tests.room / "made").write_text("")
+        words = [*PACKET, "--html=no.html", "--jobs=1", "--parts=1"]
+        tests.check(f"--html: {number.name}", ended_by(tests, words, number, lambda: (tests.room / "made").read_text()))
     tests.check("--html: no file of it, and nothing left behind", (tests.room / "no.html").exists() or tests.left())
 
 

@@ -89,6 +89,7 @@ class Recording:
     def content(self, summary) -> bytes:
         """The file."""
         self.summary, self.places = summary, self.chosen.end()
+        self.there = {(it.range, it.at) for it in self.places}
         recorder = Recorder(self.request, self.merged.head, self.merged.outcomes, self.jobs)
         recorder.record(self.places)
         self.reports, lines = recorder.reports_kept()
@@ -208,7 +209,7 @@ class Recording:
         if not found:
             return "", False
         it, at, value, _ = min(found, key=lambda first: first[3])
-        return it.line(at, value), any(place.range == it and place.at == at for place in self.places)
+        return it.line(at, value), (it, at) in self.there
 
     def notes(self) -> Iterator[str]:
         """What else one has to know, a line each."""

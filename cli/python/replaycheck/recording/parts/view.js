@@ -151,8 +151,8 @@ class View {
   output() {
     const output = this.recorded.output(this.edit), recorded = this.recorded.output(0) ?? '', most = this.data.mostOutput;
     const same = output === recorded;
-    byId('wrote-told').textContent = output === null ? 'this file doesn’t have that of this edit'
-      : `${output.length === most ? `the first ${most} bytes` : output.length ? '' : 'none'}${this.edit && same ? ' as recorded' : ''}`;
+    const told = [output?.length === most ? `the first ${most} bytes` : output ? '' : 'none', this.edit && same ? 'as recorded' : ''];
+    byId('wrote-told').textContent = output === null ? 'this file doesn’t have that of this edit' : told.filter(Boolean).join(', ');
     byId('output').textContent = shownBytes(output ?? '');
     byId('was').textContent = same || output === null ? '' : `as recorded:\n${shownBytes(recorded) || 'none'}`;
     byId('was').hidden = same || output === null;
