@@ -23,6 +23,7 @@ import { Machine } from './panels/machine.js';
 import { Output } from './panels/output.js';
 import { ReportPanel } from './panels/report-panel.js';
 import { SourcePanel } from './panels/source-panel.js';
+import { TypedInput } from './panels/typed-input.js';
 import { Stale, VariablesPanel } from './panels/variables-panel.js';
 import { Verdict } from './panels/verdict.js';
 import { WholeRun } from './panels/whole-run.js';
@@ -84,11 +85,11 @@ class App {
 
   constructor() {
     const edit = (scenario, series) => this.edit(scenario, series);
-    const refuse = (text, how) => this.notice(text, how);
-    const make = (...edit) => this.make(...edit);
+    const refuse = (text, how) => this.notice(text, how), make = (...edit) => this.make(...edit);
     this.source = new SourcePanel({ visit: (address) => this.code.visit(address), refuse });
     this.opening = new Opening({ open: (files, how) => this.open(files, how), refuse, source: this.source });
     this.bytes = new Bytes({ edit, tell: (at) => this.byteTold(at), moved: () => this.sweeps?.picture.draw() });
+    new TypedInput({ use: (bytes) => this.edit(this.scenario.withInput(bytes)), refuse });
     const alter = (line) => this.edit(this.scenario.after(line));
     this.code = new Code({ edit, alter, refuse, shows: (address) => this.source.visit(address) });
     this.machine = new Machine({ look: (step, lines) => this.opened.session.replies(this.shown.scenario, step, lines),
@@ -113,7 +114,8 @@ class App {
       text: () => [...targetLines(this.opened.target), ...this.lines, ''].join('\n') });
     const state = () => ({ program: this.opened.program, lineOf: this.opened.lineOf, scenario: this.scenario, step: this.step,
       plain: this.opened.plain, range: this.code.range, name: this.code.shown?.name,
-      instructionsIn: (...ends) => this.code.instructionsIn(...ends), isEnd: this.step === this.opened.follow });
+      instructionsIn: (...ends) => this.code.instructionsIn(...ends), isEnd: this.step === this.opened.follow,
+      at: this.steps.shown, end: this.steps.last, follow: this.opened.follow });
     this.sweeps = new SweepPanel({ state, make, refuse, fail: (fault) => this.notice(sentence(fault, LIMIT)),
       told: () => this.showCounts(), makeWorker, workers: WORKERS, ends: (count) => this.bytes.ends(count),
       pointed: (at) => this.bytes.point(at) });
@@ -380,9 +382,12 @@ class App {
     this.refresh();
   }
 
-  // Makes an edit of the picture, of an instruction by its length in bytes.
-  make(kind, at, value, length) {
-    this.edit(kind === 'bytes' ? this.scenario.withByte(at, value) : this.scenario.withPatch(at, value, length));
+  // Makes an edit of the picture: of an instruction by its length in bytes, of a step by its line.
+  make(kind, at, value, how) {
+    const { scenario } = this;
+    if (kind === 'steps') this.edit(scenario.after(how));
+    else this.edit(kind === 'bytes' ? scenario.withByte(at, value) : scenario.withPatch(at, value, how));
+    if (kind === 'steps') return;
     if (kind === 'bytes') this.bytes.pick(at);
     else this.code.visit(at, false);
   }

@@ -144,7 +144,7 @@ station.c        75/85  88.2%   43/62 69.4%    8/8 100.0%
                 "mark 40 0x7fffffc7 1 defined\n"),),
     "page": (
         Example("A copy, to send or to serve:", "replaycheck page --output site | tail -n 1", "site/page: to serve\n"),
-        Example("What is in it:", "ls site", "page\nreplaycheck.html\n")),
+        Example("What is in it:", "ls site", "index.html\npage\nreplaycheck.html\n")),
     "search": (
         Example("Inputs that lead to errors, from no input at all:",
                 "replaycheck search station.elf --jobs 1 --runs 20000 \\\n--out found >summary.txt 2>progress.txt", status=1),
@@ -189,7 +189,8 @@ STATUSES = {"": (
     ("4", "out of memory"), ("5", "`certify`: the run isn't clean, or goes on without `--step`"))}
 ENVIRONMENTS = {"": (("REPLAYCHECK", "the program to run instead of the usual one"),)}
 PAGES = (("/usr/share/replaycheck/replaycheck.html", "the page for a browser, in one file that opens from disk"),
-         ("/usr/share/replaycheck/page", "the same as a folder to serve"))
+         ("/usr/share/replaycheck/page", "the same as a folder to serve"),
+         ("/usr/share/replaycheck/index.html", "a recording that leads to it, for a site"))
 FILES = {"": (("/usr/share/doc/replaycheck/manual/index.html", "the manual, with what each error means and how to compile a program"),
               ("/usr/share/replaycheck/examples", "programs with their sources and inputs, to copy"), *PAGES), "page": PAGES}
 SEE_ALSO = {

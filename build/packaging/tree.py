@@ -12,7 +12,7 @@ from packaging.man import man_pages
 from packaging.notices import notices
 from packaging.pages import manual
 from packaging.source import PROGRAM, output
-from paging.folder import one_file, write_folder
+from paging.folder import front_page, one_file, write_folder
 from paging.module import module
 from replaycheck import installed_page
 from replaycheck.endings import Fault
@@ -93,6 +93,7 @@ def put_page(tree, source):
         raise Fault(f"{source.program}: not the program of this checkout, {PROGRAM}, from whose text the page is built")
     write_folder(tree / BROWSER / installed_page.FOLDER, built)
     put(tree / BROWSER / installed_page.FILE, one_file(built))
+    put(tree / BROWSER / installed_page.INDEX, front_page())
 
 
 def document(tree, source):

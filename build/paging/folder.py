@@ -14,9 +14,11 @@ from replaycheck.exploring import outcomes
 from replaycheck.guest import halves, regions, rv32
 from replaycheck.options import LAST_STEP
 from replaycheck.programs import ISAS
+from replaycheck.recording.front import recorded
 from replaycheck.refusals import WORDS
 from replaycheck.reports import LEAK_KINDS, TEXTS
 
+from .module import PROGRAM
 from .scripts import one_script
 
 SOURCES, EXAMPLES = TOP / "page", TOP / "examples"
@@ -107,6 +109,11 @@ def write_folder(folder, module):
     for name, content in files.items():
         (folder / name).parent.mkdir(parents=True, exist_ok=True)
         (folder / name).write_bytes(content)
+
+
+def front_page():
+    """The front page: the recording of the example, by the program from whose text the module is built."""
+    return recorded(TOP / "cli/bin/replaycheck-explore", EXAMPLES / "firmware", PROGRAM)
 
 
 def source_of(text):

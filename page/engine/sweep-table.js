@@ -1,6 +1,7 @@
 // Reads the table of a part of a sweep while it is written: its outcomes as texts, its edits as numbers.
-const EDIT_FIELDS = 3;
-const EDITS = new Set(['input', 'patch', 'patch16']);
+import { alterationIn } from '../sweep/alterations.js';
+
+const EDITS = { input: 3, patch: 3, patch16: 3, skip: 2, flip: 4, set: 4 };  // how many words come after the first one
 
 export class SweepTable {
   rest = '';
@@ -24,9 +25,10 @@ export class SweepTable {
     if (first === 'outcome') {
       this.close();
       this.outcome = [];
-    } else if (EDITS.has(first) && fields.length === EDIT_FIELDS) {
+    } else if (EDITS[first] === fields.length) {
       this.close();
-      this.edits.push(Number(fields[0]), Number(fields[1]), Number(fields[2]));
+      const edit = alterationIn([first, ...fields]) ?? fields.slice(0, 2).map(Number);
+      this.edits.push(...edit, Number(fields.at(-1)));
     } else if (first === 'unedited' || first === 'tally') {
       this.close();
     } else if (first === 'end') {

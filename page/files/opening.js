@@ -28,6 +28,20 @@ async function sumOf(bytes) {
   return [...sum].map((it) => it.toString(16).padStart(2, '0')).join('').slice(0, SUM_DIGITS);
 }
 
+const FIRST_EXAMPLE = EXAMPLES.find((it) => it.name === FIRST.name);
+
+/**
+ * The files of an example.
+ * @param {any} example
+ */
+function filesOf({ program, programBytes, input, inputBytes }) {
+  const files = { program: { name: program, bytes: bytesOf(programBytes) } };
+  return inputBytes === undefined ? files : { ...files, input: { name: input, bytes: bytesOf(inputBytes) } };
+}
+
+/** @param {any} example */
+const targetFor = ({ isa }) => targetOf({ isa }).target;
+
 class TooLarge extends Error {}
 
 const hasFiles = (event) => event.dataTransfer?.types.includes('Files');
@@ -40,6 +54,7 @@ export class Opening {
   example = null;
   target = USUAL_TARGET;
   wanted = null;
+  /** @type {?Object} */ waiting = null;
   kept = new Kept();
   isForgotten = false;
   /** @type {TargetPanel} */ targetPanel;
@@ -123,14 +138,16 @@ export class Opening {
   }
 
   // Takes files beside those that are there. Another program begins without the old one's input and suppressions; what is
-  // given before there is a program waits for it.
+  // given before there is a program waits for it, also while an example is shown in the place of what one left off with.
   async take(files, lines) {
-    const next = files.program && this.files.program ? files : { ...this.files, ...files };
+    const there = this.waiting ?? this.files, next = files.program && there.program ? files : { ...there, ...files };
     if (next.program) {
+      this.waiting = null;
       await this.begin(next, { lines });
       return;
     }
-    this.files = next;
+    if (this.waiting) this.waiting = next;
+    else this.files = next;
     const names = Object.values(files).map((it) => `“${it.name}”`).join(' and ');
     this.refuse(`${names} will be used with the next program. Open one: an ELF file for RV32IM, as the linker writes it.`, 'good');
   }
@@ -141,7 +158,15 @@ export class Opening {
     if (!text || (name !== null && !EXAMPLES.some((it) => it.name === name))) return this.choose(FIRST.name, FIRST.lines);
     await this.follow(`#${text}`, 'You left off with');
     $('kept-told').hidden = false;
+    if (this.wanted) await this.showMeanwhile();
     return undefined;
+  }
+
+  // Shows the example until the files are given that one left off with.
+  async showMeanwhile() {
+    this.waiting = {};
+    await this.begin(filesOf(FIRST_EXAMPLE), { lines: FIRST.lines, example: FIRST_EXAMPLE, target: targetFor(FIRST_EXAMPLE) });
+    if (this.waiting) this.refuse(`You left off with ${this.missing()} Until then the example “${FIRST.name}” is shown.`, 'good');
   }
 
   // Throws away what is kept, and begins with the example where one wants to start over.
@@ -154,10 +179,9 @@ export class Opening {
   }
 
   async choose(name, lines, given = null) {
-    const example = EXAMPLES.find((it) => it.name === name), target = given ?? targetOf({ isa: example.isa }).target;
-    const files = { program: { name: example.program, bytes: bytesOf(example.programBytes) } };
-    if (example.inputBytes !== undefined) files.input = { name: example.input, bytes: bytesOf(example.inputBytes) };
-    await this.begin(files, { lines, example, target });
+    const example = EXAMPLES.find((it) => it.name === name);
+    this.waiting = null;
+    await this.begin(filesOf(example), { lines, example, target: given ?? targetFor(example) });
   }
 
   // Opens the files that are there for a target of which a part is another one, and uses lines; without a program, that waits for one.
@@ -176,13 +200,14 @@ export class Opening {
   }
 
   async begin(files, { lines = undefined, example = null, target = undefined }) {
-    if (example) this.wanted = null;
-    const isWanted = this.wanted && files[this.wanted.last];
+    if (example && !this.waiting) this.wanted = null;
+    const isWanted = this.wanted && !this.waiting && files[this.wanted.last];
     const used = lines ?? (isWanted ? this.wanted.lines : undefined);
-    const notice = this.wanted && used ? await this.differing(files) : '';
+    const notice = this.wanted && used && !this.waiting ? await this.differing(files) : '';
     const isNamed = isWanted || files.program.name === this.wanted?.names.program;
     const shape = { lines: used, example, target: target ?? (isNamed ? this.wanted.target : this.target) };
     if (!await this.open(files, shape)) return;
+    if (this.waiting) return;
     if (used) this.wanted = null;
     if (notice && files === this.files) this.refuse(notice);
     if (this.wanted) this.refuse(`Still missing is ${this.missing(files)}`);
@@ -210,7 +235,7 @@ export class Opening {
 
   // An edit is made: what a link waited for isn't wanted any more, and what is open is kept.
   edited() {
-    this.wanted = null;
+    if (!this.waiting) this.wanted = null;
     this.isForgotten = false;
   }
 

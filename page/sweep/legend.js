@@ -1,9 +1,8 @@
 // The legend of a picture: a line for each outcome, which opens to its traces, is taken out of the picture, and whose first edit is made.
 import { $, element, focusHeld, heldName } from '../common/dom.js';
 import { grouped } from '../common/numbers.js';
-import { editLine } from '../engine/scenario.js';
 import { inkOn } from './colours.js';
-import { lengthAt } from './sweeping.js';
+import { lineOf } from './sweeping.js';
 
 const MOST = 60, MOST_LISTED = 40;
 
@@ -51,7 +50,7 @@ export class Legend {
 
   row(outcomes, row, look) {
     const { firsts, asked } = outcomes.swept, [number] = row.numbers, first = firsts[number];
-    const line = () => editLine(asked.kind, ...first, lengthAt(asked, first[0]));
+    const line = () => lineOf(asked, ...first);
     const button = number && first ? element('button', { onclick: () => this.make(asked.kind, ...first) }, line()) : '';
     if (button) button.dataset.held = `first ${number}`;
     const cell = (className, ...children) => element('td', { role: 'cell', className }, ...children);
@@ -75,7 +74,7 @@ export class Legend {
   // The outcome in one line, which opens to all of it: the traces, or the runs that differ in their exit status only.
   text(outcomes, row) {
     const { numbers } = row, [number] = numbers, short = outcomes.rowTold(row, true), { firsts, tallies, asked } = outcomes.swept;
-    const first = (it) => editLine(asked.kind, ...firsts[it], lengthAt(asked, firsts[it][0]));
+    const first = (it) => lineOf(asked, ...firsts[it]);
     const each = (it) => `${grouped(tallies[it])}: ${outcomes.told(it)}, first ${first(it)}`;
     const all = numbers.length > 1 ? numbers.slice(0, MOST_LISTED).map(each) : [outcomes.told(number)];
     if (all.length > 1 && numbers.length > MOST_LISTED) all.push(`and ${grouped(numbers.length - MOST_LISTED)} more`);

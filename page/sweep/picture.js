@@ -2,13 +2,13 @@
 // outcome. Its columns are below the bytes, if these are in one row.
 import { $, $canvas, isTouch, say, speaksAt } from '../common/dom.js';
 import { hexByte, hexWord, hexadecimal, many } from '../common/numbers.js';
-import { editLine } from '../engine/scenario.js';
+import { rowAt, rowNames, rowsOf } from './alterations.js';
 import { hatch, inkOn } from './colours.js';
 import { upTo } from './counting.js';
 import { Legend } from './legend.js';
 import { Lens } from './lens.js';
 import { Outcomes } from './outcomes.js';
-import { indexOf, lengthAt, placeAt, placesOf, valuesOf } from './sweeping.js';
+import { indexOf, lengthAt, lineOf as lineOfEdit, placeAt, placesOf, valuesOf } from './sweeping.js';
 
 const MOST_COLUMNS = 1000, LEAST_MARK = 3;
 const EDGES = [0, 1, 0x7f, 0x80, 0xff];
@@ -83,7 +83,8 @@ export class Picture {
   // Begins with a sweep. `before` gives the value at a place of the run that is swept; `goal` is the text of a goal, or empty.
   begin(swept, before, lineOf, goal) {
     this.clear();
-    const count = placesOf(swept.asked), rows = swept.asked.values === 'all' ? 256 : valuesOf(swept.asked);
+    const { kind, values } = swept.asked, count = placesOf(swept.asked);
+    const rows = kind === 'steps' ? rowsOf(values) : values === 'all' ? 256 : valuesOf(swept.asked);
     this.swept = swept;
     this.before = before;
     this.count = count;
@@ -110,9 +111,11 @@ export class Picture {
   get isDark() { return DARK.matches; }
 
   get isOfBytes() { return this.swept.asked.kind === 'bytes'; }
+  get isOfSteps() { return this.swept.asked.kind === 'steps'; }
 
   rowOf(at, value) {
     const { values } = this.swept.asked;
+    if (this.isOfSteps) return rowAt(values, value);
     if (values === 'all') return value;
     if (values === 'skip') return 0;
     if (values === 'flips') return 31 - Math.clz32((value ^ this.before(at)) >>> 0);
@@ -197,18 +200,20 @@ export class Picture {
       const y = (Number(row) + .5) * tall / this.rows;
       on.fillText(`${name}`, left - 5 * scale, Math.max(7 * scale, Math.min(tall - 5 * scale, y)), left - 6 * scale);
     }
-    if (this.isOfBytes) on.fillText('byte', left - 5 * scale, tall + (BELOW + 2) * scale / 2, left - 6 * scale);
+    const axis = this.isOfBytes ? 'byte' : this.isOfSteps ? 'step' : '';
+    if (axis) on.fillText(axis, left - 5 * scale, tall + (BELOW + 2) * scale / 2, left - 6 * scale);
     on.textAlign = 'center';
     const each = Math.max(1, Math.ceil(LEAST_APART * scale * this.columns / wide));
     for (let column = 0; column < this.columns; column += each) {
       const x = Math.max(left + 12 * scale, left + (column + .5) * wide / this.columns), at = this.firstOf(column);
-      const name = this.isOfBytes ? `${at}` : hexWord(at);
+      const name = this.isOfBytes || this.isOfSteps ? `${at}` : hexWord(at);
       on.fillText(name, Math.min(x, this.canvas.width - 30 * scale), tall + (BELOW + 2) * scale / 2);
     }
   }
 
   rowNames() {
     const { values } = this.swept.asked;
+    if (this.isOfSteps) return rowNames(values);
     if (values === 'all') return [0, 64, 128, 192, 255].map((it) => [it, hexByte(it)]);
     if (values === 'edges') return [...EDGE_NAMES.entries()];
     if (values === 'skip') return [[0, 'skip']];
@@ -264,17 +269,24 @@ export class Picture {
     if (!cell) {
       const { column, row } = this.here;
       if (this.isOwn) return say('picture-told', `byte ${column + asked.first} has this value, ${hexByte(row)}, itself`);
-      const columns = this.isOfBytes ? 'bytes of the input' : asked.code ? 'instructions of the function' : 'words of the function';
+      const columns = this.isOfBytes ? 'bytes of the input' : this.isOfSteps ? 'steps of the run'
+        : asked.code ? 'instructions of the function' : 'words of the function';
       return say('picture-told', `Columns: ${columns}. Rows: values. Point, or press arrow keys; a click or Enter makes the edit.`);
     }
-    const valueName = this.isOfBytes ? hexByte : (value) => hexadecimal(value, 2 * lengthAt(asked, cell.at));
-    const place = this.isOfBytes ? `byte ${cell.at}` : hexWord(cell.at);
     const shares = this.count > this.columns ? ', the worst of its column' : '';
-    const other = this.otherRun(), now = other ? 'there' : 'now', label = this.looks?.[cell.number]?.label;
-    const edit = `${place} as ${valueName(cell.value)} (${now} ${valueName(this.before(cell.at))})`;
-    say('picture-told', `${other}${edit}${shares}: ${label ? `(${label}) ` : ''}${this.outcomes.told(cell.number, true)}`);
-    say('picture-make', editLine(asked.kind, cell.at, cell.value, lengthAt(asked, cell.at)));
+    const other = this.otherRun(), label = this.looks?.[cell.number]?.label;
+    say('picture-told', `${other}${this.editTold(cell, other ? 'there' : 'now')}${shares}: ${label ? `(${label}) ` : ''}${
+      this.outcomes.told(cell.number, true)}`);
+    say('picture-make', lineOfEdit(asked, cell.at, cell.value));
     return undefined;
+  }
+
+  // The edit of a cell in words; `now` says where the value before it is.
+  editTold({ at, value }, now) {
+    const { asked } = this.swept;
+    if (this.isOfSteps) return lineOfEdit(asked, at, value);
+    const name = this.isOfBytes ? hexByte : (it) => hexadecimal(it, 2 * lengthAt(asked, at));
+    return `${this.isOfBytes ? `byte ${at}` : hexWord(at)} as ${name(value)} (${now} ${name(this.before(at))})`;
   }
 
   // Whether the place that one points at is the value that a byte has.

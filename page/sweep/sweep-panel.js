@@ -6,12 +6,17 @@ import { HALF } from '../riscv/isa.js';
 import { counted, upTo } from './counting.js';
 import { Outcomes } from './outcomes.js';
 import { Picture } from './picture.js';
-import { Idle, MOST_EDITS, Sweep, lengthAt, mostEditsOf } from './sweeping.js';
+import { Idle, MOST_EDITS, Sweep, lengthAt, lineOf, mostEditsOf } from './sweeping.js';
 
+const FAULTS = { skip: 'left out', registers: 'one bit of a register turned', pc: 'one bit of pc turned', zero: 'a register as 0',
+  ones: 'a register as all ones' };
 const VALUES = {
   bytes: { all: 'all 255 others', flips: 'one bit turned', edges: '0, 1, 0x7f, 0x80, 0xff, ±1' },
   words: { skip: 'skipped', flips: 'one bit turned' },
+  step: FAULTS, steps: FAULTS,
 };
+const PART = /^\s*(\d{1,7})(?:(\.\.)(\d{1,7})?)?\s*$/;
+const RANGE_WANTED = 'A range of bytes is A..B, A.. or A, such as 5..9, of bytes that the input has.';
 const AT_ONCE = 25000;  // edits of a sweep that begins by itself
 
 // The files of a program as a scenario has them, and what of it a file can't have.
@@ -64,7 +69,8 @@ export class SweepPanel {
     this.told = told;
     this.workers = workers;
     this.idle = new Idle(makeWorker);
-    const makeEdit = (kind, at, value) => make(kind, at, value, lengthAt(this.of.asked, at));
+    const makeEdit = (kind, at, value) => make(kind, at, value, kind === 'steps' ? lineOf(this.of.asked, at, value)
+      : lengthAt(this.of.asked, at));
     this.picture = new Picture({ make: makeEdit, otherRun: () => this.otherRun, ends, pointed });
     $('goal').addEventListener('input', () => this.showGoal());
     $('sweep').addEventListener('click', () => this.begin());
@@ -74,7 +80,8 @@ export class SweepPanel {
   }
 
   offer() {
-    const options = Object.entries(VALUES[$select('sweep-what').value]);
+    const what = $select('sweep-what').value, options = Object.entries(VALUES[what]);
+    $('sweep-part').hidden = what !== 'bytes';
     $('sweep-values').replaceChildren(...options.map(([value, told]) => element('option', { value }, told)));
   }
 
@@ -102,8 +109,18 @@ export class SweepPanel {
   // What is asked for, null where there is nothing of that kind.
   get asked() {
     const kind = $select('sweep-what').value, values = $select('sweep-values').value, { scenario, step, range, name } = this.state();
-    if (kind === 'bytes') return scenario.length ? { kind, values, step, first: 0, last: scenario.length - 1 } : null;
+    if (kind === 'bytes') return scenario.length ? bytesAsked({ kind, values, step }, $input('sweep-bytes').value, scenario.length) : null;
+    if (kind === 'step' || kind === 'steps') return this.askedSteps(kind === 'step', values);
     return range && range.starts.length ? { kind, values, step, name, ...placesIn(range) } : null;
+  }
+
+  // The same of the step that is looked at, or of those at which the function that is shown executes an instruction. Runs are compared
+  // where the page looks at a run no further.
+  askedSteps(isOne, values) {
+    const { at, end, follow, range, name } = this.state(), asked = { kind: 'steps', values, step: follow };
+    if (isOne) return at < end ? { ...asked, first: at, last: at, name: `step ${grouped(at)}` } : null;
+    const within = range?.starts.length ? [range.starts[0], range.starts.at(-1)] : null;
+    return within && end ? { ...asked, first: 0, last: end - 1, name, within } : null;
   }
 
   // ---- of which run the picture is
@@ -112,15 +129,16 @@ export class SweepPanel {
   get isStale() {
     const { of } = this;
     if (!of) return false;
-    const { scenario, step } = this.state();
-    return of.step !== step || (of.scenario !== scenario && !isSameRun(of.scenario, scenario));
+    const { scenario, step } = this.state(), isAtEnd = of.asked.kind === 'steps';
+    return (!isAtEnd && of.step !== step) || (of.scenario !== scenario && !isSameRun(of.scenario, scenario));
   }
 
   // Which run the picture is of, where that isn't just the one that is shown, as the beginning of a sentence.
   get otherRun() {
     const { of, isStale } = this;
     if (!isStale && !of?.left.length) return '';
-    const edits = editsOf(of.scenario).length, at = of.step === this.state().step || of.isEnd ? '' : ` at step ${grouped(of.step)}`;
+    const edits = editsOf(of.scenario).length, isAtEnd = of.isEnd || of.asked.kind === 'steps';
+    const at = isAtEnd || of.step === this.state().step ? '' : ` at step ${grouped(of.step)}`;
     const run = isStale ? `${edits ? `the run with ${many(edits, 'edit')}` : 'the unedited run'}${at}` : 'this run';
     return `Of ${run}${of.left.length ? `, without ${of.left.join(', ')}` : ''}: `;
   }
@@ -154,7 +172,8 @@ export class SweepPanel {
   async countPlain() {
     const { program, plain, lineOf, scenario, step } = this.state(), { asked } = this.of;
     if (this.counting || this.plain?.step === step || asked.kind !== 'bytes' || !plain.length || scenario.base !== plain.base) return;
-    const { files } = filesOf(plain, program), every = { ...asked, last: plain.length - 1 };
+    const { files } = filesOf(plain, program), every = bytesAsked(asked, asked.part, plain.length);
+    if (!every) return;
     const sweep = this.counting = new Sweep(program, files, every, this.idle, () => {});
     try {
       await sweep.run(this.workers);
@@ -189,22 +208,24 @@ export class SweepPanel {
   get askedNow() {
     if (!this.of) return this.asked?.kind === 'bytes' ? this.asked : null;
     const { scenario, step } = this.state(), { asked } = this.of;
+    if (asked.kind === 'steps') return null;
     if (asked.kind === 'words') {
       const places = asked.code && placesIn(this.state().instructionsIn(asked.first, asked.last));
       return { ...asked, step, ...places };
     }
-    return scenario.length ? { ...asked, step, last: scenario.length - 1 } : null;
+    return scenario.length ? bytesAsked({ ...asked, step }, asked.part, scenario.length) : null;
   }
 
   async begin(asked = this.asked) {
     const { program, scenario, lineOf, step, isEnd } = this.state();
     for (const it of [this.sweep, this.counting]) it?.stop();
     this.counting = null;
-    if (!asked) return this.refuse('There is nothing to sweep: no input, or no function.');
+    if (!asked && $select('sweep-what').value === 'bytes' && scenario.length) return this.refuse(RANGE_WANTED);
+    if (!asked) return this.refuse('There is nothing to sweep: no input, no function, or a step at which the run has ended.');
     this.most = mostEditsOf(asked);
     if (this.most > MOST_EDITS) {
-      return this.refuse(`These are ${grouped(this.most)} edits, and this page makes ${grouped(MOST_EDITS)} at most.`
-        + ' Choose fewer values, or use `replaycheck sweep`.');
+      return this.refuse(`These ${asked.within ? 'may be' : 'are'} ${grouped(this.most)} edits, and this page makes`
+        + ` ${grouped(MOST_EDITS)} at most. ` + 'Choose fewer values, a range of bytes, or use `replaycheck sweep`.');
     }
     const { files, left } = filesOf(scenario, program);
     const sweep = this.sweep = new Sweep(program, files, asked, this.idle, () => this.goesOn(sweep));
@@ -228,9 +249,12 @@ export class SweepPanel {
     if (sweep !== this.sweep) return;
     this.picture.more();
     $progress('sweep-done').value = sweep.swept.edits / this.most;
-    if (!sweep.isStopped) say('sweep-far', `${grouped(sweep.swept.edits)} of ${many(this.most, 'edit')}`);
+    if (!sweep.isStopped) say('sweep-far', this.farTold(sweep.swept));
     this.told();
   }
+
+  // How many edits were made, and of how many, if that is known: of a function's steps it isn't.
+  farTold({ edits, asked }) { return asked.within ? many(edits, 'edit') : `${grouped(edits)} of ${many(this.most, 'edit')}`; }
 
   end({ swept, memory }) {
     this.picture.more(true);
@@ -248,7 +272,7 @@ export class SweepPanel {
     const stood = editsOf(scenario).length;
     const of = stood ? `the run with ${many(stood, 'edit')}` : 'the unedited run';
     const parts = [
-      swept.isWhole ? '' : `stopped after ${grouped(swept.edits)} of ${many(this.most, 'edit')}: `,
+      swept.isWhole ? '' : `stopped after ${this.farTold(swept)}: `,
       outcomes.goal ? `${did(outcomes.reached, 'reaches', 'reach')} the goal “${outcomes.goal}”. ` : '',
       `${many(swept.edits, 'edit')} of ${of}: ${did(outcomes.fresh, 'makes', 'make')} a new error, leak or stop, `,
       `${grouped(outcomes.changed)} more end${outcomes.changed === 1 ? 's' : ''} in another way${upTo(swept)}.`,
@@ -274,6 +298,14 @@ const did = (count, one, more) => `${grouped(count)} of them ${count === 1 ? one
 function placesIn({ starts, lengths }) {
   const code = lengths && new Map(starts.map((at, index) => [at, { index, length: lengths.get(at) }]));
   return { first: starts[0], last: starts.at(-1), ...(code && { starts, code }) };
+}
+
+// What is asked of the bytes of an input of this length, or of a part of them, `A..B`, `A..` or `A`: null where it has no such bytes.
+function bytesAsked(asked, part, length) {
+  const [all, from, dots, to] = PART.exec(part) ?? [], first = Number(from ?? 0);
+  const last = Math.min(dots && !to ? length : Number(to ?? from), length - 1);
+  if (!part) return { ...asked, first: 0, last: length - 1, part };
+  return all && first <= last ? { ...asked, first, last, part, name: first < last ? `bytes ${first}..${last}` : `byte ${first}` } : null;
 }
 
 const isSameRun = (a, b) => a.base === b.base && a.lines.join('\n') === b.lines.join('\n');

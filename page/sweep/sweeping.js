@@ -1,22 +1,29 @@
-// Every edit of the input's bytes, or of a function's words, alone: parts of the proved sweep, in as many workers as there are
-// processors.
+// Every edit of the input's bytes, of a function's words, or of the machine at steps, alone: parts of the proved sweep, in as many workers
+// as there are processors.
+import { hexWord } from '../common/numbers.js';
+import { editLine } from '../engine/scenario.js';
 import { Helper, Stopped } from '../engine/sessions.js';
 import { WORD } from '../riscv/isa.js';
+import { alterationLine, editsAt } from './alterations.js';
 
 const PARTS_EACH = 4;  // so that no worker waits long for the last one
 const MOST_PARTS = 1000;
 
 // How many bytes, words or instructions are swept, how many values each has at most, and how many edits that are. Instructions of
 // either length have `starts`, their addresses, and `code`, the place and the length of each.
-export const placesOf = ({ kind, first, last, starts }) => starts?.length ?? (kind === 'bytes' ? last - first + 1 : (last - first) / 4 + 1);
-export const valuesOf = ({ kind, values }) => ({ all: 255, edges: 7, skip: 1, flips: kind === 'bytes' ? 8 : 32 })[values];
+const stride = ({ kind }) => (kind === 'words' ? WORD : 1);
+export const placesOf = (asked) => asked.starts?.length ?? (asked.last - asked.first) / stride(asked) + 1;
+export const valuesOf = ({ kind, values }) => (kind === 'steps' ? editsAt(values)
+  : { all: 255, edges: 7, skip: 1, flips: kind === 'bytes' ? 8 : 32 }[values]);
 export const mostEditsOf = (asked) => (asked.code && asked.values === 'flips'
   ? [...asked.code.values()].reduce((sum, it) => sum + 8 * it.length, 0) : placesOf(asked) * valuesOf(asked));
 // Where a place is among all, which place is there, and how many bytes an instruction has.
-const stride = ({ kind }) => (kind === 'bytes' ? 1 : WORD);
 export const indexOf = (asked, at) => (asked.code ? asked.code.get(at)?.index ?? 0 : (at - asked.first) / stride(asked));
 export const placeAt = (asked, index) => asked.starts?.[index] ?? asked.first + stride(asked) * index;
 export const lengthAt = (asked, at) => asked.code?.get(at)?.length ?? WORD;
+// The line of a session that makes an edit.
+export const lineOf = (asked, at, value) => (asked.kind === 'steps' ? alterationLine(asked.values, at, value)
+  : editLine(asked.kind, at, value, lengthAt(asked, at)));
 
 const partsOf = (places, workers) => (workers === 1 ? 1 : Math.max(1, Math.min(places, workers * PARTS_EACH, MOST_PARTS)));
 
@@ -103,9 +110,10 @@ export class Sweep {
   }
 
   get words() {
-    const { kind, first, last, values, step } = this.asked;
-    const names = kind === 'bytes' ? ['--bytes', '--values'] : ['--words', '--words-values'];
-    return [`${names[0]}=${first}..${last}`, `${names[1]}=${values}`, `--step=${step}`];
+    const { kind, first, last, values, step, within } = this.asked;
+    const names = { bytes: ['--bytes', '--values'], words: ['--words', '--words-values'], steps: ['--at', '--faults'] }[kind];
+    const code = within ? [`--code-range=${within.map(hexWord).join('..')}`] : [];
+    return [`${names[0]}=${first}..${last}`, `${names[1]}=${values}`, ...code, `--step=${step}`];
   }
 
   stop() {

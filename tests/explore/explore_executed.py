@@ -46,8 +46,9 @@ int main(const unsigned char *given, int count)
 # The tool with other bounds: of the lines of a session, and of those that wait.
 BOUNDED = f"""import runpy, sys
 sys.path.insert(0, {str(TOP / "cli/python")!r})
-from replaycheck.exploring import executed
-executed.MOST_LINES, executed.MOST_WAITING = map(int, sys.argv[1:3])
+from replaycheck.exploring import edited_runs, executed
+edited_runs.MOST_LINES, executed.MOST_WAITING = map(int, sys.argv[1:3])
+edited_runs.MOST_WAITING = executed.MOST_WAITING
 sys.argv = [{EXPLORE!r}, *sys.argv[3:]]
 runpy.run_path({EXPLORE!r}, run_name="__main__")
 """

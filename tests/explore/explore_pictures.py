@@ -42,6 +42,14 @@ def test_picture(tests):
     tests.check("picture: what is harmless is grey", greys if len(greys) != 6 or not all(is_grey) else "")
     tests.check("picture: a title", "" if rects and all(re.match(r"input \d+ \d+( to \d+)?( \(was \d+\))?\n\d: ", it[5]) for it in rects)
                 else rects[:2])
+    for label, goal, wanted in (("an end", "exited 1", "exited 1"), ("an error", "Invalid read", "Invalid read"), ("none", "exited 9", "")):
+        rects, text = drawn(tests, Made(41, values="all"), [f"--goal={goal}"])
+        reached = [it for it in rects if it[0] == "g"]
+        is_well = len(reached) == len([it for it in rects if wanted and f" {wanted}" in it[5]]) and (not wanted) == (not reached)
+        is_told = not wanted or f"reaches the goal: a line that begins with `{goal}`" in text
+        small = [it for it in reached if it[3] < 3 or it[4] < 3]
+        tests.check(f"picture: a goal, {label}", "" if is_well and is_told and not small else (len(reached), text[:300]))
+    tests.check("picture: the colour-blind, of a goal", close_colours(drawn(tests, Made(41, values="all"), ["--goal=exited 1"])[1]))
     few = ["exited 0", f"exited 0\n{ERROR}"]
     for label, count, few in (("1", 1, few), ("41", 41, None), ("400", 400, None), ("100,000", 100000, None)):
         outcomes = few or ["exited 0"] * 400 + [f"exited 0\n{ERROR}"]
@@ -181,12 +189,12 @@ def close_colours(text):
              ((1.256, -0.077, -0.179), (-0.078, 0.931, 0.148), (0.005, 0.691, 0.304))]
     for style in re.search(r"<style>(.*?)</style>", text, re.S)[1].split("@media"):
         colours = {name: [int(value[i:i + 2], 16) for i in (0, 2, 4)] for name, value in
-                   re.findall(r"\.([no]\d?|o0)\{fill:#([0-9a-f]{6})\}", style)}
+                   re.findall(r"\.([gno]\d?|o0)\{fill:#([0-9a-f]{6})\}", style)}
         for matrix in blind:
             seen = {name: [sum(a * b for a, b in zip(row, it)) for row in matrix] for name, it in colours.items()}
             for one in seen:
                 for other in seen:
                     away = sum(abs(a - b) for a, b in zip(seen[one], seen[other]))
-                    if one[0] == "n" and other[0] == "o" and away < 40:
+                    if one[0] in "gn" and other[0] == "o" and away < 40:
                         return one, other, away
     return ""

@@ -87,9 +87,9 @@ class Firefox(Asked):
             raise BrowserFault(f"{command}: {fault.get('message')}")
         return value
 
-    def open(self, address):
+    def open(self, address, ready="globalThis.replaycheck !== undefined"):
         self.call("WebDriver:Navigate", url=address)
-        self.until("document.readyState === 'complete' && globalThis.replaycheck !== undefined")
+        self.until(f"document.readyState === 'complete' && {ready}")
 
     def run(self, script):
         """What an expression of the page comes to, a promise too."""

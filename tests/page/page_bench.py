@@ -47,7 +47,7 @@ def words_of(example):
 
 
 def table_in(text):
-    """What a sweep's table has: the run's own outcome, and the outcome of each edit."""
+    """What a sweep's table has: the run's own outcome, and the outcome of each edit: by its place and value, or of a step by its line."""
     outcomes, edits, told = [], {}, None
     for line in text.splitlines():
         first, *fields = line.split(" ")
@@ -56,6 +56,9 @@ def table_in(text):
             told = outcomes[-1]
         elif first in ("input", "patch", "patch16") and len(fields) == 3:
             edits[int(fields[0], 0), int(fields[1], 0)] = int(fields[2])
+            told = None
+        elif first in ALTERING and fields and fields[0].isdigit():
+            edits[" ".join([first, *fields[:-1]])] = int(fields[-1])
             told = None
         elif first in ("unedited", "tally", "end"):
             told = None

@@ -2,6 +2,7 @@
 outlives a reload, and Firefox."""
 import base64
 import json
+import time
 import zlib
 
 import firefox
@@ -158,6 +159,34 @@ def packed_links(bench):
 # ---- visits
 
 
+def typed_input(bench):
+    """An input that is typed as digits or as text is an edit, also of a program that has none; what is no input is refused."""
+    with bench.open() as page:
+        given = list((TOP / "examples/firmware/station.input").read_bytes())
+        digits = " ".join(f"{it:02x}" for it in given[:-1])
+        for label, form, text, wanted in (("digits", "hex", "0x02,0x" + digits[3:] + "\n", ["input cut", "input 0 2"]),
+                                          ("the same", "hex", digits + " ff", []), ("nothing", "hex", "", ["input cut"] * len(given)),
+                                          ("text", "text", "a\u00fc", ["input cut"] * (len(given) - 3) + [
+                                              "input 0 97", "input 1 195", "input 2 188"])):
+            page.set("typed-as", form)
+            page.set("typed", text)
+            page.click_on("#typed-form button")
+            bench.same_report(page, STATION, f"typed {label}")
+            same(f"typed {label}", page.run("replaycheck.scenario.lines"), wanted)
+        for text, said in (("012", "These are no bytes"), ("0g", "These are no bytes"),
+                           ("00" * 4097, "4,097 bytes, and 4,096 can be typed")):
+            page.set("typed-as", "hex")
+            page.set("typed", text)
+            page.click_on("#typed-form button")
+            expect(said in page.text("notice"), f"{text[:9]}: {page.text('notice')!r}")
+        bench.give(page, {"program": (TOP / "examples/packet.elf").read_bytes()})
+        bench.settle(page)
+        page.set("typed", "0b 01")
+        page.click_on("#typed-form button")
+        bench.same_report(page, [str(TOP / "examples/packet.elf")], "typed for a program without an input")
+        same("its lines", page.run("replaycheck.scenario.lines"), ["input append 11", "input append 1"])
+
+
 STORED, NOTICE = "localStorage.getItem('replaycheck')", "document.getElementById('notice').textContent"
 
 
@@ -193,7 +222,20 @@ def second_visit(bench, page):
 
 
 def visit_with_own_files(bench, page):
-    page.until(NOTICE)
+    page.until(f"{NOTICE}.includes('Until then the example “station” is shown.')")
+    bench.settle(page)
+    same("what is shown meanwhile", page.run("replaycheck.scenario.lines"), ["input 1 8"])
+    page.run("replaycheck.use('input 2 9')")
+    bench.same_report(page, STATION, "an edit meanwhile")
+    time.sleep(1)
+    same("what is kept meanwhile", page.run(STORED), "program=secret.elf&input=input.bin&lines=input+0+9")
+    open_own(bench, page, "input")
+    expect("“input.bin” will be used with the next program" in page.text("notice"), f"the input first: {page.text('notice')!r}")
+    open_own(bench, page, "program")
+    page.until("replaycheck.scenario?.lines.join() === 'input 0 9'")
+    bench.settle(page)
+    page.call("Page.reload")
+    page.until(f"document.readyState === 'complete' && globalThis.replaycheck && {NOTICE}")
     for part in ("“secret.elf” and “input.bin”. Drop these files here", "1 line of the scenario is used"):
         expect(part in page.text("notice"), f"it says {page.text('notice')!r}")
     open_own(bench, page, "program")

@@ -7,6 +7,7 @@ import tempfile
 
 from checkout import TOP
 from page_bench import SWEPT, expect, same, words_of
+from replaycheck.exploring.steps import edits_of
 
 STATION = words_of("station")
 
@@ -75,6 +76,67 @@ def picture_of_words(bench):
         page.click_on("#sweep")
         options = [f"--words={begin}..{begin + size - 4}", "--words-values=flips", f"--step={page.run('replaycheck.step')}"]
         swept(bench, page, words_of("boot"), options, 32 * size // 4)
+
+
+def picture_of_a_range(bench):
+    """The edits of some bytes only: the program's table, also of an input of which all edits are too many; and ranges that are none."""
+    with bench.open() as page:
+        page.set("sweep-bytes", "0..1")
+        page.set("sweep-values", "edges")
+        page.click_on("#sweep")
+        options = ["--bytes=0..1", "--values=edges", f"--step={page.run('replaycheck.step')}"]
+        swept(bench, page, STATION, options, len(bench.table(STATION, *options)))
+        page.until("document.getElementById('counted').textContent.includes('edge-value edits of bytes 0..1')")
+        for text in ("1..0", "41", "x", "3..x", "-1"):
+            page.set("sweep-bytes", text)
+            page.click_on("#sweep")
+            expect("A range of bytes is A..B, A.. or A" in page.text("notice"), f"{text}: {page.text('notice')!r}")
+        bench.give(page, {"program": (TOP / "examples/firmware/station.elf").read_bytes(), "input": bytes(20000)})
+        bench.settle(page)
+        page.set("sweep-bytes", "19999..")
+        page.set("sweep-values", "flips")
+        page.click_on("#sweep")
+        page.until("document.getElementById('counted').textContent.includes('8 one-bit edits of byte 19999')", 60)
+
+
+def steps_swept(bench, page, fault, options):
+    """Whether the page's sweep of steps comes to the program's table, edit by edit. Returns how many edits these are."""
+    page.click_on("#sweep")
+    page.until(SWEPT, 120)
+    told = page.run("""(() => { const { places, outcomes } = replaycheck.sweeps.sweep.swept;
+      return [...places].flatMap(([at, it]) => it.values.map((value, index) => [at, value, outcomes[it.outcomes[index]]])); })()""")
+    step = page.run("replaycheck.opened.follow")
+    want = bench.table(words_of("boot"), f"--faults={fault}", f"--step={step}", *options)
+    same(f"outcomes of {fault}", {list(edits_of(fault, at, None))[value]: text for at, value, text in told}, want)
+    return len(told)
+
+
+def picture_of_steps(bench):
+    """The machine altered before a step, and before the steps of a function: the program's table, and a cell that makes an edit."""
+    with bench.open("boot") as page:
+        page.set("sweep-what", "step", "change")
+        page.click_on("#sweep")
+        expect("a step at which the run has ended" in page.text("notice"), f"at the end: {page.text('notice')!r}")
+        page.run("replaycheck.steps.choose(1262)")
+        bench.settle(page)
+        for fault, count in (("skip", 1), ("registers", 992), ("pc", 32), ("zero", 31), ("ones", 31)):
+            page.set("sweep-values", fault)
+            same(f"edits of {fault}", steps_swept(bench, page, fault, ["--at=1262"]), count)
+        expect("31 registers set to all ones at step 1,262" in page.text("counted"), f"it counts {page.text('counted')!r}")
+        page.run("replaycheck.sweeps.picture.here = { column: 0, row: 0 }; replaycheck.sweeps.picture.choose()")
+        bench.same_report(page, words_of("boot"), "a register set at a step")
+        same("the edit of the cell", page.run("replaycheck.scenario.lines"), ["set 1262 x1 0xffffffff"])
+        page.run("replaycheck.use('')")
+        bench.settle(page)
+        begin, size = page.run("""(() => { const it = replaycheck.opened.program.elf.functions.find((it) => it.name === 'verify');
+          replaycheck.code.visit(it.address); return [it.address, it.size]; })()""")
+        page.set("sweep-what", "steps", "change")
+        last = page.run("replaycheck.steps.last") - 1
+        options = [f"--at=0..{last}", f"--code-range={begin:#x}..{begin + size - 4:#x}"]
+        same("the function's steps", steps_swept(bench, page, "skip", options) > 10, True)
+        first = page.run("replaycheck.sweeps.picture.cells.findIndex((it) => it)")
+        page.run(f"replaycheck.sweeps.picture.here = {{ column: {first}, row: 0 }}; replaycheck.sweeps.picture.tell()")
+        expect(re.match(r"skip \d+", page.text("picture-told")), f"a cell says {page.text('picture-told')!r}")
 
 
 def picture_of_edits(bench):

@@ -7,10 +7,11 @@ from argparse import Namespace
 from replaycheck.endings import Fault, flush, naming, write
 from replaycheck.options import Parser
 from replaycheck.programs import BUILT_FROM, TOP
+from replaycheck.recording.front import INDEX, LIVE, front_of
 
 # Where a release has the page, beside the launcher's folder.
 PLACE = pathlib.Path(TOP).parents[1] / "share" / "replaycheck"
-FILE, FOLDER = "replaycheck.html", "page"
+FILE, FOLDER = LIVE, "page"
 BROWSERS = ("xdg-open", "sensible-browser", "x-www-browser")
 # A browser that ends sooner has failed, if its status says so.
 SECONDS = 3
@@ -18,7 +19,7 @@ PAGE = """\
 Opens the page on which the program runs in a browser: a report that changes as
 you edit.
 
-usage: replaycheck page [--output DIR]
+usage: replaycheck page [--output DIR [--recording FILE]]
 
 The package has the page: it was built with the package, from the intermediate
 text of the proved program. Nothing has to be installed besides a browser with
@@ -29,8 +30,13 @@ Printed is the file that is opened. Without a desktop nothing is opened: open or
 copy that file yourself.
 
 Options:
-  --output DIR  write DIR/replaycheck.html, one file with everything in it that
-                opens from disk, and DIR/page, a folder to serve; open nothing
+  --output DIR      write DIR/replaycheck.html, one file with everything in it
+                    that opens from disk, DIR/page, a folder to serve, and
+                    DIR/index.html, a sweep that leads to replaycheck.html;
+                    open nothing
+  --recording FILE  make DIR/index.html of this file, which is one that
+                    `explore --html` has written; without it, it is a sweep of
+                    an example
 
 Exit status:
   0  the page was opened or written
@@ -50,7 +56,11 @@ def is_made() -> bool:
 def options_of() -> Namespace:
     parser = Parser(PAGE)
     parser.add_argument("--output")
-    return parser.read()
+    parser.add_argument("--recording")
+    options = parser.read()
+    if options.recording is not None and options.output is None:
+        parser.error("--recording goes with --output")
+    return options
 
 
 def show(options: Namespace) -> int:
@@ -58,17 +68,21 @@ def show(options: Namespace) -> int:
         raise Fault(f"{PLACE / FILE}: no such file: this release is not whole")
     if options.output is None:
         return open_file(PLACE / FILE)
-    return copy(pathlib.Path(options.output))
+    front = front_of(options.recording) if options.recording is not None else (PLACE / INDEX).read_bytes()
+    return copy(pathlib.Path(options.output), front)
 
 
-def copy(out: pathlib.Path) -> int:
-    """Writes the file and the folder."""
+def copy(out: pathlib.Path, front: bytes) -> int:
+    """Writes the file, the folder and the front page."""
     for path in (PLACE / FILE, *sorted(it for it in (PLACE / FOLDER).rglob("*") if it.is_file())):
         to = out / path.relative_to(PLACE)
         with naming(str(to)):
             to.parent.mkdir(parents=True, exist_ok=True)
             shutil.copyfile(path, to)
-    write(f"{out / FILE}: {(out / FILE).stat().st_size} bytes, to open\n{out / FOLDER}: to serve\n")
+    with naming(str(out / INDEX)):
+        (out / INDEX).write_bytes(front)
+    write(f"{out / INDEX}: {len(front)} bytes, a recording that leads to it\n"
+          f"{out / FILE}: {(out / FILE).stat().st_size} bytes, to open\n{out / FOLDER}: to serve\n")
     return 0
 
 

@@ -10,9 +10,10 @@ usage: replaycheck explore FILE [--input F] [--supp F] [--isa NAME]
          [--at A..B --faults LIST [--code NAME | --code-range A..B]
          [--pairs skip]] [--with-output] [--jobs N] [--parts N] [--keep DIR]
          [--sample N [--seed S]] [--sshlogin LIST] [--goal TEXT] [--table OUT]
-         [--svg OUT] [--lcov OUT] [--script slurm] [--require-heap]
+         [--svg OUT] [--html OUT] [--lcov OUT] [--script slurm]
+         [--require-heap]
        replaycheck explore [FILE [--input F] [--supp F]] --from TABLE..
-         [--goal TEXT] [--table OUT] [--svg OUT] [--lcov OUT]
+         [--goal TEXT] [--table OUT] [--svg OUT] [--html OUT] [--lcov OUT]
 
 The summary lists the errors, leaks and stops that the unedited run doesn't
 have, and then the outcomes, the worst first: `+` is new, `-` is gone. No output
@@ -97,8 +98,17 @@ What is printed:
                        standard output, without a summary
   --svg OUT            draw a picture: a column for each place, a row for each
                        value, a colour for each kind of error, greys for what
-                       is harmless. Of steps, a row for each register, bit or
-                       address, a colour for the worst that an edit leads to
+                       is harmless, blue for the goal. Of steps, a row for each
+                       register, bit or address, a colour for the worst that an
+                       edit leads to
+  --html OUT           write the sweep as a page that a browser opens from disk,
+                       without a server and without replaycheck: the picture,
+                       the errors by their places, and of each edit its report,
+                       its output and its place in the source. It has at most
+                       200000 edits, those with something new before others,
+                       and says what it leaves out. Each edit needs another run
+                       for it, on this machine; - is standard output, without
+                       a summary
   --lcov OUT           write an info file for genhtml, as `replaycheck coverage`
                        does: what the unedited run and the runs of all edits
                        have executed. FILE must have debug information (gcc

@@ -11,6 +11,7 @@ from replaycheck.file_heaps import heap_of_run
 from replaycheck.guest.lines import shown_name
 from replaycheck.options import FURTHEST_STEP, Parser, number
 from replaycheck.programs import ISAS
+from replaycheck.recording.file import Recording
 from replaycheck.sessions import program
 
 from . import goals, remote, scripts
@@ -34,7 +35,7 @@ BYTES, WORDS = ("all", "flips", "edges"), ("skip", "flips")
 def options_of(page: str) -> Namespace:
     parser = Parser(page)
     parser.add_argument("file", nargs="?")
-    for name in ("--input", "--supp", "--code", "--keep", "--goal", "--table", "--svg", "--lcov", "--sshlogin"):
+    for name in ("--input", "--supp", "--code", "--keep", "--goal", "--table", "--svg", "--html", "--lcov", "--sshlogin"):
         parser.add_argument(name)
     parser.add_argument("--isa", choices=ISAS)
     parser.region_options()
@@ -74,7 +75,7 @@ def check(parser: Parser, options: Namespace) -> None:
     making = given(options, ("--step", "--limit", "--bytes", "--words", "--code", "--values", "--words-values", "--at", "--faults",
                              "--code-range", "--pairs", "--with-output", "--jobs", "--parts", "--keep", "--sshlogin", "--script",
                              "--require-heap"))
-    running = given(options, ("--goal", "--table", "--svg", "--lcov", "--jobs", "--sample", "--sshlogin", "--require-heap"))
+    running = given(options, ("--goal", "--table", "--svg", "--html", "--lcov", "--jobs", "--sample", "--sshlogin", "--require-heap"))
     faults = [(options.file is None and not options.tables, "no FILE, and no --from"),
               (options.file is None and (options.input or options.supp), "--input and --supp go with a FILE"),
               *((options.file is None and getattr(options, name) is not None, f"--{name.replace('_', '-')} goes with a FILE")
@@ -93,10 +94,10 @@ def check(parser: Parser, options: Namespace) -> None:
               (options.words_values is not None and not words, "--words-values goes with --words or --code"),
               (options.seed is not None and options.sample is None, "--seed goes with --sample"),
               (options.tables and options.sample is not None, "--sample makes parts: not of --from"),
-              (options.file is None and options.lcov is not None, "--lcov goes with a FILE"),
+              *((options.file is None and getattr(options, name) is not None, f"--{name} goes with a FILE") for name in ("html", "lcov")),
               (len(printed) > 1, f"{' and '.join(f'{it} -' for it in printed)} at once"),
-              ("" in (options.table, options.svg, options.lcov, options.keep, options.code, options.goal), "an option without a "
-               "value")]
+              ("" in (*(getattr(options, name) for name in OUTPUTS), options.keep, options.code, options.goal),
+               "an option without a value")]
     for is_so, text in faults:
         if is_so:
             parser.error(text)
@@ -172,7 +173,8 @@ def told(options, request, sources, notes, room, outputs, executed):
     picture = Picture(merged, sources, goal) if "svg" in outputs else None
     lines = SourceLines(request and os.path.abspath(request.program.path))
     instructions = Instructions(request, lines)
-    takers = [it.add for it in (goal, picture, executed) if it]
+    recording = Recording(request, merged, goal, jobs_of(options)) if "html" in outputs else None
+    takers = [it.add for it in (goal, picture, executed, recording) if it]
     is_table = "table" in outputs and options.sample is None
     for place in merged.places(outputs["table"].write if is_table else None):
         for take in takers:
@@ -183,6 +185,8 @@ def told(options, request, sources, notes, room, outputs, executed):
                       executed_told(covered) if covered else "")
     if picture:
         outputs["svg"].write(picture.text(summary).encode("utf-8"))
+    if recording:
+        outputs["html"].write(recording.content(summary))
     if covered:
         outputs["lcov"].write(lcov.text_of(covered).encode("utf-8", "surrogateescape"))
     if "table" in outputs and not is_table:
@@ -190,7 +194,7 @@ def told(options, request, sources, notes, room, outputs, executed):
             outputs["table"].copy(it.path)
     for it in outputs.values():
         it.end()
-    if "-" not in (options.table, options.svg, options.lcov):
+    if "-" not in [getattr(options, name) for name in OUTPUTS]:
         write(goal.told(instructions) if goal else "".join(f"{line}\n" for line in summary.lines()))
     flush()
     return int(bool(goal.count if goal else summary.is_new))

@@ -3,61 +3,27 @@ at what its run has done in each part of the code, and take the edit back."""
 from __future__ import annotations
 
 import os
-import selectors
 from collections import deque
 from dataclasses import dataclass
-from typing import Deque, Dict, Iterator, List, Optional, Set, Tuple
+from typing import Deque, Dict, List, Optional, Set, Tuple
 
 from replaycheck.covering import lcov
 from replaycheck.covering.covered import Covered
-from replaycheck.covering.runs import Sides, parts_reached, why
+from replaycheck.covering.runs import Sides, parts_reached
 from replaycheck.covering.table import spans
-from replaycheck.endings import Fault
 from replaycheck.guest.code import Code
 from replaycheck.guest.elf import Elf
-from replaycheck.guest.lines import shown_name
-from replaycheck.options import limit_for
 from replaycheck.places import Paths, Places
 from replaycheck.refusals import Ended, Refused
 from replaycheck.sessions import Session
 
+from .edited_runs import MOST_WAITING, UNEDITED, Answer, Edit, Lookers, check_unchanged, edits_of, fault_of, opened
 from .merging import Merged
 from .progress import Progress
 
-MOST_LINES = 90000  # of a session, which takes 100,000 and doesn't count looks
-MOST_WAITING = 1000  # lines of a session whose replies are to come
+OPTION = "--lcov"
 MOST_TOLD = 1 << 22
 MOST_FILES = 3  # that the summary names
-
-
-@dataclass
-class Edit:
-    """The lines of a session that make an edit, and those that take it back. The next edit of the same `place`, a byte or an instruction,
-    needs no line that takes this one back; an alteration at a step has the place None. `is_of_input` says whether the program and the
-    machine are as they were."""
-
-    lines: List[str]
-    back: List[str]
-    place: Optional[Tuple[str, int]]
-    is_of_input: bool
-
-    def __str__(self):
-        return f"the run with `{'; '.join(self.lines)}`" if self.lines else "the unedited run"
-
-
-UNEDITED = Edit([], [], None, True)
-
-
-def edits_of(place, request) -> Iterator[Edit]:
-    """The edits of a place of a table."""
-    it, at = place.range, place.at
-    before = None if it.kind == "steps" else request.before(it, at)
-    for value in place.edits:
-        lines = it.line(at, value).split("; ")
-        if it.kind == "steps":
-            yield Edit(lines, ["unmark 0"] * len(lines), None, False)
-        else:
-            yield Edit(lines, [] if before is None else [it.line(at, before)], (it.kind, at), it.kind == "bytes")
 
 
 @dataclass
@@ -68,72 +34,6 @@ class Sent:
     edit: Edit
     known: int
     is_missed: bool = False
-
-
-class Looker:
-    """A session that looks at one edited run after another. Many lines go ahead of their replies."""
-
-    def __init__(self, selector, opened):
-        self.selector, self.opened = selector, opened
-        self.session: Optional[Session] = None
-        self.waiting: Deque[Tuple[Sent, str, Optional[int]]] = deque()  # the lines that aren't replied to, each with its part
-        self.unsent = self.unread = b""
-        self.lines, self.stands = 0, UNEDITED
-
-    @property
-    def has_room(self):
-        return len(self.waiting) < MOST_WAITING and self.lines < MOST_LINES
-
-    def close(self):
-        if self.session is not None:
-            self.selector.unregister(self.session.child.stdout)
-            self.session.end()
-        self.session, self.lines, self.stands = None, 0, UNEDITED
-
-    def open(self):
-        self.session = self.opened()
-        os.set_blocking(self.session.child.stdin.fileno(), False)
-        self.selector.register(self.session.child.stdout, selectors.EVENT_READ, self)
-
-    def give(self, sent: Sent, looks: List[Tuple[str, Optional[int]]]):
-        """Takes an edit and the lines that look at its run, each with the part of the code that it looks at."""
-        if self.session is None:
-            self.open()
-        edit, stands = sent.edit, self.stands
-        lines = [*([] if edit.place and edit.place == stands.place else stands.back), *edit.lines]
-        told = [*((it, None) for it in lines), *looks]
-        self.waiting.extend((sent, *it) for it in told)
-        self.unsent += "".join(f"{line}\n" for line, _ in told).encode("ascii")
-        self.lines += sum(not it.startswith("look ") for it, _ in told)
-        self.stands = edit
-
-    def send(self):
-        """Writes what the pipe takes. The rest follows when a reply has come, as then there is room."""
-        while self.unsent:
-            try:
-                self.unsent = self.unsent[os.write(self.session.child.stdin.fileno(), self.unsent):]
-            except BlockingIOError:
-                return
-            except BrokenPipeError:
-                self.unsent = b""  # the end of its output says why
-
-    def is_done(self, sent: Sent) -> bool:
-        """Whether the last reply was the last one of an edit."""
-        return not self.waiting or self.waiting[0][0] is not sent
-
-    def replies(self) -> Iterator[Tuple[Sent, str, Optional[int], str]]:
-        """Reads what has come: of each reply the line that it is to, and its edit and part."""
-        assert self.session is not None  # the pipe of one is registered, until it ends
-        content = os.read(self.session.child.stdout.fileno(), 1 << 16)
-        if not content:
-            raise fault_of(self.waiting[0][0].edit if self.waiting else self.stands, self.session.ended())
-        *lines, self.unread = (self.unread + content).split(b"\n")
-        for reply in lines:
-            yield (*self.waiting.popleft(), reply.decode("utf-8", "surrogateescape"))
-
-
-def fault_of(edit: Edit, fault: Fault) -> Fault:
-    return Fault(f"--lcov: no look at {edit}: {why(fault)}")
 
 
 class Executed:
@@ -151,8 +51,7 @@ class Executed:
         self.reached: Set[int] = set()
         self.looks: Tuple[int, list] = (0, [])  # the lines that look at a run, for a number of parts that are reached
         self.queue: Deque[Edit] = deque([UNEDITED])
-        self.selector = selectors.DefaultSelector()
-        self.lookers = [Looker(self.selector, self.opened) for _ in range(jobs)]
+        self.lookers = Lookers(self.opened, jobs, OPTION)
         self.progress: Optional[Progress] = None
         self.merged: Optional[Merged] = None
 
@@ -175,22 +74,15 @@ class Executed:
     def __exit__(self, *_):
         if self.progress:
             self.progress.end()
-        for it in self.lookers:
-            it.close()
-        self.selector.close()
-
-    def session(self) -> Session:
-        program, given, supp = (it.path or None for it in self.request.files)
-        return Session(program, given, supp, command="look", isa=self.request.isa, regions=self.request.regions,
-                       limit=limit_for(self.step))
+        self.lookers.close()
 
     def opened(self) -> Session:
         """A session at the step."""
-        session = self.session()
+        session = opened(self.request, self.step)
         try:
             session.accepted(f"goto {self.step}")
         except (Ended, Refused) as fault:
-            raise fault_of(UNEDITED, fault) from None
+            raise fault_of(UNEDITED, fault, OPTION) from None
         return session
 
     # ---- the looks
@@ -214,12 +106,12 @@ class Executed:
 
     def search(self, edit: Edit):
         """Adds the parts that a run reaches, by a session of its own."""
-        session = self.session()
+        session = opened(self.request, self.step)
         try:
             session.accept_all(edit.lines)
             found = set(parts_reached(session, self.sides, self.step)) - self.reached
         except (Ended, Refused) as fault:
-            raise fault_of(edit, fault) from None
+            raise fault_of(edit, fault, OPTION) from None
         session.end()
         self.reached |= found or self.sides.parts.keys()
 
@@ -236,33 +128,24 @@ class Executed:
         """Gives the edits that wait to the sessions as far as they have room, and takes replies that have come."""
         if not self.reached:
             self.search(UNEDITED)
-        for it in self.lookers:
-            if it.lines >= MOST_LINES and not it.waiting:
-                it.close()
+        self.lookers.renew()
         if self.looks[0] != len(self.reached):
             self.looks = len(self.reached), self.lines_of_looks()
-        looks, ready = self.looks[1], [it for it in self.lookers if it.has_room]
-        while self.queue and ready:
-            it = min(ready, key=lambda it: len(it.waiting))
-            it.give(Sent(self.queue.popleft(), len(self.reached)), looks)
-            if not it.has_room:
-                ready.remove(it)
-        for it in self.lookers:
-            it.send()
-        for key, _ in self.selector.select() if any(it.waiting for it in self.lookers) else ():
-            for sent, line, part, reply in key.data.replies():
-                self.take(sent, line, part, reply)
-                if key.data.is_done(sent):
-                    self.progress.add(int(not sent.is_missed))
-            key.data.send()
+        while self.queue and self.lookers.has_room:
+            self.lookers.give(Sent(self.queue.popleft(), len(self.reached)), self.looks[1])
+        for answer in self.lookers.replies():
+            self.take(answer)
+            if answer.is_last:
+                self.progress.add(int(not answer.asked.is_missed))
 
-    def take(self, sent: Sent, line: str, part: Optional[int], reply: str):
+    def take(self, answer: Answer):
         """Takes a reply."""
+        sent, part, reply = answer.asked, answer.what, answer.reply[0]
         if reply.startswith("refused "):
-            raise fault_of(sent.edit, Refused(line, reply))
+            raise fault_of(sent.edit, Refused(answer.line, reply), OPTION)
         if part is not None:
             (self.sides if sent.edit.is_of_input else self.altered).add(part, reply.removeprefix("sides "))
-        elif line.startswith("look next run ") and reply != "none" and not sent.is_missed:
+        elif answer.line.startswith("look next run ") and reply != "none" and not sent.is_missed:
             sent.is_missed = True
             if len(self.reached) == sent.known:
                 self.search(sent.edit)
@@ -282,14 +165,14 @@ class Executed:
 
     def end(self) -> Covered:
         """Waits for the last replies."""
-        while self.queue or any(it.waiting for it in self.lookers):
+        while self.queue or self.lookers.is_waiting:
             self.work()
         for at, digits in self.merged.sides.items() if self.merged else ():
             self.sides.add_line(at, digits.decode("ascii"))
         if self.progress:
             self.progress.end()
         for it in self.request.files:
-            check_unchanged(it)
+            check_unchanged(it, OPTION)
         return Covered(self.path, self.code, self.all(), self.places)
 
 
@@ -310,13 +193,6 @@ def check_lines(path, code: Code, places: Places):
         if places.at(f"0x{it.address:08x}"):
             return
     Covered(path, code, {}, places)
-
-
-def check_unchanged(given):
-    if given.path:
-        with open(given.path, "rb") as file:
-            if file.read(len(given.content) + 1) != given.content:
-                raise Fault(f"--lcov: {shown_name(given.name)} was changed meanwhile")
 
 
 def told(covered: Covered) -> str:

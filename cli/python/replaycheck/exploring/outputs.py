@@ -12,7 +12,7 @@ from replaycheck.guest.lines import shown_name
 from .keeping import TABLE
 from .leftovers import new_file
 
-OUTPUTS = ("table", "svg", "lcov")
+OUTPUTS = ("table", "svg", "html", "lcov")
 
 
 class Output:

@@ -13,6 +13,7 @@ OTHER = ("#b9c9d9", "#62758a")
 UNEDITED = ("#e4e4e4", "#3a3a3a")
 # Of bytes and words, as on the page: a colour for each kind of the worst that is new, with how that begins, and greys for what is harmless.
 BY_KIND = {
+    "g": ((), "reaches the goal", ("#4478bf", "#73b4ff")),
     "n1": (("Invalid write",), "an invalid write", ("#cc2838", "#fe4f3c")),
     "n2": (("Jump ",), "a jump to where no memory is", ("#34000f", "#f094a8")),
     "n3": (("Invalid free",), "an invalid free", ("#a00f6e", "#ec4abb")),
@@ -42,11 +43,19 @@ class Picture:
         if place.range.kind == "steps":
             self.steps.add(place, self.rank)
         else:
-            next(it for it in self.panels if it.range == place.range).add(place, self.badness)
+            next(it for it in self.panels if it.range == place.range).add(place, self.rank)
 
     def rank(self, number):
         """How bad an outcome is; one that reaches the goal is the worst."""
-        return GOAL_RANK if self.goal and self.goal.is_reached(number) else self.badness(number)
+        return GOAL_RANK if self.is_goal(number) else self.badness(number)
+
+    def is_goal(self, number):
+        """Whether an outcome reaches the goal, if there is one."""
+        return self.goal is not None and self.goal.is_reached(number)
+
+    def is_mark(self, number):
+        """Whether an outcome's cells are drawn on top, and never too small to be seen."""
+        return self.is_goal(number) or bool(self.summary.news[number])
 
     def kind(self, number):
         """The class of an outcome's colour."""
@@ -77,13 +86,8 @@ class Picture:
         self.colours = {name: BY_KIND[name][2] for name in BY_KIND if name in self.kinds.values()}
 
     def kind_of(self, number):
-        """The kind of an outcome of a sweep of bytes or words, by the worst that is new in it."""
-        if number == 0:
-            return "o0"
-        news = self.summary.news[number]
-        if news:
-            return next(name for name, (begins, _, _) in BY_KIND.items() if news[0].text.startswith(begins or ("\n",)))
-        return "o1" if self.badness(number) > 0 else "o"
+        """The kind of an outcome of a sweep of bytes or words: whether it reaches the goal, or else by the worst that is new in it."""
+        return "g" if self.is_goal(number) else kind_of_outcome(number, self.summary.news[number], self.badness(number) > 0)
 
     def style(self):
         light, dark = ("".join(f".{name}{{fill:{pair[i]}}}" for name, pair in self.colours.items()) for i in (0, 1))
@@ -129,7 +133,7 @@ class Picture:
         marks = []
         for column, first, last in panel.runs():
             drawn = self.run(panel, top, column, first, last)
-            if self.summary.news[panel.cells[column][first].outcome]:
+            if self.is_mark(panel.cells[column][first].outcome):
                 marks.append(drawn)
             else:
                 yield drawn
@@ -141,7 +145,7 @@ class Picture:
         cell, is_small = panel.cells[column][first], panel.tall == 2
         x, y = LEFT + column * panel.wide, top + first * panel.tall
         wide, tall = panel.wide - (panel.wide > 6), (last - first + 1) * panel.tall - (not is_small)
-        if self.summary.news[cell.outcome] and tall < LEAST_MARK:
+        if self.is_mark(cell.outcome) and tall < LEAST_MARK:
             y, tall = y - (LEAST_MARK - tall) / 2, LEAST_MARK
         return (f'<rect class="{self.kinds[cell.outcome]}" x="{x}" y="{y:g}" width="{wide}" height="{tall}">'
                 f"<title>{self.tip(panel, column, first, last)}</title></rect>")
@@ -190,7 +194,7 @@ class Picture:
         yield (f'<text class="dim s e" x="110" y="{top}">edits</text>'
                f'<text class="dim s" x="120" y="{top}">the worst that an edit of a cell leads to; bold: new</text>')
         texts = {name: text for name, _, text in KINDS} if self.steps else {name: what for name, (_, what, _) in BY_KIND.items()}
-        if self.steps and self.goal:
+        if self.goal:
             texts["g"] += f": a line that begins with {self.goal.shown}"
         there = [it for it in texts if it in self.kinds.values()]
         for index, name in enumerate(there):
@@ -202,7 +206,17 @@ class Picture:
             text = texts[name]
             if not self.steps and name[0] == "n":
                 text, told = self.first_of(numbers), f"{text}: {told}"
-            elif not self.steps or name == "o0":
+            elif name != "g" and not self.steps or name == "o0":
                 text += f": {self.first_of(numbers)}"
             yield (f'<rect class="{name}" x="16" y="{y - 11}" width="14" height="14"/><text class="ink e" x="110" y="{y}">{edits}</text>'
                    f'<text class="{style}" x="120" y="{y}">{xml(text, 120 if self.steps else 94)}<title>{xml(told, 1000)}</title></text>')
+
+
+def kind_of_outcome(number, news, runs_on):
+    """The name in BY_KIND of an outcome by its number, where the unedited run's is 0, and by what is new in it, the worst first. `runs_on`
+    says whether it still runs where the unedited run ends."""
+    if number == 0:
+        return "o0"
+    if news:
+        return next(name for name, (begins, _, _) in BY_KIND.items() if news[0].text.startswith(begins or ("\n",)))
+    return "o1" if runs_on else "o"
