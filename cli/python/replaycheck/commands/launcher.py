@@ -22,8 +22,20 @@ PASSED = f"{TOP}/out/passed"
 COMMANDS = ("run", "session", "look", "tries", "sweep", "certify", "exec")
 LONGER = ("run", "exec")  # those to which options are added
 MORE = """
+`run`, `session`, `look` and `tries` are one thing in four sizes. Use `run` for one report. Use
+`session` to edit a run and ask for reports, by lines on standard input. Use `look` for these lines
+and others, which show or alter registers and memory. Use `tries` for all of these, and for lines
+that try other inputs.
+
 `replaycheck run --help` has the options for CI, and for other formats,
 `replaycheck exec --help` those for test runners.
+"""
+FIRST = """
+To begin with:
+  replaycheck run program.elf --input bytes         prints the report of a program
+  replaycheck exec -q --error-exitcode=9 test.elf   runs a test, and fails on an error
+  replaycheck explore program.elf --input bytes     tries every value of each byte
+
 """
 LIKENESS = 0.7  # of a word that is meant, as difflib has it: `walks` is no `talk`
 
@@ -57,9 +69,9 @@ def show_page() -> int:
 
 
 def show_usage() -> int:
-    """Shows what the program says of no argument at all, and below it the tools."""
+    """Shows what the program says of no argument at all, and below it what to begin with, and the tools."""
     status = run_program([])
-    os.write(2, f"\n{list_of_tools()}".encode("utf-8", "surrogateescape"))
+    os.write(2, f"{FIRST}{list_of_tools()}".encode("utf-8", "surrogateescape"))
     return status
 
 
