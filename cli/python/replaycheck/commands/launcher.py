@@ -22,10 +22,11 @@ PASSED = f"{TOP}/out/passed"
 COMMANDS = ("run", "session", "look", "tries", "sweep", "certify", "exec")
 LONGER = ("run", "exec")  # those to which options are added
 MORE = """
-`run`, `session`, `look` and `tries` are one thing in four sizes. Use `run` for one report. Use
-`session` to edit a run and ask for reports, by lines on standard input. Use `look` for these lines
-and others, which show or alter registers and memory. Use `tries` for all of these, and for lines
-that try other inputs.
+`run`, `session`, `look` and `tries` are one thing in four sizes. Use `run` for
+one report. Use `session` to edit a run and ask for reports, by lines on
+standard input. Use `look` for these lines and others, which show or alter
+registers and memory. Use `tries` for all of these, and for lines that try
+other inputs.
 
 `replaycheck run --help` has the options for CI, and for other formats,
 `replaycheck exec --help` those for test runners.
