@@ -200,9 +200,11 @@ class Request:
         """Says which bytes of the input the unedited run doesn't read, or that it reads none."""
         size = len(self.input.content)
         if not read and not places:
+            from replaycheck.other_sets import hint
+            other = hint(self.program.path, self.isa)
             raise Fault(f"the run reads none of the {size} bytes of {shown_name(self.input.name)} up to step {self.step}, "
                         "so no edit of them changes it: --bytes A..B tries them all the same, --code NAME edits "
-                        "instructions")
+                        f"instructions{other and '. '}{other}")
         rest = "which no edit of them changes" if places else f"so the other {size - read} are left out"
         self.notes.append(f"input: the unedited run reads {read} of {size} bytes, {rest}")
 
