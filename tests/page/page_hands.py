@@ -47,7 +47,7 @@ def tab_stops(bench):
         same("what comes after the bytes", page.run("document.activeElement.id"), "picture")
         stops = page.run("""[...document.querySelectorAll('a, button, input, select, textarea, summary, [tabindex]')]
           .filter((it) => it.tabIndex === 0 && !it.disabled && it.checkVisibility()).length""")
-        expect(stops < 90, f"the page has {stops} stops with all of it open")
+        expect(stops < 96, f"the page has {stops} stops with all of it open")
 
 
 # ---- fingers
