@@ -26,7 +26,7 @@ def texts_at(file: str, addresses: Iterable[int]) -> Dict[int, str]:
         except Fault:
             return {}
         rows = map(ROW.match, child.communicate()[0].decode("utf-8", "replace").splitlines())
-        found.update((int(it[1], 16), " ".join(it[2].split())) for it in rows if it)
+        found.update((int(row[1], 16), " ".join(row[2].split())) for row in rows if row)
     return {address: found[address] for address in wanted & found.keys()}
 
 

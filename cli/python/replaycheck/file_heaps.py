@@ -54,7 +54,7 @@ def has_word(elf, segment, words, unit):
 def calls_by_number(elf, unit):
     """Whether the code chooses an environment call of the heap. Its instructions begin at multiples of `unit`."""
     from replaycheck.guest.rv32 import ECALL
-    return all(any(has_word(elf, it, words, unit) for it in elf.loads) for words in ([ECALL], choices()))
+    return all(any(has_word(elf, load, words, unit) for load in elf.loads) for words in ([ECALL], choices()))
 
 
 def named_in(elf):

@@ -64,9 +64,9 @@ def outside(calls: list[Call]):
     """The calls of a trace that are neither an allocator's nor a library's. If a trace begins in an allocator, what that has called isn't
     outside either: `operator new` may have functions of its own, which call `malloc`."""
     begin = 0
-    if any(it.is_of_allocator for it in calls if it.address == calls[0].address):
+    if any(call.is_of_allocator for call in calls if call.address == calls[0].address):
         begin = max(at for at, it in enumerate(calls, 1) if it.is_of_allocator)
-    return [it for it in calls[begin:] if not it.is_of_allocator and not it.is_of_library]
+    return [call for call in calls[begin:] if not call.is_of_allocator and not call.is_of_library]
 
 
 @dataclass
@@ -138,8 +138,8 @@ class Shown:
     @property
     def failed_status(self):
         """The status of a run by `exec`, in words, if it isn't 0 and nothing else says why; otherwise nothing."""
-        state, findings = self.report.state, [it for it in self.findings() if it.counts] if self.status else []
-        is_of_findings = self.status == self.error_exitcode and findings or any(it.rule in ("Stop", RUNNING) for it in findings)
+        state, findings = self.report.state, [finding for finding in self.findings() if finding.counts] if self.status else []
+        is_of_findings = self.status == self.error_exitcode and findings or any(finding.rule in ("Stop", RUNNING) for finding in findings)
         if not self.status or is_of_findings or self.needs_heap and self.heap_notice:
             return ""
         return f"exit status {self.status}" + (": output was lost" if self.status == LOST and state.status == 0 else "")

@@ -105,10 +105,10 @@ def json_text(shown):
         "read": report.position, "length": report.length, "written": report.written,
         "certify": verdict_object(shown.verdict, trace),
         "heap": shown.heap and {"known": shown.heap.known, "functions": shown.heap.functions},
-        "errors": [{"kind": it.kind, "text": it.text, "count": it.count, "trace": trace(it.trace),
-                    "note": note_object(it.note, trace(it.note.trace) if it.note else [])} for it in report.errors],
-        "leaks": [{"kind": LEAK_KINDS[it.kind], "bytes": it.size, "blocks": it.blocks, "trace": trace(it.trace)}
-                  for it in report.leaks],
+        "errors": [{"kind": error.kind, "text": error.text, "count": error.count, "trace": trace(error.trace),
+                    "note": note_object(error.note, trace(error.note.trace) if error.note else [])} for error in report.errors],
+        "leaks": [{"kind": LEAK_KINDS[leak.kind], "bytes": leak.size, "blocks": leak.blocks, "trace": trace(leak.trace)}
+                  for leak in report.leaks],
         "sums": {LEAK_KINDS.get(name, name): {"bytes": report.sums[name].size, "blocks": report.sums[name].blocks}
                  for name in SUMS},
         "summary": {"errors": report.happened, "contexts": report.contexts, "suppressed": report.suppressed,

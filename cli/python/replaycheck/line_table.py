@@ -317,7 +317,7 @@ class LineTable:
 
     def beginnings(self) -> Iterator[tuple[int, Sequence]]:
         """The addresses at which sequences begin, with these. Other bytes that look like the opcode aren't near the end of a sequence."""
-        lines, ends = self.sections.lines, [it.end for it in self.units]
+        lines, ends = self.sections.lines, [unit.end for unit in self.units]
         at = lines.find(BEGINNING)
         while at >= 0:
             number, after = bisect.bisect_right(ends, at), at + len(BEGINNING)

@@ -262,4 +262,4 @@ def last_that(low, high, holds):
 
 def errors_by_trace(report):
     """How often a report has each error: its text, and its trace."""
-    return {(it.text, *(frame.address for frame in it.trace)): it.count for it in report.errors}
+    return {(error.text, *(frame.address for frame in error.trace)): error.count for error in report.errors}

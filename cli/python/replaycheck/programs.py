@@ -45,7 +45,7 @@ def tool(variable, names):
     """The program of others that a variable of the environment names, or else the first of some names that is on the path; the first of
     all if none is."""
     folders = os.environ.get("PATH", os.defpath).split(os.pathsep)
-    there = (it for it in names if any(os.access(os.path.join(folder, it), os.X_OK) for folder in folders))
+    there = (name for name in names if any(os.access(os.path.join(folder, name), os.X_OK) for folder in folders))
     return os.environ.get(variable) or next(there, names[0])
 
 

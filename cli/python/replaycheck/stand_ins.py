@@ -53,7 +53,7 @@ class StandIns:
         """The name of a frame: a stub has that of the function for which it stands."""
         if self.site(address) is None:
             return name
-        return next((name[:-len(it.suffix)] for it in FORMS.values() if name.endswith(it.suffix)), "") or name
+        return next((name[:-len(form.suffix)] for form in FORMS.values() if name.endswith(form.suffix)), "") or name
 
 
 def jumped_to(address, word):

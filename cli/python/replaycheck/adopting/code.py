@@ -51,13 +51,13 @@ class Code:
 
     def __init__(self, elf, closed=()):
         self.elf = elf
-        sections = joined((it.addr, it.addr + it.size) for it in elf.sections if it.flags & HAS_CODE)
+        sections = joined((section.addr, section.addr + section.size) for section in elf.sections if section.flags & HAS_CODE)
         closed = joined([*closed, *(without([[0, 1 << 32]], sections) if sections else ())])
         self.stretches = [Stretch(elf, start, end, self.unit) for it in elf.contents
                           for start, end in without([[it.vaddr, it.vaddr + it.filesz]], closed)]
-        self.starts = [it.start for it in self.stretches]
-        self.sized = joined((it.value, it.value + it.size) for it in elf.functions if it.size)
-        self.ends = {it.value + it.size for it in elf.functions if it.size}
+        self.starts = [stretch.start for stretch in self.stretches]
+        self.sized = joined((function.value, function.value + function.size) for function in elf.functions if function.size)
+        self.ends = {function.value + function.size for function in elf.functions if function.size}
         self.control, self.atomic, self.floating, self.compressed, self.unknown = [], [], [], [], []
 
     def stretch_at(self, address):
@@ -93,7 +93,7 @@ class Code:
 
     def data(self):
         """What mapping symbols call data: from each up to the next one or the next function."""
-        marks = {it.value: True for it in self.elf.functions}
+        marks = {function.value: True for function in self.elf.functions}
         for symbol in self.elf.symbols:
             name = self.elf.strings[symbol.name:symbol.name + 2]
             if name in (b"$d", b"$x"):
@@ -109,8 +109,8 @@ class Code:
             while index < len(self.starts) and self.starts[index] < end:
                 yield from unseen(self.stretches[index], start, end, self.unit)
                 index += 1
-        yield from (it.value for it in self.elf.functions if not it.size)
-        yield from (it.value for it in self.elf.symbols if self.elf.strings[it.name:it.name + 2] == b"$x")
+        yield from (function.value for function in self.elf.functions if not function.size)
+        yield from (symbol.value for symbol in self.elf.symbols if self.elf.strings[symbol.name:symbol.name + 2] == b"$x")
 
     def follow(self):
         """Looks at each word of code once."""

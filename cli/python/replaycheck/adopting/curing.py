@@ -54,7 +54,7 @@ class Cured:
                 places[name] = len(strings)
                 strings += name.encode() + b"\0"
             symbols += struct.pack("<IIIBBH", places[name], address, size, WEAK | kind, 0, section)
-        suffixes = tuple(it.suffix for it in FORMS.values())
+        suffixes = tuple(form.suffix for form in FORMS.values())
         added = ", ".join(f"{name} at 0x{address:08x}" for name, address, *_ in named if not name.endswith(suffixes))
         stubs = sum(name.endswith(suffixes) for name, *_ in named)
         added += f" and {stubs} of stubs" if stubs else ""
@@ -98,7 +98,7 @@ def cured(findings):
                   for it in findings.plan.taken.values() if it.named != it.symbol.value]
     for added in findings.added():
         segments += led(result, added)
-        named += [(*it, NO_SECTION) for it in added.symbols()] if result.elf.symbol_table is not None else []
+        named += [(*symbol, NO_SECTION) for symbol in added.symbols()] if result.elf.symbol_table is not None else []
     if segments:
         result.load_too(segments)
     if named:

@@ -20,7 +20,7 @@ SHIFTS = {rv32.LOADS["lb"]: (24, "srai"), rv32.LOADS["lh"]: (16, "srai"), rv32.L
 
 def words_of_host(elf):
     """The addresses of tohost and of fromhost, or NO_SUCH."""
-    found = {elf.name(it): it.value for it in elf.symbols if elf.name(it) in HOSTS}
+    found = {elf.name(symbol): symbol.value for symbol in elf.symbols if elf.name(symbol) in HOSTS}
     return [found.get(name, device_handler.NO_SUCH) for name in HOSTS]
 
 

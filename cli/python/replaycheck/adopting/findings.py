@@ -125,7 +125,7 @@ class Findings:
         self.control = [replaced(code, it) for it in unknown if self.elf.function_at(it.address) not in kept]
         words = stack_words(code, self.elf.entry)
         self.own = own_stack(self.elf, words)
-        self.stack = [it for it in words if self.elf.function_at(it.address) not in kept and not has_own(self.regions, self.own)]
+        self.stack = [word for word in words if self.elf.function_at(word.address) not in kept and not has_own(self.regions, self.own)]
         atomic = [it for it in code.atomic if self.asked != ATOMIC or not is_atomic(it.word)]
         self.obstacles += of_code(self.elf, code, atomic, self.isa_option if self.isa != self.asked else None)
         self.copied, unplaced = physical(self.elf)
@@ -140,7 +140,7 @@ class Findings:
         """Looks for calls of a host, and for a place of what answers them."""
         found = sites(self.elf, kept, self.unit)
         if found:
-            self.hosting = Hosting(self.elf, found, [(it.first, it.last + 1) for it in self.devices if it.places])
+            self.hosting = Hosting(self.elf, found, [(device.first, device.last + 1) for device in self.devices if device.places])
             why = self.hosting.refused(self.loaded(), len(self.elf.segments) + len(self.copied))
             if why:
                 self.obstacles.append(Obstacle(f"semihosting calls, at {self.elf.where_all(found)}: {why[0]}",
@@ -148,7 +148,7 @@ class Findings:
 
     def answer_for(self, sites):
         """Has some loads and stores of devices answered for."""
-        others = [(it.first, it.last + 1) for it in self.devices if it.places]
+        others = [(device.first, device.last + 1) for device in self.devices if device.places]
         others += self.hosting.ranges() if self.hosting else []
         self.driving = Driving(self.elf, sites, others) if sites else None
 
@@ -247,7 +247,7 @@ def physical(elf):
     copied, unplaced = [], []
     if not any(it.paddr for it in elf.contents):
         return copied, unplaced
-    taken = joined((it.vaddr, it.vaddr + it.memsz) for it in elf.loads)
+    taken = joined((load.vaddr, load.vaddr + load.memsz) for load in elf.loads)
     total, count, last = sum(end - start for start, end in elf.loaded), len(elf.segments), 0
     for it in sorted(elf.contents, key=lambda it: it.paddr):
         if it.paddr == it.vaddr or has_bytes(elf, it):

@@ -150,6 +150,6 @@ class Plan:
 
     def closed(self):
         """Ranges that a run never reaches: functions that are taken over."""
-        sizes = {it.value: it.size for it in self.elf.functions}
+        sizes = {function.value: function.size for function in self.elf.functions}
         hooked = [(address, address + (sizes.get(address) or 4)) for address in self.hooked]
         return hooked + [(address, address + it.size) for address, it in self.taken.items()]

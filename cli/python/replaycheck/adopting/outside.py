@@ -33,7 +33,7 @@ def memory_of(elf, copied):
     """Where a run has memory; the first page, to which a null pointer leads; and what follows a segment, where an empty
     table of the linker script may begin and end."""
     regions = [(low, high) for _, low, high in elf.regions.ranges]
-    return joined([(0, PAGE), *regions, *((it.vaddr, it.vaddr + it.memsz + PAGE) for it in elf.loads),
+    return joined([(0, PAGE), *regions, *((load.vaddr, load.vaddr + load.memsz + PAGE) for load in elf.loads),
                    *((it.paddr, it.paddr + it.filesz) for it in copied)])
 
 
@@ -72,7 +72,7 @@ class Constants:
 
 def accesses(elf, code):
     """Each load and store whose address is known: its place and where it goes."""
-    begins, constants = {it.value for it in elf.functions}, Constants()
+    begins, constants = {function.value for function in elf.functions}, Constants()
     for it in code.seen():
         if it is None or it.address in begins:
             constants = Constants()
@@ -98,9 +98,9 @@ def reached(elf, code, copied):
     for page in sorted(pages):
         targets = [target for target, _ in pages[page]]
         found.append(Reached(min(targets), max(targets), device_at(min(targets)), sorted(at for _, at in pages[page])))
-    names = {elf.name(it): it.value for it in elf.symbols if elf.name(it) in (*HOSTS, ACCESSES.range)}
-    hosts = [] if ACCESSES.range in names else [it for it in HOSTS if it in names]  # or else answered for
-    return found + [Reached(names[it], names[it], it, []) for it in hosts]
+    names = {elf.name(symbol): symbol.value for symbol in elf.symbols if elf.name(symbol) in (*HOSTS, ACCESSES.range)}
+    hosts = [] if ACCESSES.range in names else [host for host in HOSTS if host in names]  # or else answered for
+    return found + [Reached(names[host], names[host], host, []) for host in hosts]
 
 
 def left(found, sites):

@@ -45,15 +45,15 @@ def end_by_words(words):
 
 def end_by_name(elf):
     """The address and the name of the symbol that is the end of the stack, or None."""
-    named = {elf.name(it): it.value for it in reversed(elf.symbols)}
+    named = {elf.name(symbol): symbol.value for symbol in reversed(elf.symbols)}
     return next(((named[name], name) for name in NAMES if named.get(name)), None)
 
 
 def lowest(elf, top, end):
     """Up to where memory below the end of a stack is something else's: what the file has in it, and its variables. None if one is between
     the stack pointer's first place and the end of the region."""
-    parts = [(it.vaddr, it.vaddr + (it.filesz if end <= it.vaddr + it.memsz else it.memsz)) for it in elf.loads if it.memsz]
-    parts += [(it.addr, it.addr + it.size) for it in elf.sections if it.flags & ALLOCATED and it.size and it.addr + it.size < top]
+    parts = [(load.vaddr, load.vaddr + (load.filesz if end <= load.vaddr + load.memsz else load.memsz)) for load in elf.loads if load.memsz]
+    parts += [(section.addr, section.addr + section.size) for section in elf.sections if section.flags & ALLOCATED and section.size and section.addr + section.size < top]
     for it in elf.symbols:
         if it.info & 15 == OBJECT and it.size:
             parts.append((it.value, it.value if it.value < top <= it.value + it.size else it.value + it.size))
@@ -76,7 +76,7 @@ def own_stack(elf, words):
     if not is_stack(begin, end):
         return None
     region = Regions(elf.regions.heap, (begin, end))
-    return None if any("stack" in region.met(it) for it in elf.loads) else Own(top, name, (begin, end))
+    return None if any("stack" in region.met(load) for load in elf.loads) else Own(top, name, (begin, end))
 
 
 def has_own(regions, own):
@@ -93,12 +93,12 @@ def is_told(regions, own):
 def fitting(elf, own):
     """Regions that no segment of a file meets, as near as can be to those for which it was read; None if there are none. A stack that can't
     stay is the start file's own, if that is known. A heap that can't stay isn't put there."""
-    met = {name for it in elf.loads for name in elf.regions.met(it)}
-    taken = [(it.vaddr, it.vaddr + it.memsz) for it in elf.loads] + [(it.paddr, it.paddr + it.filesz) for it in elf.contents]
+    met = {name for load in elf.loads for name in elf.regions.met(load)}
+    taken = [(load.vaddr, load.vaddr + load.memsz) for load in elf.loads] + [(it.paddr, it.paddr + it.filesz) for it in elf.contents]
     taken += [(first, first + size) for first, size, _ in DEVICES]
 
     def is_free(low, high, others):
-        return not any(meets(low, high, *it) for it in others)
+        return not any(meets(low, high, *other) for other in others)
 
     stack = elf.regions.stack
     if "stack" in met:

@@ -100,7 +100,7 @@ def lines(findings, written, changes):
         yield from (f"  {name} at 0x{address:08x}: {why}" for name, address, why in findings.plan.left)
     if findings.devices:
         yield f"{DEVICES}:"
-        yield from (f"  {device_line(findings.elf, it)}" for it in findings.devices)
+        yield from (f"  {device_line(findings.elf, device)}" for device in findings.devices)
     if findings.obstacles:
         yield "needs an option, or a rebuild:" if any(it.by_option for it in findings.obstacles) else "needs a rebuild:"
     for it in findings.obstacles:
@@ -108,7 +108,7 @@ def lines(findings, written, changes):
         yield f"    {it.cure}"
     if changes:
         yield f"changed in {written}:"
-        yield from (f"  offset 0x{it.offset:08x}, {it.size} bytes: {it.what}" for it in changes)
+        yield from (f"  offset 0x{change.offset:08x}, {change.size} bytes: {change.what}" for change in changes)
 
 
 def verdict(findings, name, out):

@@ -27,7 +27,7 @@ class Group:
 def taken(elf):
     """What isn't free: segments, the physical addresses of their bytes, regions, known devices and the first page."""
     return [(0, PAGE), *((low, high) for _, low, high in elf.regions.ranges), *((first, first + size) for first, size, _ in DEVICES),
-            *((it.vaddr, it.vaddr + it.memsz) for it in elf.loads), *((it.paddr, it.paddr + it.filesz) for it in elf.contents)]
+            *((load.vaddr, load.vaddr + load.memsz) for load in elf.loads), *((it.paddr, it.paddr + it.filesz) for it in elf.contents)]
 
 
 class Spaces:
@@ -56,7 +56,7 @@ class Spaces:
         _, address, index = min(found)
         start, end = self.free[index]
         pieces = [[start, address - self.apart], [address + size + self.apart, end]]
-        self.free[index:index + 1] = [it for it in pieces if it[0] < it[1]]
+        self.free[index:index + 1] = [piece for piece in pieces if piece[0] < piece[1]]
         return address
 
 

@@ -81,7 +81,7 @@ class Covered:
     def __init__(self, path, code: Code, executed: Dict[int, int], places: Places):
         self.by_name: Dict[str, SourceFile] = {}
         self.code, self.executed, self.paths = code, executed, places.paths
-        self.begins = {it.value for it in code.elf.functions}
+        self.begins = {function.value for function in code.elf.functions}
         self.outer: Optional[Tuple[str, str]] = None
         self.unnamed: List[Tuple[int, Place]] = []
         self.table: LineTable = places.table

@@ -43,5 +43,5 @@ def source(file: SourceFile, names: Demangler) -> dict:
 
 def text_of(covered: Covered, names: Demangler, program: str, *_) -> str:
     whole = {"current_working_directory": text(os.getcwd()), "data_file": text(program), "format_version": FORMAT,
-             "gcc_version": "replaycheck", "files": [source(it, names) for it in covered.files]}
+             "gcc_version": "replaycheck", "files": [source(file, names) for file in covered.files]}
     return json.dumps(whole, separators=(",", ":")) + "\n"

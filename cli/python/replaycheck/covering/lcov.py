@@ -38,4 +38,4 @@ def records(file: SourceFile) -> Iterator[str]:
 
 
 def text_of(covered: Covered, *_) -> str:
-    return "".join(f"{it}\n" for file in covered.files for it in records(file))
+    return "".join(f"{record}\n" for file in covered.files for record in records(file))

@@ -25,7 +25,7 @@ def share(part: int, whole: int) -> Tuple[str, str]:
 def counts(file: SourceFile) -> List[Tuple[int, int]]:
     """What was executed of the lines, taken of the branches, and executed of the functions, each with how many there are."""
     ways = [is_taken for *_, it in file.branches for is_taken, _ in it.ways]
-    functions = [it.is_executed for it in file.functions.values()]
+    functions = [function.is_executed for function in file.functions.values()]
     return [(len(file.lines) - len(file.unexecuted), len(file.lines)), (sum(ways), len(ways)), (sum(functions), len(functions))]
 
 
@@ -104,4 +104,4 @@ def text_of(covered: Covered, names: Demangler, _, runs: List[Made], step: int) 
     lines = [ends(runs, step), *never_called(covered, names), "", *table([*rows(covered)])]
     if covered.placeless:
         lines += ["", f"{covered.placeless} instruction{'s' if covered.placeless > 1 else ''} without a source line: not counted"]
-    return "".join(f"{it}\n" for it in lines)
+    return "".join(f"{line}\n" for line in lines)

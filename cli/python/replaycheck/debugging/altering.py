@@ -113,7 +113,7 @@ class Alterer:
             raise Unaltered(ABOVE)
         lines, step = [], self.run.step
         while data:
-            size = next(it for it in SIZES if it <= len(data))
+            size = next(size for size in SIZES if size <= len(data))
             lines.append(f"write {step} 0x{address:08x} {size} 0x{int.from_bytes(data[:size], 'little'):0{2 * size}x}")
             address, data = address + size, data[size:]
         self.alter(lines)

@@ -55,7 +55,7 @@ class Monitor:
             "backtrace": self.backtrace, "stop_at_errors": self.stop_at_errors, "origin": self.origin,
             "make_memory": self.make_memory, "worked": self.worked, "skip": self.skip, "flip": self.flip,
             "changes": self.changes, "unmark": self.unmark,
-            **{it: self.edit for it in EDITS}}
+            **{edit: self.edit for edit in EDITS}}
 
     def answer(self, line):
         if not line.strip():
@@ -158,7 +158,7 @@ class Monitor:
     def searched(self, seen):
         """Where pointers are looked for: what is loaded, the blocks of the heap, and the stack."""
         ranges = [(begin + 3 & ~3, end) for begin, end in self.elf.loaded]
-        ranges += [(it.start, it.start + it.size) for it in self.live_blocks()]
+        ranges += [(block.start, block.start + block.size) for block in self.live_blocks()]
         sp = seen.values[2] & ~3
         begin, end = self.run.regions.stack
         return ranges + ([(sp, min(end, sp + MOST))] if begin <= sp < end else [])
@@ -166,7 +166,7 @@ class Monitor:
     def block_list(self, word, *words):
         taken(words, 0, 0, word)
         blocks = self.live_blocks()
-        rows = [f"0x{it.start:08x} {it.size} from {' '.join(f'0x{place:08x}' for place in it.trace)}\n" for it in blocks]
+        rows = [f"0x{block.start:08x} {block.size} from {' '.join(f'0x{place:08x}' for place in block.trace)}\n" for block in blocks]
         return "".join(rows) + f"{len(blocks)} blocks\n"
 
     def backtrace(self, word, *words):
@@ -174,7 +174,7 @@ class Monitor:
         return "".join(f"#{index:<2} {self.elf.where(address)}\n" for index, address in enumerate(self.run.stack()))
 
     def live_blocks(self):
-        return [it for it in self.run.blocks() if it.is_live]
+        return [block for block in self.run.blocks() if block.is_live]
 
     def make_memory(self, word, *words):
         if not words or words[0].lower() not in KINDS:
@@ -204,7 +204,7 @@ class Monitor:
         """What stands."""
         taken(words, 0, 0, word)
         listed, others = self.alterer.standing()
-        rows = [*(f"   {it}" for it in others), *(f"{index}: {it}" for index, it in enumerate(listed))]
+        rows = [*(f"   {other}" for other in others), *(f"{index}: {it}" for index, it in enumerate(listed))]
         return "\n".join(rows or ["no edits"]) + "\n"
 
     def unmark(self, word, *words):
@@ -218,7 +218,7 @@ class Monitor:
         if not first <= last < standing:
             raise Fault(f"{words[0]}: there are {standing}; see monitor changes")
         replies = [self.run.edit(f"{word} {index}") for index in reversed(range(first, last + 1))]
-        return next((it for it in replies if it != "ok"), "ok") + "\n" + self.where()
+        return next((reply for reply in replies if reply != "ok"), "ok") + "\n" + self.where()
 
     def span(self, word, words):
         """The range that the words of a line have: ADDR [LEN]."""

@@ -97,4 +97,4 @@ def numbers(text, count):
     words = text.split(",")
     if len(words) != count or not all(map(DIGITS.fullmatch, words)):
         raise Misread
-    return [int(it, 16) for it in words]
+    return [int(word, 16) for word in words]

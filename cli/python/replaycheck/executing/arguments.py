@@ -31,7 +31,7 @@ def room_of(path, arguments):
     except (struct.error, IndexError):
         room = None
     if room is None:
-        hint = "; options of `exec` come before FILE" if any(it.startswith("-") for it in arguments) else ""
+        hint = "; options of `exec` come before FILE" if any(argument.startswith("-") for argument in arguments) else ""
         raise NoRoom(f"arguments refused: {path}: it has no room {ROOM}, which start.S has with -DARGUMENTS{hint}")
     return room
 

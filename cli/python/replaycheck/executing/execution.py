@@ -121,7 +121,7 @@ def certificate(choices, report):
     lines += ["patch {} {}".format(*patch.split("=")) for patch in all_patches(choices)]
     lines += [f"goto {min(report.step, LAST_STEP)}", "look certify"]
     given = isa_words(choices.isa) + choices.regions.words + (["--input", path_of(choices.input)] if choices.input is not None else [])
-    _, told, _ = outcome([program(), "look", *given, path_of(choices.file)], "".join(f"{it}\n" for it in lines).encode())
+    _, told, _ = outcome([program(), "look", *given, path_of(choices.file)], "".join(f"{line}\n" for line in lines).encode())
     return "certify: " + told.decode("utf-8", "surrogateescape").rstrip("\n").rpartition("\n")[2]
 
 

@@ -34,14 +34,14 @@ class Instructions:
             if pair:
                 pairs.setdefault(int(pair[1]), set()).add(int(pair[2]))
         self.learn_runs([(None, steps), *sorted(pairs.items())])
-        self.lines.learn([f"0x{it:08x}" for it in self.addresses.values() if it is not None])
+        self.lines.learn([f"0x{address:08x}" for address in self.addresses.values() if address is not None])
 
     def learn_runs(self, runs: Iterable[Tuple[Optional[int], Set[int]]]) -> None:
         """Looks at steps of the unedited run, which is that without a skip, and of runs with a skip, that weren't looked at before."""
         session, runs = None, list(runs)
         limit = limit_for(max((max(steps, default=0) for _, steps in runs), default=0))
         for skipped, steps in runs:
-            new = sorted(it for it in steps if (it, skipped) not in self.addresses)
+            new = sorted(step for step in steps if (step, skipped) not in self.addresses)
             for begin in range(0, len(new), AT_ONCE):
                 if session is None or self.asked > MOST_LINES:
                     session = self.opened(session, limit)
@@ -54,16 +54,16 @@ class Instructions:
         if before is not None:
             before.end()
         self.asked = 0
-        program, given, supp = (it.path or None for it in self.request.files)
+        program, given, supp = (file.path or None for file in self.request.files)
         return Session(program, given, supp, command="look", isa=self.request.isa, regions=self.request.regions, limit=limit)
 
     def look(self, session: Session, skipped: Optional[int], steps: List[int]) -> None:
         """Looks at steps, by lines that go together into a pipe. Of a program that doesn't have skips nothing is learnt."""
         self.asked += len(steps) + 2
         if skipped is not None and session.ask(f"skip {skipped}") != ["ok"]:
-            self.addresses.update(((it, skipped), None) for it in steps)
+            self.addresses.update(((step, skipped), None) for step in steps)
             return
-        session.send([line for it in steps for line in (f"goto {it}", "look registers")])
+        session.send([line for step in steps for line in (f"goto {step}", "look registers")])
         for it in steps:
             session.reply()
             state = session.reply("look registers")[0].split(" ")
@@ -75,7 +75,7 @@ class Instructions:
         """The pc of the unedited run at steps."""
         steps = list(steps)
         self.learn_runs([(None, set(steps))])
-        return [self.addresses[it, None] for it in steps]
+        return [self.addresses[step, None] for step in steps]
 
     def address(self, step: int, skipped: Optional[int] = None) -> Optional[int]:
         """The pc at a step that was learnt."""
@@ -95,7 +95,7 @@ class Instructions:
     def text(self, address: int) -> Optional[str]:
         """The text of an instruction; those of all that are known are asked for together."""
         if address not in self.texts:
-            new = {address, *(it for it in self.addresses.values() if it is not None)} - self.texts.keys()
+            new = {address, *(address for address in self.addresses.values() if address is not None)} - self.texts.keys()
             self.texts.update(dict.fromkeys(new))
             self.texts.update(texts_at(self.request.program.path, new) if self.request.program.path else {})
         return self.texts[address]

@@ -150,9 +150,9 @@ def tables_made(options, request, room, executed):
         runner = remote.Remote(program(), request, folder, count, options.jobs)
         runner.logins = options.sshlogin
     found = kept.parts(runner) if kept else {}
-    missing = [it for it in parts if it not in found]
+    missing = [part for part in parts if part not in found]
     made = runner.run(missing, Progress(request.edits() * len(missing) // count)) if missing else []
-    sources = [found[it] for it in parts if it in found] + made
+    sources = [found[part] for part in parts if part in found] + made
     if options.sample is None:
         return in_order(sources), []
     note = (f"a sample: {len(parts)} of {count} parts of the sweep, by random.Random({options.seed or 0}).sample; what "

@@ -55,7 +55,7 @@ def fault_of(edit: Edit, fault: Fault, option: str) -> Fault:
 
 def opened(request, step: int) -> Session:
     """A session on the files of a request that goes up to a step."""
-    program, given, supp = (it.path or None for it in request.files)
+    program, given, supp = (file.path or None for file in request.files)
     return Session(program, given, supp, command="look", isa=request.isa, regions=request.regions, limit=limit_for(step))
 
 
@@ -111,7 +111,7 @@ class Looker:
             self.open()
         edit, stands = asked.edit, self.stands
         lines = [*([] if edit.place and edit.place == stands.place else stands.back), *edit.lines]
-        told = [*((it, None) for it in lines), *looks]
+        told = [*((line, None) for line in lines), *looks]
         self.waiting.extend((asked, *it) for it in told)
         self.unsent += "".join(f"{line}\n" for line, _ in told).encode("ascii")
         self.lines += sum(not it.startswith("look ") for it, _ in told)

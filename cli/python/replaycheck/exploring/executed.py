@@ -157,7 +157,7 @@ class Executed:
         """The addresses that were executed, in order, with what was done there. An edit of code, or of the machine, may execute what is no
         instruction of the program: from within one on, or data. That has no line."""
         found = self.sides.all()
-        known = {it.address for it in self.code.instructions(list(found))}
+        known = {instruction.address for instruction in self.code.instructions(list(found))}
         for address, side in self.altered.all().items():
             if address in known:
                 found[address] = found.get(address, 0) | side
@@ -197,8 +197,8 @@ def check_lines(path, code: Code, places: Places):
 
 def told(covered: Covered) -> str:
     """A line that says how many lines are executed, and which aren't, of the files that have the most."""
-    counts = [(len(it.lines) - len(it.unexecuted), it) for it in covered.files]
-    named = sorted((it for it in counts if it[0]), key=lambda it: (-it[0], it[1].name))[:MOST_FILES]
+    counts = [(len(file.lines) - len(file.unexecuted), file) for file in covered.files]
+    named = sorted((count for count in counts if count[0]), key=lambda it: (-it[0], it[1].name))[:MOST_FILES]
     texts = [f"{count} of {len(it.lines)}{'' if at else ' lines'} of {lcov.plain(os.path.basename(it.name))}"
              + (f" (never {spans(it)})" if it.unexecuted else "") for at, (count, it) in enumerate(named)]
     more = len(counts) - len(named)

@@ -41,7 +41,7 @@ class Goal:
         """The edits, a line each; with the instructions of those that alter the machine at a step."""
         self.file.seek(0)
         lines = self.file.read().splitlines()
-        instructions.learn(it for it in lines if it.startswith(AT_STEPS))
+        instructions.learn(line for line in lines if line.startswith(AT_STEPS))
         for it in lines:
             told = "; ".join(where for _, where in instructions.told(it)) if it.startswith(AT_STEPS) else ""
             yield f"{it}: {told}\n" if told else f"{it}\n"

@@ -129,7 +129,7 @@ def read_range(lines, kind, pattern, limit, most, form=Range):
     if not lines.next.startswith(kind.encode() + b" "):
         return None
     found = lines.must(pattern, f"`{kind} A..B VALUES`")
-    first, last = (at_most(lines, it, limit, "a place") for it in found.groups()[:2])
+    first, last = (at_most(lines, group, limit, "a place") for group in found.groups()[:2])
     if first > last:
         lines.fault("a range that ends before it begins")
     return form(kind, first, last, values_of(lines, found[3], most))
@@ -213,8 +213,8 @@ def read_steps(lines, version, limit, isa, regions):
         return None
     must_be_second(lines, version)
     found = lines.must(STEPS, "`steps A..B MODELS`")
-    first, last = (at_most(lines, it, limit, "a step") for it in found.groups()[:2])
-    code = tuple(int(it, 16) for it in found.groups()[3:5]) if found[4] else None
+    first, last = (at_most(lines, group, limit, "a step") for group in found.groups()[:2])
+    code = tuple(int(group, 16) for group in found.groups()[3:5]) if found[4] else None
     if first > last or code and code[0] > code[1]:
         lines.fault("a range that ends before it begins")
     models = found[3].decode()
@@ -265,7 +265,7 @@ def read_head(lines):
     has_output = lines.must(OUTPUT, "`output yes` or `output no`")[1] == b"yes"
     before = tuple(taken)
     part = lines.must(PART, "`part I/N`")
-    index, count = (at_most(lines, it, MOST_PARTS, "a part") for it in part.groups())
+    index, count = (at_most(lines, group, MOST_PARTS, "a part") for group in part.groups())
     if not 1 <= index <= count:
         lines.fault("no part")
     if not any(ranges):

@@ -116,7 +116,7 @@ def in_order(sources, sample: Optional[Tuple[List[int], int]] = None):
 
 def check_numbers(sources):
     """Parts of one cut are there each once. Where the places of the sweep aren't counted, there may be no other cut."""
-    counts = {it.head.part[1] for it in sources}
+    counts = {source.head.part[1] for source in sources}
     if len(counts) > 1:
         if not sources[0].head.is_counted:
             cuts = " and ".join(map(str, sorted(counts)))
@@ -136,7 +136,7 @@ def check_numbers(sources):
 
 def expected(sources, parts):
     """The tables, which must be those of these parts, each once."""
-    came = [it.head.part for it in sources]
+    came = [source.head.part for source in sources]
     if came != parts:
         wrong = sorted(set(parts) ^ set(came)) or came
         raise BadTable(f"not the parts of the sample: part {wrong[0][0]}/{wrong[0][1]}")

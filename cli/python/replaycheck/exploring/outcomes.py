@@ -40,7 +40,7 @@ class Outcome:
         starts = [i for i in range(begin, len(self.lines)) if not self.lines[i].startswith("   ")]
         for start, end in zip(starts, [*starts[1:], len(self.lines)]):
             part = part_of(self.lines[start], self.lines[start + 1:end])
-            if part.text not in {it.text for it in self.parts}:
+            if part.text not in {part.text for part in self.parts}:
                 self.parts.append(part)
 
     @property
@@ -60,7 +60,7 @@ class Outcome:
 
     def news(self, unedited):
         """The errors, leaks and stops that the unedited run has not, the worst first."""
-        had = {it.text for it in unedited.parts} | {unedited.state}
+        had = {part.text for part in unedited.parts} | {unedited.state}
         address = self.state.partition(" 0x")[2]
         stop = Part(self.state, address and f"0x{address}")
         found = [it for it in [stop, *self.parts] if it.badness and it.text not in had]

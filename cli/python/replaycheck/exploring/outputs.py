@@ -120,7 +120,7 @@ def check_outputs(options):
     """Rejects an output that would overwrite a file that is read, or the other output."""
     read = [("the program", options.file), ("the input", options.input), ("the suppressions", options.supp)]
     read = [(what, path) for what, path in read if path is not None]
-    read += [("a table that is read", it) for it in options.tables]
+    read += [("a table that is read", table) for table in options.tables]
     asked = [(f"--{name}", path) for name in OUTPUTS if (path := getattr(options, name)) not in (None, "-")]
     for option, path in asked:
         for what, other in read:

@@ -71,12 +71,12 @@ class Panel:
             return [0] * len(place.values)
         if not isinstance(values, str):
             listed = {value: row for row, value in enumerate(values)}
-            return [listed[it] for it in place.values]
+            return [listed[value] for value in place.values]
         was = value_before(place)
         if values == "flips":
-            return [(it ^ was).bit_length() - 1 for it in place.values]
+            return [(value ^ was).bit_length() - 1 for value in place.values]
         named = {value: row for row, value in reversed(list(enumerate((*EDGES, (was + 1) % 256, (was - 1) % 256))))}
-        return [named[it] for it in place.values]
+        return [named[value] for value in place.values]
 
     def row_names(self):
         """Rows that have a name, each with it."""
@@ -130,7 +130,7 @@ class Panel:
 
 def panels_of(head, sources):
     """A panel for each range of bytes or words of a sweep."""
-    intervals = [it.head.interval for it in sources]
+    intervals = [source.head.interval for source in sources]
     if None in intervals:  # the parts of a whole, which aren't counted
         intervals = [(0, head.places)]
     begin, found = 0, []

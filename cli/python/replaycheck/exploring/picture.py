@@ -43,7 +43,7 @@ class Picture:
         if place.range.kind == "steps":
             self.steps.add(place, self.rank)
         else:
-            next(it for it in self.panels if it.range == place.range).add(place, self.rank)
+            next(panel for panel in self.panels if panel.range == place.range).add(place, self.rank)
 
     def rank(self, number):
         """How bad an outcome is; one that reaches the goal is the worst."""
@@ -106,15 +106,15 @@ class Picture:
             body += steps.body(below)
             below += sum(map(steps.height, steps.grids))
         legend = list(self.kind_legend(below))
-        wide = [LEFT + it.wide * it.bins + 20 for it in self.panels]
+        wide = [LEFT + panel.wide * panel.bins + 20 for panel in self.panels]
         width = max([NARROWEST if steps else NARROWEST_OF_PANELS, *wide, *(map(steps.width, steps.grids) if steps else ())])
         height = below + LEGEND_LINE * (len(legend) + 1)
         ranges = "; ".join(map(str, self.merged.head.ranges))
         asked = f"{self.merged.edits} edits, {ranges}, step {self.merged.head.step}"
         title = xml(f"{summary.title}: {asked}", 300 if steps else 140)
         shown_title = xml(summary.title, 140) if steps else title
-        shared = [f"{it.count} places share {it.bins} columns, and the worst is seen" for it in self.panels
-                  if it.bins < it.count]
+        shared = [f"{panel.count} places share {panel.bins} columns, and the worst is seen" for panel in self.panels
+                  if panel.bins < panel.count]
         own = ["a column for each place, a row for each value, the value as it was left out"] if self.panels else []
         notes = [*own, *shared, *(steps.notes if steps else ()), *summary.notes]
         note = xml("; ".join(notes), 200)
@@ -196,13 +196,13 @@ class Picture:
         texts = {name: text for name, _, text in KINDS} if self.steps else {name: what for name, (_, what, _) in BY_KIND.items()}
         if self.goal:
             texts["g"] += f": a line that begins with {self.goal.shown}"
-        there = [it for it in texts if it in self.kinds.values()]
+        there = [text for text in texts if text in self.kinds.values()]
         for index, name in enumerate(there):
             y = top + LEGEND_LINE * (index + 1)
-            numbers = [it for it in self.kinds if self.kinds[it] == name]
-            edits = sum(self.merged.tallies[it] for it in numbers)
+            numbers = [kind for kind in self.kinds if self.kinds[kind] == name]
+            edits = sum(self.merged.tallies[number] for number in numbers)
             style = "ink b" if name[0] in "gn" else "ink"
-            told = "; ".join(f"{it}: {self.told(it)}" for it in numbers)
+            told = "; ".join(f"{number}: {self.told(number)}" for number in numbers)
             text = texts[name]
             if not self.steps and name[0] == "n":
                 text, told = self.first_of(numbers), f"{text}: {told}"

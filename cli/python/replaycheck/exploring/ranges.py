@@ -132,7 +132,7 @@ class Range(Places):
     def __str__(self) -> str:
         values = self.values
         if not isinstance(values, str):
-            values = ",".join(self.named(it) for it in values)
+            values = ",".join(self.named(value) for value in values)
         return f"{self.kind} {self.named(self.first)}..{self.named(self.last)}, values {values}"
 
     def words(self) -> List[str]:
@@ -166,7 +166,7 @@ class Loaded:
 def loaded(elf: Elf) -> Iterator[Tuple[int, bytearray]]:
     """What a file loads, in order: where memory begins whose bytes come one after another, and its bytes."""
     begin, content = 0, bytearray()
-    for it in sorted((it for it in elf.loads if it.memsz), key=lambda it: it.vaddr):
+    for it in sorted((load for load in elf.loads if load.memsz), key=lambda it: it.vaddr):
         in_file = elf.data[it.offset:it.offset + it.filesz]
         for low, high in elf.regions.loaded(it):
             if content and low != begin + len(content):

@@ -58,7 +58,7 @@ class Remote(Runner):
         for path, given, option in zip(files, self.request.files, (None, "--input", "--supp")):
             with open(path, "wb") as file:
                 file.write(given.content)
-            words = [f"{option}={path}" if option and it.startswith(f"{option}=") else it for it in words]
+            words = [f"{option}={path}" if option and word.startswith(f"{option}=") else word for word in words]
         words[-1] = files[0]
         script = os.path.join(room, "part.sh")
         with open(script, "w", encoding="utf-8", errors="surrogateescape") as file:
@@ -67,7 +67,7 @@ class Remote(Runner):
         jobs = ["--jobs", str(self.jobs)] if self.jobs else []
         copies = [word for it in (*files, script) for word in ("--basefile", it)]
         with open(os.path.join(room, "said"), "wb") as said, open(os.path.join(room, "parts"), "w+b") as numbers:
-            numbers.write("".join(f"{it}\n" for it in parts).encode())
+            numbers.write("".join(f"{part}\n" for part in parts).encode())
             numbers.seek(0)
             environment = {**os.environ, "TMPDIR": room}
             for name in ("PARALLEL", "POSIXLY_CORRECT"):

@@ -214,8 +214,8 @@ class Request:
             return range_of(name)
         if self.elf is None:
             raise Fault(f"--code {shown_name(name)}: {shown_name(self.program.name)} has no functions that can be read")
-        found = {(it.value, self.elf.extent(it)) for it in self.elf.functions
-                 if self.elf.name(it) == name and self.elf.extent(it) >= self.unit}
+        found = {(function.value, self.elf.extent(function)) for function in self.elf.functions
+                 if self.elf.name(function) == name and self.elf.extent(function) >= self.unit}
         if not found:
             raise Fault(f"--code {shown_name(name)}: no such function")
         if len(found) > 1:
@@ -280,7 +280,7 @@ class Request:
         if source.head.regions != self.regions:
             its, own = source.head.regions, self.regions
             raise Fault(f"{source}: it is of {told_places(its, own)}, not of {told_places(own, its)}")
-        for given_file, was, now in zip(self.files, (it.digest for it in self.files), source.head.files):
+        for given_file, was, now in zip(self.files, (file.digest for file in self.files), source.head.files):
             if was != now:
                 named = shown_name(given_file.name) or "a file that wasn't given"
                 raise Fault(f"{source}: it has another {named}, {now[0]} bytes with the digest {now[1][:16]}.., not "
@@ -327,6 +327,6 @@ class Request:
         return all(it.kind == "bytes" for it in self.ranges)
 
     def title(self):
-        words = [os.path.basename(it.name) or it.name for it in self.files[:2] if it.name]
+        words = [os.path.basename(file.name) or file.name for file in self.files[:2] if file.name]
         code = f", {shown_name(self.code)}" if self.code else ""
         return shown_name(" with ".join(words)) + told_isa(self.isa) + told_regions(self.regions) + code

@@ -16,7 +16,7 @@ AGAIN = 2  # so often a part is tried
 PATIENCE = 1  # seconds after which a wait for parts is interrupted for a look at signals
 REFUSED = (2, 3)  # the statuses with which the program says that it will never do it
 MOST_SAID = 1 << 16
-EDITS = tuple(b"\n" + it for it in tables.EDITS)  # how rows begin
+EDITS = tuple(b"\n" + edit for edit in tables.EDITS)  # how rows begin
 
 
 def edits_in(content):

@@ -33,7 +33,7 @@ def slurm(options, request):
     files = [f"--input={options.input}"] if options.input is not None else []
     files += [f"--supp={options.supp}"] if options.supp is not None else []
     words = request.words()
-    own = [it for it in words[:-1] if not it.startswith(("--input=", "--supp="))]
+    own = [word for word in words[:-1] if not word.startswith(("--input=", "--supp="))]
     told = ["replaycheck", "explore", options.file, *files, *isa_words(request.isa), *request.regions.words]
     note = f"# {request.step_note}\n" if request.step_note else ""
     return SLURM.format(parts=count, folder=shlex.quote(folder), words=shlex.join([*own, *files, words[-1]]), note=note,

@@ -225,7 +225,7 @@ class Skips(OverSteps):
     def row_names(self):
         if not self.is_known:
             return [(0, "left out")]
-        return self.every([f"0x{it:08x}" for it in self.addresses], self.of_rows, self.rows, self.tall, 12)
+        return self.every([f"0x{address:08x}" for address in self.addresses], self.of_rows, self.rows, self.tall, 12)
 
     def texts(self, instructions):
         """The instruction of each row, or where there isn't room for each the functions, the longest first."""

@@ -48,7 +48,7 @@ class Steps(Places):
     def models(self):
         """The models in their order."""
         given = self.values.split(",")
-        return [it for it in MODELS if it in given]
+        return [model for model in MODELS if model in given]
 
     @property
     def has_memory(self):
@@ -58,7 +58,7 @@ class Steps(Places):
         """Whether one of its edits is in the way of a clean run's guarantee. At each step a model has edits of the same form."""
         edits = chain(self.singles(self.first, "0x00000000", BITS), byte_edits(self.first, 0) if self.has_memory else (),
                       [f"skip {self.first}; skip {self.last}"] if self.has_pairs else ())
-        return any(hinders(it, isa, heap) for it in edits)
+        return any(hinders(edit, isa, heap) for edit in edits)
 
     @property
     def start(self):
@@ -71,7 +71,7 @@ class Steps(Places):
     @property
     def single(self):
         """How many edits a place has at most, without those of memory and without pairs."""
-        return sum(SIZES.get(it, 0) for it in self.models)
+        return sum(SIZES.get(model, 0) for model in self.models)
 
     @property
     def most(self):
@@ -141,7 +141,7 @@ class Steps(Places):
 
 def instruction_of(edits: List[str]) -> Tuple[Optional[str], int]:
     """The address of the instruction that edits of a step invert, if there are some, and the number of its bits."""
-    turned = [it[1] for it in map(TURNED.match, edits) if it]
+    turned = [edit[1] for edit in map(TURNED.match, edits) if edit]
     return (turned[0], len(turned)) if turned else (None, 0)
 
 
@@ -174,13 +174,13 @@ def edits_of(model: str, step: int, address: Optional[str], bits: int = BITS) ->
     if model == "skip":
         yield f"skip {step}"
     elif model == "registers":
-        yield from (f"flip {step} {it} {mask}" for it in REGISTERS for mask in MASKS)
+        yield from (f"flip {step} {register} {mask}" for register in REGISTERS for mask in MASKS)
     elif model == "pc":
         yield from (f"flip {step} pc {mask}" for mask in MASKS)
     elif model == "words" and address:
         yield from (f"flip {step} {address} {mask}; flip {step + 1} {address} {mask}" for mask in MASKS[:bits])
     elif model in ("zero", "ones"):
-        yield from (f"set {step} {it} 0x{0 if model == 'zero' else ONES:08x}" for it in REGISTERS)
+        yield from (f"set {step} {register} 0x{0 if model == 'zero' else ONES:08x}" for register in REGISTERS)
 
 
 def steps_in(edit: str) -> List[int]:
@@ -191,7 +191,7 @@ def steps_in(edit: str) -> List[int]:
 def models_fault(text: str) -> str:
     """Why a text names no models, or nothing."""
     names = text.split(",")
-    unknown = next((it for it in names if it not in MODELS), None)
+    unknown = next((name for name in names if name not in MODELS), None)
     if unknown is not None:
         return f"an unknown fault model: {unknown!r}; there are {', '.join(MODELS)}"
     return "a fault model twice" if len(set(names)) < len(names) else ""

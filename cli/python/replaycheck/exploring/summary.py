@@ -60,12 +60,12 @@ class Summary:
         self.notes, self.step_note = notes, step_note
         self.outcomes = [Outcome(number, text) for number, text in enumerate(merged.outcomes)]
         self.unedited = self.outcomes[0]
-        self.news = [it.news(self.unedited) for it in self.outcomes]
+        self.news = [outcome.news(self.unedited) for outcome in self.outcomes]
         self.order = [0, *sorted(range(1, len(self.outcomes)), key=self.weight)]
         # How wide the column of first edits is.
         has_two = any("; " in str(value) for _, _, value, _ in merged.firsts.values())
         self.width = min(WIDE if has_two else WIDTHS[1], max(WIDTHS[0], *(len(self.first(it)) for it in self.order)))
-        sources.learn([part.address for it in self.outcomes for part in it.parts] + [
+        sources.learn([part.address for outcome in self.outcomes for part in outcome.parts] + [
             f"0x{at:08x}" for it, at, *_ in merged.firsts.values() if it.kind == "words"])
         if instructions:
             instructions.learn(value for it, _, value, _ in merged.firsts.values() if it.kind == "steps")
@@ -113,7 +113,7 @@ class Summary:
     def clean_lines(self):
         """How many runs have no error: with no suppressions an outline lists each, so these are runs without a use of undefined or
         inaccessible memory. What that means for them is said unless an edit of the sweep is in the way of it."""
-        edits, head = sum(self.merged.tallies[it.number] for it in self.outcomes if not it.has_errors), self.merged.head
+        edits, head = sum(self.merged.tallies[outcome.number] for outcome in self.outcomes if not outcome.has_errors), self.merged.head
         if edits and not head.files[SUPPRESSIONS][0]:
             too = "" if self.unedited.has_errors else " and the unedited run"
             is_hindered = any(it.kind == "steps" and it.hinders(head.isa, head.regions.heap) for it in head.ranges)
@@ -132,7 +132,7 @@ class Summary:
         return self.edit(number) + (f", was {before} ({byte_told(before)})" if before is not None else "")
 
     def outcome_lines(self, number):
-        outcome, had = self.outcomes[number], {it.text for it in self.unedited.parts}
+        outcome, had = self.outcomes[number], {part.text for part in self.unedited.parts}
         yield f"   {self.merged.tallies[number]:8}  {self.first(number):<{self.width}} {number}: {outcome.told}"
         if not number:
             return
@@ -145,12 +145,12 @@ class Summary:
         for part in outcome.parts:
             yield f"{INDENT}{'  ' if part.text in had else '+ '}{self.sources.told(part)}"
         for part in self.unedited.parts:
-            if part.text not in {it.text for it in outcome.parts}:
+            if part.text not in {part.text for part in outcome.parts}:
                 yield f"{INDENT}- {self.sources.told(part)}"
 
     def running_lines(self):
         """The number of edits that still run at the step of the sweep."""
-        edits = sum(self.merged.tallies[it.number] for it in self.outcomes if it.is_running)
+        edits = sum(self.merged.tallies[outcome.number] for outcome in self.outcomes if outcome.is_running)
         who = ["the unedited run"] * self.unedited.is_running + [counted(edits, "edit")] * bool(edits)
         if who:
             yield still_running(self.merged.head.step, " and ".join(who))

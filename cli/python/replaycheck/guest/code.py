@@ -58,18 +58,18 @@ class Code:
     def resyncs(self) -> List[int]:
         """Where an instruction begins as a symbol says: a function, a label or a mapping symbol."""
         return sorted({it.value for it in [*self.elf.functions, *self.elf.labels] if not it.value % self.unit}
-                      | {it.value for it in self.elf.symbols if self.elf.name(it).startswith(CODE)})
+                      | {symbol.value for symbol in self.elf.symbols if self.elf.name(symbol).startswith(CODE)})
 
     def data(self) -> List[List[int]]:
         """The ranges that mapping symbols call data."""
-        marks = sorted({(it.value, self.elf.name(it)[:2]) for it in self.elf.symbols if self.elf.name(it)[:2] in (CODE, DATA)})
+        marks = sorted({(symbol.value, self.elf.name(symbol)[:2]) for symbol in self.elf.symbols if self.elf.name(symbol)[:2] in (CODE, DATA)})
         ends = [value for value, _ in marks[1:]] + [1 << 32]
         return joined([value, end] for (value, name), end in zip(marks, ends) if name == DATA)
 
     def gaps(self) -> List[List[int]]:
         """What follows a function of known size, up to the next symbol in code: the bytes that align it."""
-        known = sorted({it.value + it.size for it in self.elf.functions if it.size})
-        inside = joined([it.value, it.value + it.size] for it in self.elf.functions if it.size)
+        known = sorted({function.value + function.size for function in self.elf.functions if function.size})
+        inside = joined([function.value, function.value + function.size] for function in self.elf.functions if function.size)
         found = ([end, self.starts[at] if (at := bisect.bisect_left(self.starts, end)) < len(self.starts) else 1 << 32] for end in known)
         return without(joined(found), inside)
 
@@ -105,7 +105,7 @@ class Code:
 
 def ranges_of_code(elf, unit, stubs) -> List[List[int]]:
     """The ranges of a file's code, each from and to a multiple of a unit."""
-    found = joined([it.addr, it.addr + it.size] for it in elf.sections if it.flags & HAS_CODE)
+    found = joined([section.addr, section.addr + section.size] for section in elf.sections if section.flags & HAS_CODE)
     if not elf.sections:
         found = joined([it.vaddr, it.vaddr + it.filesz] for it in elf.contents if it.flags & EXECUTABLE)
     outside = without(found, joined([it.vaddr, it.vaddr + it.filesz] for it in elf.contents))

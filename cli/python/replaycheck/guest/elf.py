@@ -46,13 +46,13 @@ class Elf:
         self.segments = self.table(Segment, "<8I", PROGRAM_TABLE, PROGRAM_COUNT, PROGRAM_HEADER)
         has_sections = word_at(data, SECTION_TABLE) and half_at(data, 48)
         self.sections = self.table(Section, "<10I", SECTION_TABLE, 48, SECTION_HEADER) if has_sections else []
-        self.loads = [it for it in self.segments if it.kind == LOAD and (it.memsz or it.filesz)]
+        self.loads = [segment for segment in self.segments if segment.kind == LOAD and (segment.memsz or segment.filesz)]
         self.symbol_table = next((i for i, it in enumerate(self.sections) if it.kind == SYMBOLS), None)
 
     @functools.cached_property
     def loaded(self):
         """The ranges that are loaded, in the order of the segments."""
-        return [part for it in self.loads for part in self.regions.loaded(it)]
+        return [part for load in self.loads for part in self.regions.loaded(load)]
 
     def table(self, form, layout, place, count, size):
         at = word_at(self.data, place)
@@ -63,7 +63,7 @@ class Elf:
         at = half_at(self.data, SECTION_NAMES)
         table, wanted = self.sections[at] if at < len(self.sections) else None, name.encode() + b"\0"
         names = self.data[table.offset:table.offset + table.size] if table else b""
-        return next((it for it in self.sections if names.startswith(wanted, it.name)), None)
+        return next((section for section in self.sections if names.startswith(wanted, section.name)), None)
 
     @functools.cached_property
     def strings(self):
@@ -93,20 +93,20 @@ class Elf:
     def named(self, symbols, name):
         """Those of some symbols that have this name. A name may be the end of a longer text."""
         wanted = name.encode() + b"\0"
-        return [it for it in symbols if self.strings.startswith(wanted, it.name)]
+        return [symbol for symbol in symbols if self.strings.startswith(wanted, symbol.name)]
 
     @functools.cached_property
     def labels(self):
         """Symbols in code that are neither functions nor objects: what an assembler's file has where it names no
         type."""
         code = {i for i, it in enumerate(self.sections) if it.flags & HAS_CODE}
-        return [it for it in self.symbols if it.info & 15 == NO_TYPE and it.section in code
-                and self.name(it)[:1] not in ("$", ".", "")]
+        return [symbol for symbol in self.symbols if symbol.info & 15 == NO_TYPE and symbol.section in code
+                and self.name(symbol)[:1] not in ("$", ".", "")]
 
     @functools.cached_property
     def contents(self):
         """The segments that have bytes in the file, by address."""
-        return sorted((it for it in self.loads if it.filesz), key=lambda it: it.vaddr)
+        return sorted((load for load in self.loads if load.filesz), key=lambda it: it.vaddr)
 
     @functools.cached_property
     def content_starts(self):
@@ -238,8 +238,8 @@ def bad_symbols(elf):
 
 def meeting(elf):
     """Refusals by where segments lie: each that meets a region, and the first two that meet."""
-    segments = sorted((it for it in elf.loads if it.memsz), key=lambda it: (it.vaddr, it.memsz))
-    ranges = [(it.vaddr, it.vaddr + it.memsz) for it in segments]
+    segments = sorted((load for load in elf.loads if load.memsz), key=lambda it: (it.vaddr, it.memsz))
+    ranges = [(segment.vaddr, segment.vaddr + segment.memsz) for segment in segments]
     for it, (start, end) in zip(segments, ranges):
         for name, low, high in elf.regions.ranges:
             if name in elf.regions.met(it):
@@ -280,9 +280,9 @@ def refusals(data, regions=USUAL_REGIONS):
     if fault:
         return found + [fault]
     elf = Elf(data, regions)
-    if any(it.kind == INTERPRETER for it in elf.segments):
+    if any(segment.kind == INTERPRETER for segment in elf.segments):
         found.append(Refusal(27, "a dynamic linker that is to load it", "link with -static -no-pie", True))
-    if any(is_bad(data, it) for it in elf.loads):
+    if any(is_bad(data, load) for load in elf.loads):
         return found + [Refusal(28, "a segment that isn't within the file", "the file is cut or damaged: link it again",
                                 False)]
     found += [*meeting(elf), *too_large(elf)]

@@ -42,7 +42,7 @@ def read(data, place, room, unit) -> Optional[Tuple[int, int]]:
 
 
 def in_bytes(*words) -> bytes:
-    return b"".join(it.to_bytes(4, "little") for it in words)
+    return b"".join(word.to_bytes(4, "little") for word in words)
 
 
 def half_in_bytes(half) -> bytes:

@@ -73,7 +73,7 @@ class Regions:
         """The ranges that a segment loads: nothing where it has the stack's region inside."""
         begin, end = segment.vaddr, segment.vaddr + segment.memsz
         parts = [(begin, self.stack[0]), (self.stack[1], end)] if self.is_inside(segment) else [(begin, end)]
-        return [it for it in parts if it[0] < it[1]]
+        return [part for part in parts if part[0] < part[1]]
 
     def met(self, segment):
         """The names of the regions that a segment may not meet, and does."""

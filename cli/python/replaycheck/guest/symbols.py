@@ -37,7 +37,7 @@ class Symbols:
     def places(self) -> dict[bytes, int]:
         """The address of each name; of names that are there twice, that of the first in the table."""
         try:
-            found = [(self.name(it), it.value) for it in self.elf.symbols]
+            found = [(self.name(symbol), symbol.value) for symbol in self.elf.symbols]
         except (IndexError, struct.error):  # a table that no part of a report needs
             found = []
         return {name: value for name, value in reversed(found) if name and not name.startswith(MAPPING)}
@@ -45,7 +45,7 @@ class Symbols:
     @functools.cached_property
     def functions(self) -> Places:
         try:
-            return Places([it for it in self.elf.functions if self.name(it)])
+            return Places([function for function in self.elf.functions if self.name(function)])
         except (IndexError, struct.error):
             return Places([])
 
@@ -57,7 +57,7 @@ class Symbols:
         `Usage` if the file doesn't have it."""
         known = name.encode("utf-8", "surrogateescape")
         if known not in self.places:
-            like = difflib.get_close_matches(name, [it.decode("utf-8", "surrogateescape") for it in self.places], 1)
+            like = difflib.get_close_matches(name, [place.decode("utf-8", "surrogateescape") for place in self.places], 1)
             raise Usage(f"{self.file}: no symbol {name}" + (f": did you mean {like[0]}?" if like else ""))
         return Address(self.places[known])
 

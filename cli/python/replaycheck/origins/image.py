@@ -27,8 +27,8 @@ class Image:
         if any(not it.readable for it in refusals(data, regions)):
             raise Fault(f"{path}: it has changed since the program read it")
         self.elf = Elf(data, regions)
-        self.heap = {it.value: self.elf.name(it) for it in reversed(self.elf.symbols)
-                     if it.info & 15 == FUNCTION and self.elf.name(it) in HEAP_FUNCTIONS}
+        self.heap = {symbol.value: self.elf.name(symbol) for symbol in reversed(self.elf.symbols)
+                     if symbol.info & 15 == FUNCTION and self.elf.name(symbol) in HEAP_FUNCTIONS}
         self.patched = halves_of(filter(None, map(PATCH.fullmatch, lines)))
         found = filter(None, map(MARK.fullmatch, lines))
         self.marked = [(int(it[1], 0), int(it[2], 0), int(it[2], 0) + int(it[3], 0), it[0]) for it in found]

@@ -93,13 +93,13 @@ class Search:
 
     def removes(self, marks):
         """Whether the report after the step of the error hasn't it with these marks."""
-        marks = frozenset(it for it in marks if it[0] <= self.step)
+        marks = frozenset(mark for mark in marks if mark[0] <= self.step)
         if marks not in self.known:
             self.known[marks] = self.lacks(marks)
         return self.known[marks]
 
     def lacks(self, marks):
-        report = self.trials.report(self.step + 1, [(*it, "defined") for it in marks])
+        report = self.trials.report(self.step + 1, [(*mark, "defined") for mark in marks])
         return self.error not in errors_of(report)
 
     def all_at(self, *steps):
@@ -189,7 +189,7 @@ class Search:
         """A first step, and the latest ones up to the last before which an instruction can have made bytes
         undefined."""
         addresses = self.trials.addresses(first, last)
-        creates = {it for it in set(addresses) if self.image.creates(it)}
+        creates = {address for address in set(addresses) if self.image.creates(address)}
         steps = {first + index + 1 for index, it in enumerate(addresses) if it in creates}
         steps |= {step for step, *_ in self.image.marked if first < step <= last}
         room = self.trials.room // 2 // len(self.memory)
@@ -239,7 +239,7 @@ class Search:
         for group in groups:
             others = marks_of(it for it in groups if it is not group)
             group.step = self.last_with(group.step, group.ranges, others)
-        self.shapes = [it.ranges for it in groups if size_of(it.ranges) > MANY]
+        self.shapes = [group.ranges for group in groups if size_of(group.ranges) > MANY]
         return groups
 
     def last_with(self, step, ranges, beside):
@@ -342,7 +342,7 @@ class Search:
         for mark in list(marks):
             rest = [it for it in marks if it != mark]
             marks = rest if self.removes(rest) else marks
-        left = [Group(it.step, joined(inside(marks, it)), it.made, it.heap) for it in groups]
+        left = [Group(group.step, joined(inside(marks, group)), group.made, group.heap) for group in groups]
         return [it for it in left if it.ranges]
 
     def certified(self, groups):

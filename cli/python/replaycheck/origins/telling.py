@@ -85,7 +85,7 @@ class Teller:
                 self.lines(" ..")
                 return
             address = self.search.address(move[0])
-            again = next((it for it in rows[-2:] if it[0] == address and it[1] == move[1]), None)
+            again = next((row for row in rows[-2:] if row[0] == address and row[1] == move[1]), None)
             if again:
                 again[3] = move[0]
             else:

@@ -52,7 +52,7 @@ class Bugs:
 
     def __init__(self, summary, request, frames: Iterable[str]):
         self.summary, self.request = summary, request
-        groups = [groups_of(it) for it in summary.outcomes]
+        groups = [groups_of(outcome) for outcome in summary.outcomes]
         self.shown, self.notes = shown_with({line for some in groups for _, trace in some for line in trace} | {*frames}, request)
         self.all: List[Found] = []
         self.numbers: Dict[Group, int] = {}
@@ -126,7 +126,7 @@ def frame_of(line: str) -> Frame:
 
 def shown_with(lines: Iterable[str], request) -> Tuple[Shown, List[str]]:
     """What shows calls at the frames of some lines, and what of them can't be shown, in lines."""
-    trace = [frame_of(it) for it in sorted(lines)]
+    trace = [frame_of(line) for line in sorted(lines)]
     report = Report(0, State("exited", status=0), 0, 0, 0, [Error(1, "", trace, None)], [], {}, 0, 0, 0, 0)
     shown = Shown(report, request.program.path, None, (), isa=request.isa, regions=request.regions)
     return shown, shown.show(Paths(), True)

@@ -85,7 +85,7 @@ class Cells:
         """Adds the edits of a step: those of each model, then those of memory, then pairs."""
         edits, begin, name = list(place.edits), 0, str(place.at)
         bits = instruction_of(edits)[1]
-        for model in (it for it in place.range.models if it in SIZES):
+        for model in (model for model in place.range.models if model in SIZES):
             size = bits if model == "words" else SIZES[model]
             kind = "turned" if model == "words" else model
             if size:
@@ -160,4 +160,4 @@ def runs_of(numbers) -> List[int]:
 
 def steps_of(places: list) -> List[Tuple[int, object]]:
     """The steps among places."""
-    return [it.at for it in places if it.range.kind == "steps"]
+    return [place.at for place in places if place.range.kind == "steps"]

@@ -89,13 +89,13 @@ class Recording:
     def content(self, summary) -> bytes:
         """The file."""
         self.summary, self.places = summary, self.chosen.end()
-        self.there = {(it.range, it.at) for it in self.places}
+        self.there = {(place.range, place.at) for place in self.places}
         recorder = Recorder(self.request, self.merged.head, self.merged.outcomes, self.jobs)
         recorder.record(self.places)
         self.reports, lines = recorder.reports_kept()
         self.outputs, self.left = recorder.outputs_kept(), self.chosen.left
         self.left.reports, self.left.outputs = self.reports.left_out, self.outputs.left_out
-        self.bugs = Bugs(summary, self.request, [it for it in lines if it.startswith("   ")])
+        self.bugs = Bugs(summary, self.request, [line for line in lines if line.startswith("   ")])
         self.sources = Sources(self.request.program.path)
         self.cells = self.cells_of()
         data = self.data()
@@ -114,7 +114,7 @@ class Recording:
             address = instructions.address(place.at) if place.range.kind == "steps" else None
             cells.add(place, self.request, address)
         cells.end()
-        found = {f"0x{it:08x}" for panel in cells.panels.values() for it in panel.addresses if it is not None}
+        found = {f"0x{address:08x}" for panel in cells.panels.values() for address in panel.addresses if address is not None}
         instructions.lines.learn(sorted(found))
         return cells
 
@@ -122,20 +122,20 @@ class Recording:
         """What the script reads, but for what the reports' lines say. Each list of numbers is one of runs; in those of edits the first is
         of the unedited run."""
         outcomes: Dict[int, int] = {0: 0}
-        numbers = [outcomes.setdefault(it, len(outcomes)) for place in self.places for it in place.edits.values()]
+        numbers = [outcomes.setdefault(edit, len(outcomes)) for place in self.places for edit in place.edits.values()]
         notes: Dict[str, int] = {"": 0}
         cells = self.cells
         edits = {"panel": cells.panel, "column": cells.column, "row": cells.row, "form": cells.form, "outcome": numbers}
         return {
-            "step": self.merged.head.step, "panels": [self.panel(it, notes) for it in cells.panels.values()], "notes": list(notes),
+            "step": self.merged.head.step, "panels": [self.panel(panel, notes) for panel in cells.panels.values()], "notes": list(notes),
             "forms": list(cells.forms), "edits": {name: runs_of([0, *it]) for name, it in edits.items()},
             "reports": [runs_of(it) for it in self.reports.all], "outputs": [written(it) for it in self.outputs.all],
             "report": runs_of(self.reports.of), "output": runs_of(self.outputs.of), "mostOutput": MOST_OUTPUT,
-            "outcomes": [self.outcome(it) for it in outcomes], "found": [self.found(it) for it in self.bugs.all]}
+            "outcomes": [self.outcome(outcome) for outcome in outcomes], "found": [self.found(it) for it in self.bugs.all]}
 
     def panel(self, panel, notes: Dict[str, int]) -> Dict[str, object]:
         where = self.summary.instructions.where
-        told = ["" if it is None else where(it) for it in panel.addresses]
+        told = ["" if address is None else where(address) for address in panel.addresses]
         return {"caption": panel.caption, "isOfBytes": panel.is_of_bytes, "columns": panel.columns, "before": panel.before,
                 "rows": panel.rows, "notes": runs_of([notes.setdefault(it, len(notes)) for it in told])}
 
@@ -164,7 +164,7 @@ class Recording:
         script = "'use strict';\n" + "".join((PARTS / name).read_text("utf-8") for name in SCRIPTS)
         style = colours() + (PARTS / "recording.css").read_text("utf-8")
         title = text_of(self.summary.title)
-        bad = sum(self.merged.tallies[it.number] for it in self.summary.outcomes if self.summary.news[it.number])
+        bad = sum(self.merged.tallies[outcome.number] for outcome in self.summary.outcomes if self.summary.news[outcome.number])
         policy = (f"default-src 'none'; script-src {hash_of(script)}; style-src {hash_of(style)}; base-uri 'none'; form-action 'none'")
         edits, places = self.merged.edits, self.bugs.places()
         verdict = f"{bad:,} of {counted_many(edits, 'edit')} add an error, a leak or a stop"
@@ -174,7 +174,7 @@ class Recording:
             "counts": f"{verdict}{self.places_told(len(places))}. As recorded: {text_of(self.told(0))}.",
             "asked": text_of("; ".join(map(str, self.merged.head.ranges))), "rows": "\n".join(self.rows(places)),
             "command": text_of(shlex.join(["replaycheck", "explore", *sys.argv[1:]])), "step": f"{self.merged.head.step:,}",
-            "notes": "\n".join(f"<li>{text_of(it)}" for it in self.notes())}
+            "notes": "\n".join(f"<li>{text_of(note)}" for note in self.notes())}
         return MARK.sub(lambda it: parts[it[1]], (PARTS / "recording.html").read_text("utf-8"))
 
     @staticmethod
@@ -205,7 +205,7 @@ class Recording:
 
     def first(self, numbers: List[int]) -> Tuple[str, bool]:
         """The first edit that leads to one of some outcomes, and whether the file has it."""
-        found = [self.merged.firsts[it] for it in numbers if it in self.merged.firsts]
+        found = [self.merged.firsts[number] for number in numbers if number in self.merged.firsts]
         if not found:
             return "", False
         it, at, value, _ = min(found, key=lambda first: first[3])

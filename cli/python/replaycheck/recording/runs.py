@@ -130,7 +130,7 @@ class Recorder:
 
     def record(self, places: list) -> None:
         """Looks at the unedited run and at those of the edits of some places."""
-        count = 1 + sum(len(it.edits) for it in places)
+        count = 1 + sum(len(place.edits) for place in places)
         for numbers in (self.of_reports, self.of_outputs):
             numbers.extend([0] * count)
         self.look_at_unedited()
@@ -198,7 +198,7 @@ class Recorder:
 
     def reports_kept(self) -> Tuple[Texts, List[str]]:
         """The reports in the order of the edits, as numbers of lines, and the lines."""
-        found, names = [array("I", it) for it in self.reports], list(self.lines)
+        found, names = [array("I", report) for report in self.reports], list(self.lines)
         lines: Dict[int, int] = {}
         room = MOST_REPORTS
 
@@ -211,11 +211,11 @@ class Recorder:
             room -= needed
             return [lines.setdefault(it, len(lines)) for it in report]
 
-        return texts_of(self.of_reports, made), [names[it] for it in lines]
+        return texts_of(self.of_reports, made), [names[line] for line in lines]
 
     def outputs_kept(self) -> Texts:
         """The outputs in the order of the edits."""
-        found, room = [Written(*it) for it in self.outputs], MOST_OUTPUTS
+        found, room = [Written(*output) for output in self.outputs], MOST_OUTPUTS
 
         def made(number: int) -> Optional[Written]:
             nonlocal room
@@ -258,7 +258,7 @@ def outline(report: Report, has_output: bool) -> Iterator[str]:
     yield " ".join(str(it) for it in (state.name, state.why, state.address if is_at else None, state.status) if it is not None)
     if has_output:
         yield f"output {report.written}"
-    errors = ((it.text, it.trace[is_jump(it.text):]) for it in report.errors)
-    for text, trace in [*errors, *((it.kind, it.trace) for it in report.leaks)]:
+    errors = ((error.text, error.trace[is_jump(error.text):]) for error in report.errors)
+    for text, trace in [*errors, *((leak.kind, leak.trace) for leak in report.leaks)]:
         yield text
         yield from (f"   {'by' if at else 'at'} {frame.address}: {frame.name}" for at, frame in enumerate(trace))

@@ -136,7 +136,7 @@ class Certificate:
 
 
 def addresses(words: List[str]) -> Tuple[Address, ...]:
-    return tuple(Address(it, 16) for it in words)
+    return tuple(Address(word, 16) for word in words)
 
 
 class Step:

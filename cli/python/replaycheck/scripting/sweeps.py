@@ -36,7 +36,7 @@ class Outcome:
     def __init__(self, number: int, text: bytes, unedited: bytes) -> None:
         read_out = outcomes.Outcome(number, text)
         self.number, self.text, self.state = number, text.decode("ascii"), read_out.state
-        self.parts: List[str] = [it.text for it in read_out.parts]
+        self.parts: List[str] = [part.text for part in read_out.parts]
         self.news: List[str] = [it.text for it in read_out.news(outcomes.Outcome(0, unedited))]
         self.has_errors: bool = read_out.has_errors
 
@@ -113,7 +113,7 @@ def words_of(data: bytes, name: str, file: str, isa: str, regions: Regions) -> O
         return None
     symbols = Symbols(data, file)
     at = symbols.address(name)
-    size = max((symbols.elf.extent(it) for it in symbols.elf.functions if it.value == at), default=0)
+    size = max((symbols.elf.extent(function) for function in symbols.elf.functions if function.value == at), default=0)
     unit = unit_of(isa)
     if size < unit:
         raise Usage(f"{file}: {name} is no function")

@@ -148,7 +148,7 @@ class Search:
         until = self.state.begun + options.time if options.time else float("inf")
         return Plan(self.opened, self.code, options.step, [content for _, content in self.seeds], self.tokens, options.max_len,
                     None if goal is None else goal.encode("utf-8", "surrogateescape"), options.runs, options.seed, until,
-                    self.folder.path, self.folder.own, [it.text for it in self.findings], self.first_seed, self.first, os.getpid())
+                    self.folder.path, self.folder.own, [finding.text for finding in self.findings], self.first_seed, self.first, os.getpid())
 
     def work(self):
         """Runs the workers. A signal or a fault ends them. What was found until a signal comes is printed, too."""
@@ -201,9 +201,9 @@ class Search:
 
     def take_finding(self, place, content, text, address, runs):
         """Takes a finding, and after how many runs its worker found it."""
-        if any(it.text == text for it in self.findings):
+        if any(finding.text == text for finding in self.findings):
             return
-        taken = {it.number for it in self.findings}
+        taken = {finding.number for finding in self.findings}
         number = next(it for it in range(1, len(taken) + 2) if it not in taken)
         tries = runs + sum(it.runs for other, it in enumerate(self.state.told) if other != place)
         self.findings.append(Finding(number, text, address, bytes.fromhex(content), tries))

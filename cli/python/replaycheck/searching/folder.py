@@ -112,7 +112,7 @@ class Folder:
                 line, *more = text.decode("utf-8", "surrogateescape").rstrip("\n").split("\n")
                 counts = [TRIES.fullmatch(it) for it in more]
                 address = more[0] if more and not counts[0] else ""
-                yield Finding(int(found[1]), line, address, content, next((int(it[1]) for it in counts if it), None))
+                yield Finding(int(found[1]), line, address, content, next((int(count[1]) for count in counts if count), None))
 
     def write(self, finding: Finding, lines: List[str], report: List[str]):
         """Writes a finding. Its text goes first, if it has one, and comes last: what has none isn't whole, and is found again."""

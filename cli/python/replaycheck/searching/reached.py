@@ -21,7 +21,7 @@ class Reached:
         self.options, self.code, self.folder = options, code, folder
         self.sides = Sides(code.ranges, code.unit)
         self.waiting: Deque[str] = deque()
-        self.addresses = {it.address for it in code.instructions([])}
+        self.addresses = {instruction.address for instruction in code.instructions([])}
         self.count = self.sides_count = 0
         self.session: Optional[Session] = None
         self.lines = 0

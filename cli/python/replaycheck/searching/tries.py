@@ -33,7 +33,7 @@ class Pair:
 
     def __init__(self, line: bytes):
         step, pc, *operands = line.split()
-        numbers = [int(it, 16) for it in operands]
+        numbers = [int(operand, 16) for operand in operands]
         self.step, self.pc, self.mine, self.others = int(step), int(pc, 16), numbers[:2], numbers[2:]
 
 

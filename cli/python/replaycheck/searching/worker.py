@@ -90,7 +90,7 @@ class Worker:
         length = len(content) if len(content) > LONGEST else None
         if length not in self.sessions:
             if len(self.sessions) > MOST_SESSIONS:
-                self.drop(next(it for it in self.sessions if it is not None))
+                self.drop(next(session for session in self.sessions if session is not None))
             known = partial(self.known_of, length)
             self.sessions[length] = Tries(self.plan.opened, self.plan.step, length, known, self.outcomes, self.tick)
         return self.sessions[length]
@@ -102,7 +102,7 @@ class Worker:
 
     def known_of(self, length: Optional[int]) -> List[bytes]:
         """The inputs of the queue that sessions for a length have tried."""
-        return [it.content for it in self.entries if (len(it.content) if len(it.content) > LONGEST else None) == length]
+        return [entry.content for entry in self.entries if (len(entry.content) if len(entry.content) > LONGEST else None) == length]
 
     def spend(self) -> bool:
         """Whether there is a run left; it is spent then."""
@@ -146,7 +146,7 @@ class Worker:
 
     @property
     def all_runs(self) -> int:
-        return self.runs + sum(it.runs for it in self.sessions.values())
+        return self.runs + sum(session.runs for session in self.sessions.values())
 
     # ---- the queue
 
@@ -215,7 +215,7 @@ class Worker:
             self.attempt_known(tries, content, self.take_seed)
             tries.settle()
         if self.place == 0:
-            self.tell("seeds", sorted({it.text for parts in self.news.parts.values() for it in parts}))
+            self.tell("seeds", sorted({part.text for parts in self.news.parts.values() for part in parts}))
         for folder, number, content in self.folders.new():
             if folder == self.folders.own:
                 is_own = (number or 0) % self.count == self.place
@@ -284,10 +284,10 @@ class Worker:
             self.tell_state()
 
     def tell_state(self):
-        waiting = sum(not it.taken for it in self.entries)
+        waiting = sum(not entry.taken for entry in self.entries)
         at = self.entries.index(self.at_work) if self.at_work in self.entries else 0
-        cycles = min((it.taken for it in self.entries), default=0)
-        runs_on = all(it.split(b"\n", 1)[0] == RUNS.encode() for it in self.outcomes.texts)
+        cycles = min((entry.taken for entry in self.entries), default=0)
+        runs_on = all(text.split(b"\n", 1)[0] == RUNS.encode() for text in self.outcomes.texts)
         self.tell("state", self.all_runs, waiting, at, cycles, runs_on)
 
     at_work: Optional[Entry] = None
@@ -321,7 +321,7 @@ class Worker:
         if self.to_shorten:
             self.shorten(*self.to_shorten.pop(0))
             return
-        entry = next((it for it in reversed(self.entries) if it.is_new and not it.is_asked), None)
+        entry = next((entry for entry in reversed(self.entries) if entry.is_new and not entry.is_asked), None)
         if entry is not None:
             self.ask(entry)
             return
