@@ -53,8 +53,8 @@ class Code:
         self.elf = elf
         sections = joined((section.addr, section.addr + section.size) for section in elf.sections if section.flags & HAS_CODE)
         closed = joined([*closed, *(without([[0, 1 << 32]], sections) if sections else ())])
-        self.stretches = [Stretch(elf, start, end, self.unit) for it in elf.contents
-                          for start, end in without([[it.vaddr, it.vaddr + it.filesz]], closed)]
+        self.stretches = [Stretch(elf, start, end, self.unit) for segment in elf.contents
+                          for start, end in without([[segment.vaddr, segment.vaddr + segment.filesz]], closed)]
         self.starts = [stretch.start for stretch in self.stretches]
         self.sized = joined((function.value, function.value + function.size) for function in elf.functions if function.size)
         self.ends = {function.value + function.size for function in elf.functions if function.size}
@@ -75,7 +75,7 @@ class Code:
 
     def before(self, address):
         """The instructions before an address, the nearest first, as far as an address tells where they begin."""
-        return [self.instruction(it) for it in range(address - 4, address - 4 * NEAR, -4)]
+        return [self.instruction(at) for at in range(address - 4, address - 4 * NEAR, -4)]
 
     def seen(self):
         """The instructions that were looked at, and None between those of which one doesn't follow the other."""
@@ -157,12 +157,12 @@ class Code:
 
     def returns(self):
         """Those of the instructions for control registers and the like that no instruction set of the program has."""
-        return [it for it in self.control if not isa.is_control(it.word)]
+        return [instruction for instruction in self.control if not isa.is_control(instruction.word)]
 
     def least_set(self):
         """The least of the program's instruction sets that has all that was found, but for what is cured, and for returns from traps and
         the like, which no run here reaches by a trap; None if none has."""
-        if self.floating or self.compressed or self.unknown or not all(isa.is_atomic(it.word) for it in self.atomic):
+        if self.floating or self.compressed or self.unknown or not all(isa.is_atomic(instruction.word) for instruction in self.atomic):
             return None
         return programs.ATOMIC if self.atomic else self.least
 
@@ -261,10 +261,10 @@ def replaced(code, found):
 def return_register(code, address):
     """The register whose value mret jumps to and which still has it, if no jump or call stands before; else None."""
     changed = set()
-    for it in code.before(address):
-        if it is None or isa.may_jump(it.word) or it.word in (rv32.ECALL, rv32.EBREAK):
+    for instruction in code.before(address):
+        if instruction is None or isa.may_jump(instruction.word) or instruction.word in (rv32.ECALL, rv32.EBREAK):
             return None
-        if isa.sets_return(it.word):
-            return rv32.rs1(it.word) if rv32.rs1(it.word) not in changed else None
-        changed.add(isa.written(it.word))
+        if isa.sets_return(instruction.word):
+            return rv32.rs1(instruction.word) if rv32.rs1(instruction.word) not in changed else None
+        changed.add(isa.written(instruction.word))
     return None

@@ -81,21 +81,21 @@ class Cured:
 def cured(findings):
     """The file with all that can be cured, as bytes, and the changes."""
     result = Cured(findings.elf)
-    for it in findings.plan.taken.values():
-        address = it.symbol.value
-        for code, text in zip(it.codes, it.texts):
-            result.put_code(address, code, f"{it.name}: {text}")
+    for function in findings.plan.taken.values():
+        address = function.symbol.value
+        for code, text in zip(function.codes, function.texts):
+            result.put_code(address, code, f"{function.name}: {text}")
             address += len(code)
-    for it in findings.control:
-        result.put_code(it.address, in_bytes(it.new), f"{it.text} for {isa.control(it.word)}")
-    for it in findings.stack:
-        result.put_code(it.address, nop(it.length), f"nop for 0x{it.word:08x}, which sets sp")
-    segments = [(it.offset, it.paddr, it.filesz, it.flags, it.align) for it in findings.copied]
-    named = [(it.function, it.named, it.size - (it.named - it.symbol.value), form.FUNCTION, it.symbol.section)
-             for it in findings.plan.taken.values() if it.named is not None]
+    for instruction in findings.control:
+        result.put_code(instruction.address, in_bytes(instruction.new), f"{instruction.text} for {isa.control(instruction.word)}")
+    for instruction in findings.stack:
+        result.put_code(instruction.address, nop(instruction.length), f"nop for 0x{instruction.word:08x}, which sets sp")
+    segments = [(segment.offset, segment.paddr, segment.filesz, segment.flags, segment.align) for segment in findings.copied]
+    named = [(taken.function, taken.named, taken.size - (taken.named - taken.symbol.value), form.FUNCTION, taken.symbol.section)
+             for taken in findings.plan.taken.values() if taken.named is not None]
     if findings.elf.symbol_table is not None:
-        named += [(MAPPED_MARK, it.symbol.value, it.size, form.FUNCTION, it.symbol.section)
-                  for it in findings.plan.taken.values() if it.named != it.symbol.value]
+        named += [(MAPPED_MARK, taken.symbol.value, taken.size, form.FUNCTION, taken.symbol.section)
+                  for taken in findings.plan.taken.values() if taken.named != taken.symbol.value]
     for added in findings.added():
         segments += led(result, added)
         named += [(*symbol, NO_SECTION) for symbol in added.symbols()] if result.elf.symbol_table is not None else []

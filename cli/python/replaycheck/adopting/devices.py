@@ -42,8 +42,8 @@ def can_lead(elf, site, kept, unit):
 
 def answerable(found):
     """The places of what reaches a device that is answered for, by addresses that are in the code."""
-    return [at for it in found for at in it.places
-            if any(start <= it.first and it.last < start + size for start, size in ANSWERED)]
+    return [at for device in found for at in device.places
+            if any(start <= device.first and device.last < start + size for start, size in ANSWERED)]
 
 
 def asking(word, is_lower, handler):
@@ -90,8 +90,8 @@ class Driving(Added):
 
     def is_lower(self, site):
         """Whether a site stores the lower half of what the next one stores the upper half of."""
-        pair = [self.word(it) for it in (site, site + 4) if it in self.known]
-        if [rv32.opcode(it) for it in pair] != [rv32.STORE] * 2:
+        pair = [self.word(address) for address in (site, site + 4) if address in self.known]
+        if [rv32.opcode(word) for word in pair] != [rv32.STORE] * 2:
             return False
         lower, upper = pair
         return rv32.rs1(lower) == rv32.rs1(upper) and rv32.store_offset(upper) == rv32.store_offset(lower) + 4

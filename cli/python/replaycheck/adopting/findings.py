@@ -42,13 +42,13 @@ class Findings:
     def __init__(self, data, heaps, kept, asked=USUAL, regions=USUAL_REGIONS):
         refused = refusals(data, regions)
         self.asked, self.asked_regions = asked, regions
-        self.damaged = next((it for it in refused if it.number in DAMAGED), None)
-        self.regions, self.elf, self.own = regions, Elf(data, regions) if all(it.readable for it in refused) else None, None
-        is_cured = self.elf is not None and any(it.region for it in refused) and self.place(data)
+        self.damaged = next((refusal for refusal in refused if refusal.number in DAMAGED), None)
+        self.regions, self.elf, self.own = regions, Elf(data, regions) if all(refusal.readable for refusal in refused) else None, None
+        is_cured = self.elf is not None and any(refusal.region for refusal in refused) and self.place(data)
         if is_cured:
-            met = [it for it in refused if it.region]
-            refused = sorted([*met, *refusals(data, self.regions)], key=lambda it: it.number)
-        self.obstacles = [in_the_way(it, self.regions if is_cured else None) for it in refused]
+            met = [refusal for refusal in refused if refusal.region]
+            refused = sorted([*met, *refusals(data, self.regions)], key=lambda refusal: refusal.number)
+        self.obstacles = [in_the_way(refusal, self.regions if is_cured else None) for refusal in refused]
         self.plan, self.control, self.stack, self.copied, self.devices = None, [], [], [], []
         self.hosting, self.driving, self.runs, self.isa = None, None, 0, USUAL
         if self.elf is None:
@@ -101,7 +101,7 @@ class Findings:
 
     def hopeless(self):
         """Whether nothing that can be done to the file makes any of it run."""
-        return any(it.stops_all for it in self.obstacles)
+        return any(obstacle.stops_all for obstacle in self.obstacles)
 
     def look(self, heaps, kept):
         """Looks at a file that the program takes."""
@@ -122,17 +122,17 @@ class Findings:
         needed = set_of(code)
         self.isa = max(needed, self.asked, key=ISAS.index)
         unknown = code.control if self.isa == USUAL else code.returns()
-        self.control = [replaced(code, it) for it in unknown if self.elf.function_at(it.address) not in kept]
+        self.control = [replaced(code, instruction) for instruction in unknown if self.elf.function_at(instruction.address) not in kept]
         words = stack_words(code, self.elf.entry)
         self.own = own_stack(self.elf, words)
         self.stack = [word for word in words if self.elf.function_at(word.address) not in kept and not has_own(self.regions, self.own)]
-        atomic = [it for it in code.atomic if self.asked != ATOMIC or not is_atomic(it.word)]
+        atomic = [instruction for instruction in code.atomic if self.asked != ATOMIC or not is_atomic(instruction.word)]
         self.obstacles += of_code(self.elf, code, atomic, self.isa_option if self.isa != self.asked else None)
         self.copied, unplaced = physical(self.elf)
         self.obstacles += [Obstacle(
-            f"{it.filesz} bytes for 0x{it.vaddr:08x} that the linker script puts to 0x{it.paddr:08x}, where they can't "
+            f"{segment.filesz} bytes for 0x{segment.vaddr:08x} that the linker script puts to 0x{segment.paddr:08x}, where they can't "
             f"be loaded: {why}", "give them another place by AT> or ORIGIN in the linker script", False)
-            for it, why in unplaced]
+            for segment, why in unplaced]
         self.devices = reached(self.elf, code, self.copied)
         self.look_for_calls_of_a_host(kept)
 
@@ -162,21 +162,21 @@ class Findings:
 
     def loaded(self):
         """How many bytes are loaded, with those at physical addresses."""
-        return sum(end - start for start, end in self.elf.loaded) + sum(it.filesz for it in self.copied)
+        return sum(end - start for start, end in self.elf.loaded) + sum(segment.filesz for segment in self.copied)
 
     def added(self):
         """What is added to the file."""
-        return [it for it in (self.hosting, self.driving) if it]
+        return [added for added in (self.hosting, self.driving) if added]
 
     def cures(self):
         """How many things can be cured in the file."""
         taken = self.plan.taken if self.plan else ()
-        return sum(len(it.sites) for it in self.added()) + len(taken) + len(self.control) + len(self.stack) + len(self.copied)
+        return sum(len(added.sites) for added in self.added()) + len(taken) + len(self.control) + len(self.stack) + len(self.copied)
 
     @property
     def other_cure(self):
         """The option of the program that is enough in place of all cures, or None."""
-        controls = [it for it in self.control if is_control(it.word)]
+        controls = [instruction for instruction in self.control if is_control(instruction.word)]
         if not controls or len(controls) != self.cures():
             return None
         return " ".join(filter(None, (f"--isa {SHORT}", self.regions.told)))
@@ -221,7 +221,7 @@ def by_option(option):
 
 
 def places(elf, found):
-    return elf.where_all([it.address for it in found])
+    return elf.where_all([instruction.address for instruction in found])
 
 
 def of_code(elf, code, atomic, option):
@@ -245,23 +245,23 @@ def physical(elf):
     """Segments to load at their physical addresses too, and those that can't be, each with the reason. A file whose
     physical addresses are all 0 has none."""
     copied, unplaced = [], []
-    if not any(it.paddr for it in elf.contents):
+    if not any(load.paddr for load in elf.contents):
         return copied, unplaced
     taken = joined((load.vaddr, load.vaddr + load.memsz) for load in elf.loads)
     total, count, last = sum(end - start for start, end in elf.loaded), len(elf.segments), 0
-    for it in sorted(elf.contents, key=lambda it: it.paddr):
-        if it.paddr == it.vaddr or has_bytes(elf, it):
+    for segment in sorted(elf.contents, key=lambda load: load.paddr):
+        if segment.paddr == segment.vaddr or has_bytes(elf, segment):
             continue
-        why = unloadable(it, taken, last, elf.regions)
-        if total + it.filesz > ROOM:
+        why = unloadable(segment, taken, last, elf.regions)
+        if total + segment.filesz > ROOM:
             why = why or f"there would be more than {ROOM} bytes"
         if count + 1 >= 0xFFFF:
             why = why or "there would be too many segments"
         if why:
-            unplaced.append((it, why))
+            unplaced.append((segment, why))
         else:
-            copied.append(it)
-            total, count, last = total + it.filesz, count + 1, it.paddr + it.filesz
+            copied.append(segment)
+            total, count, last = total + segment.filesz, count + 1, segment.paddr + segment.filesz
     return copied, unplaced
 
 

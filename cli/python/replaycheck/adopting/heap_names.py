@@ -41,4 +41,4 @@ LEFT = {
                     "a pool of its own: what is done in its blocks isn't checked, unless --heap says how it is called"),
 }
 # The functions of heaps under names other than C's four.
-OTHERS = {it.partition("=")[0] for it in KNOWN} - {*HEAP} | {*LEFT}
+OTHERS = {text.partition("=")[0] for text in KNOWN} - {*HEAP} | {*LEFT}

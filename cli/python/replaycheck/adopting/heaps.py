@@ -50,7 +50,7 @@ def heap_of(text):
     if match is None or match[2] not in PARAMETERS:
         raise BadHeap(f"'{text}' isn't of the form NAME=malloc(a0), NAME=free(a0), NAME=calloc(a0,a1) or "
                       "NAME=realloc(a0,a1)")
-    places = [place_of(it) for it in match[3].split(",")]
+    places = [place_of(parameter) for parameter in match[3].split(",")]
     if len(places) != PARAMETERS[match[2]]:
         raise BadHeap(f"'{text}': {match[2]} has {PARAMETERS[match[2]]} of them")
     return match[1], match[2], places
@@ -99,7 +99,7 @@ class Plan:
         self.taken, self.left, self.small, self.found = {}, [], [], set()
         wanted = {name: (function, places) for name, function, places in map(heap_of, KNOWN)}
         wanted.update((name, (function, places)) for name, function, places in heaps)
-        for symbol in sorted(elf.functions + elf.labels, key=lambda it: it.value):
+        for symbol in sorted(elf.functions + elf.labels, key=lambda function: function.value):
             name = elf.name(symbol)
             if name in kept or name in wanted:
                 self.found.add(name)
@@ -152,4 +152,4 @@ class Plan:
         """Ranges that a run never reaches: functions that are taken over."""
         sizes = {function.value: function.size for function in self.elf.functions}
         hooked = [(address, address + (sizes.get(address) or 4)) for address in self.hooked]
-        return hooked + [(address, address + it.size) for address, it in self.taken.items()]
+        return hooked + [(address, address + taken.size) for address, taken in self.taken.items()]

@@ -34,7 +34,7 @@ def memory_of(elf, copied):
     table of the linker script may begin and end."""
     regions = [(low, high) for _, low, high in elf.regions.ranges]
     return joined([(0, PAGE), *regions, *((load.vaddr, load.vaddr + load.memsz + PAGE) for load in elf.loads),
-                   *((it.paddr, it.paddr + it.filesz) for it in copied)])
+                   *((segment.paddr, segment.paddr + segment.filesz) for segment in copied)])
 
 
 class Constants:
@@ -73,14 +73,14 @@ class Constants:
 def accesses(elf, code):
     """Each load and store whose address is known: its place and where it goes."""
     begins, constants = {function.value for function in elf.functions}, Constants()
-    for it in code.seen():
-        if it is None or it.address in begins:
+    for instruction in code.seen():
+        if instruction is None or instruction.address in begins:
             constants = Constants()
-        if it is not None:
-            target = constants.target(it.word)
+        if instruction is not None:
+            target = constants.target(instruction.word)
             if target is not None:
-                yield it.address, target
-            constants.after(it.word)
+                yield instruction.address, target
+            constants.after(instruction.word)
 
 
 def device_at(address):

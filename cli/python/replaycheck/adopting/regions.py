@@ -32,12 +32,12 @@ class Own:
 def end_by_words(words):
     """The address that the start file's words give the stack pointer, or None where they don't have it."""
     value = None
-    for it in words:
-        code = rv32.opcode(it.word)
+    for instruction in words:
+        code = rv32.opcode(instruction.word)
         if code in (rv32.LUI, rv32.AUIPC):
-            value = rv32.upper(it.word) + (it.address if code == rv32.AUIPC else 0)
-        elif code == rv32.IMMEDIATE and rv32.funct3(it.word) == 0 and value is not None:
-            value += rv32.immediate(it.word)
+            value = rv32.upper(instruction.word) + (instruction.address if code == rv32.AUIPC else 0)
+        elif code == rv32.IMMEDIATE and rv32.funct3(instruction.word) == 0 and value is not None:
+            value += rv32.immediate(instruction.word)
         else:
             value = None
     return None if value is None else value & 0xFFFFFFFF
@@ -53,10 +53,11 @@ def lowest(elf, top, end):
     """Up to where memory below the end of a stack is something else's: what the file has in it, and its variables. None if one is between
     the stack pointer's first place and the end of the region."""
     parts = [(load.vaddr, load.vaddr + (load.filesz if end <= load.vaddr + load.memsz else load.memsz)) for load in elf.loads if load.memsz]
-    parts += [(section.addr, section.addr + section.size) for section in elf.sections if section.flags & ALLOCATED and section.size and section.addr + section.size < top]
-    for it in elf.symbols:
-        if it.info & 15 == OBJECT and it.size:
-            parts.append((it.value, it.value if it.value < top <= it.value + it.size else it.value + it.size))
+    parts += [(section.addr, section.addr + section.size) for section in elf.sections
+              if section.flags & ALLOCATED and section.size and section.addr + section.size < top]
+    for symbol in elf.symbols:
+        if symbol.info & 15 == OBJECT and symbol.size:
+            parts.append((symbol.value, symbol.value if symbol.value < top <= symbol.value + symbol.size else symbol.value + symbol.size))
     if any(low < end and top < high for low, high in parts):
         return None
     return max((high for low, high in parts if low < end), default=0)
@@ -94,7 +95,8 @@ def fitting(elf, own):
     """Regions that no segment of a file meets, as near as can be to those for which it was read; None if there are none. A stack that can't
     stay is the start file's own, if that is known. A heap that can't stay isn't put there."""
     met = {name for load in elf.loads for name in elf.regions.met(load)}
-    taken = [(load.vaddr, load.vaddr + load.memsz) for load in elf.loads] + [(it.paddr, it.paddr + it.filesz) for it in elf.contents]
+    taken = [(load.vaddr, load.vaddr + load.memsz) for load in elf.loads]
+    taken += [(segment.paddr, segment.paddr + segment.filesz) for segment in elf.contents]
     taken += [(first, first + size) for first, size, _ in DEVICES]
 
     def is_free(low, high, others):
@@ -102,14 +104,14 @@ def fitting(elf, own):
 
     stack = elf.regions.stack
     if "stack" in met:
-        ends = [it for it in STACK_ENDS if is_free(it - MOST_STACK, it, taken)]
+        ends = [end for end in STACK_ENDS if is_free(end - MOST_STACK, end, taken)]
         stack = own.region if own else (ends[0] - MOST_STACK, ends[0]) if ends else None
     if stack is None:
         return None
     heaps = [elf.regions.heap] if "heap" not in met else []
-    heaps += [it for it in HEAPS if is_free(it, it + HEAP_SIZE, taken)]
+    heaps += [place for place in HEAPS if is_free(place, place + HEAP_SIZE, taken)]
     others = [stack, *([own.region] if own and "heap" in met else [])]
-    heap = next((it for it in heaps if is_free(it, it + HEAP_SIZE, others)), None)
+    heap = next((place for place in heaps if is_free(place, place + HEAP_SIZE, others)), None)
     return None if heap is None else Regions(heap, stack)
 
 

@@ -49,7 +49,7 @@ def driven_line(findings, address):
 def driven_lines(findings):
     """Which loads and stores of devices are answered for, and how they were found."""
     if findings.driving:
-        yield from (driven_line(findings, it) for it in findings.driving.sites)
+        yield from (driven_line(findings, site) for site in findings.driving.sites)
         runs = "1 run" if findings.runs == 1 else f"{findings.runs} runs"
         yield f"found by addresses in the code and by {runs}; what neither shows isn't answered"
 
@@ -62,13 +62,14 @@ def cure_lines(findings):
     """What can be cured in the file, under a line that says what it cures."""
     elf, plan = findings.elf, findings.plan
     groups = [
-        (HEAP, [taken_line(it) for it in plan.taken.values()]),
-        (CONTROL, [control_line(elf, it) for it in findings.control if isa.is_control(it.word)]),
-        (RETURN, [control_line(elf, it) for it in findings.control if not isa.is_control(it.word)]),
-        (STACK, [f"{elf.where(it.address)}: 0x{it.word:08x}, which sets sp, becomes nop" for it in findings.stack]),
-        (HOSTED, [hosted_line(elf, it) for it in findings.hosting.sites] if findings.hosting else []),
+        (HEAP, [taken_line(taken) for taken in plan.taken.values()]),
+        (CONTROL, [control_line(elf, instruction) for instruction in findings.control if isa.is_control(instruction.word)]),
+        (RETURN, [control_line(elf, instruction) for instruction in findings.control if not isa.is_control(instruction.word)]),
+        (STACK, [f"{elf.where(instruction.address)}: 0x{instruction.word:08x}, which sets sp, becomes nop"
+                 for instruction in findings.stack]),
+        (HOSTED, [hosted_line(elf, site) for site in findings.hosting.sites] if findings.hosting else []),
         (DRIVEN, list(driven_lines(findings))),
-        (COPIED, [copied_line(it) for it in findings.copied]),
+        (COPIED, [copied_line(segment) for segment in findings.copied]),
     ]
     for heading, lines in groups:
         if lines:
@@ -77,7 +78,7 @@ def cure_lines(findings):
 
 
 def heap_line(plan):
-    names = set(plan.hooked.values()) | {it.function for it in plan.taken.values()}
+    names = set(plan.hooked.values()) | {taken.function for taken in plan.taken.values()}
     if not names:
         return "heap: no function has a heap's name; blocks that calls 2001 to 2004 give are checked"
     missing = [name for name in ("malloc", "free") if name not in names]
@@ -102,10 +103,10 @@ def lines(findings, written, changes):
         yield f"{DEVICES}:"
         yield from (f"  {device_line(findings.elf, device)}" for device in findings.devices)
     if findings.obstacles:
-        yield "needs an option, or a rebuild:" if any(it.by_option for it in findings.obstacles) else "needs a rebuild:"
-    for it in findings.obstacles:
-        yield f"  {it.what}"
-        yield f"    {it.cure}"
+        yield "needs an option, or a rebuild:" if any(found.by_option for found in findings.obstacles) else "needs a rebuild:"
+    for obstacle in findings.obstacles:
+        yield f"  {obstacle.what}"
+        yield f"    {obstacle.cure}"
     if changes:
         yield f"changed in {written}:"
         yield from (f"  offset 0x{change.offset:08x}, {change.size} bytes: {change.what}" for change in changes)
@@ -117,7 +118,7 @@ def verdict(findings, name, out):
         return f"{name} won't run{without_option(findings)}" + (f", and {out} wasn't written" if out else "")
     runs = "will run" + (f" with {findings.option}" if findings.option else "")
     devices = "waits for no device" if findings.devices else ""
-    if not all(it.by_option for it in findings.obstacles):
+    if not all(obstacle.by_option for obstacle in findings.obstacles):
         return f"{out or name} {runs} as far as it meets nothing that needs a rebuild" + (devices and f" and {devices}")
     if out or not findings.cures():
         certain = f"{out or name} {runs}" + ("" if out or findings.option else " as it is")
@@ -128,7 +129,8 @@ def verdict(findings, name, out):
 
 def without_option(findings):
     """Without which option a file won't run, and how far with it."""
-    if not findings.missing_option or any(it.stops_all and not it.by_option for it in findings.obstacles):
+    if not findings.missing_option or any(obstacle.stops_all and not obstacle.by_option for obstacle in findings.obstacles):
         return ""
-    far = "" if all(it.by_option for it in findings.obstacles) else ", and with it as far as it meets nothing that needs a rebuild"
+    is_enough = all(obstacle.by_option for obstacle in findings.obstacles)
+    far = "" if is_enough else ", and with it as far as it meets nothing that needs a rebuild"
     return f" without {findings.missing_option}{far}"

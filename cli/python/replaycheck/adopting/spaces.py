@@ -27,7 +27,8 @@ class Group:
 def taken(elf):
     """What isn't free: segments, the physical addresses of their bytes, regions, known devices and the first page."""
     return [(0, PAGE), *((low, high) for _, low, high in elf.regions.ranges), *((first, first + size) for first, size, _ in DEVICES),
-            *((load.vaddr, load.vaddr + load.memsz) for load in elf.loads), *((it.paddr, it.paddr + it.filesz) for it in elf.contents)]
+            *((load.vaddr, load.vaddr + load.memsz) for load in elf.loads),
+            *((segment.paddr, segment.paddr + segment.filesz) for segment in elf.contents)]
 
 
 class Spaces:

@@ -62,7 +62,7 @@ def all_runs(options, sides):
 def is_chosen(name, options):
     """Whether a source file is one of those that are asked for, by its name as it is printed or from the root on."""
     def matches(patterns):
-        return any(fnmatchcase(it, one) for one in patterns for it in (name, os.path.abspath(name)))
+        return any(fnmatchcase(path, one) for one in patterns for path in (name, os.path.abspath(name)))
     return (not options.include or matches(options.include)) and not matches(options.exclude)
 
 

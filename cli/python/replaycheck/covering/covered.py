@@ -63,7 +63,7 @@ class SourceFile:
     @property
     def branches(self) -> List[Tuple[int, int, Branch]]:
         """Each branch, with its line and its number among those of the line."""
-        return [(number, index, it) for number, line in sorted(self.lines.items()) for index, it in enumerate(line.branches)]
+        return [(number, index, branch) for number, line in sorted(self.lines.items()) for index, branch in enumerate(line.branches)]
 
     @property
     def unexecuted(self) -> List[int]:
@@ -71,7 +71,7 @@ class SourceFile:
 
     def in_order(self) -> List[Function]:
         """The functions, by their first lines."""
-        return sorted(self.functions.values(), key=lambda it: (it.first, it.name))
+        return sorted(self.functions.values(), key=lambda function: (function.first, function.name))
 
 
 class Covered:
@@ -87,9 +87,9 @@ class Covered:
         self.table: LineTable = places.table
         self.blocks, self.placeless = blocks_of(code, self.executed), 0
         for some in in_parts(code.instructions(list(self.executed)), AT_ONCE):
-            places.learn(hexadecimal(it.address) for it in some)
-            for it in some:
-                self.add(it, self.places_of(it.address, places.at(hexadecimal(it.address))))
+            places.learn(hexadecimal(one.address) for one in some)
+            for instruction in some:
+                self.add(instruction, self.places_of(instruction.address, places.at(hexadecimal(instruction.address))))
             places.known.clear()
         if not self.by_name:
             raise Fault(f"{path}: it has no source lines: compile and link it with -g")
@@ -129,7 +129,7 @@ class Covered:
             name = self.code.elf.function_at(address)
             if not name:
                 continue
-            files = [it for it in self.by_name.values() if name in it.functions] or [self.by_name[place.file]]
+            files = [file for file in self.by_name.values() if name in file.functions] or [self.by_name[place.file]]
             if len(files) > 1:
                 continue
             function = files[0].functions.setdefault(name, Function(name))
@@ -183,7 +183,7 @@ class Blocks:
     """The numbers of blocks, each of which begins at one of `starts`."""
 
     def __init__(self, starts: List[int]):
-        self.starts, self.numbers = starts, {it: number for number, it in enumerate(starts)}
+        self.starts, self.numbers = starts, {start: number for number, start in enumerate(starts)}
 
     def at(self, address) -> int:
         """The block of an instruction."""
@@ -197,13 +197,13 @@ class Blocks:
 def blocks_of(code: Code, executed: Iterable[int]) -> Blocks:
     """A block begins where a function does, at the target of a branch or a jump, and after each of them."""
     starts, every, after = set(code.starts), set(), None
-    for it in code.instructions(list(executed)):
-        every.add(it.address)
-        if it.address != after:
-            starts.add(it.address)
-        if it.target is not None:
-            starts.add(it.target)
-        after = None if may_jump(it.word) else it.next
+    for instruction in code.instructions(list(executed)):
+        every.add(instruction.address)
+        if instruction.address != after:
+            starts.add(instruction.address)
+        if instruction.target is not None:
+            starts.add(instruction.target)
+        after = None if may_jump(instruction.word) else instruction.next
     return Blocks(sorted(starts & every))
 
 

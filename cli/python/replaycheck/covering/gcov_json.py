@@ -36,9 +36,9 @@ def function(it: Function, names: Demangler) -> dict:
 
 
 def source(file: SourceFile, names: Demangler) -> dict:
-    names.learn(it.name for it in file.in_order())
-    return {"file": text(file.name), "functions": [function(it, names) for it in file.in_order()],
-            "lines": [line(number, it) for number, it in sorted(file.lines.items())]}
+    names.learn(source_function.name for source_function in file.in_order())
+    return {"file": text(file.name), "functions": [function(source_function, names) for source_function in file.in_order()],
+            "lines": [line(number, source_line) for number, source_line in sorted(file.lines.items())]}
 
 
 def text_of(covered: Covered, names: Demangler, program: str, *_) -> str:

@@ -45,7 +45,7 @@ class Sides:
         return {begin + self.unit * index: side for begin, part in sorted(self.parts.items()) for index, side in enumerate(part) if side}
 
 
-VALUES = bytes(max(it - ord("0"), 0) & 3 for it in range(256))
+VALUES = bytes(max(byte - ord("0"), 0) & 3 for byte in range(256))
 
 
 @dataclass(frozen=True)
@@ -59,7 +59,7 @@ class Made:
 def why(fault: Fault) -> str:
     """Why a run couldn't be made, in a line."""
     said = fault.said.strip().splitlines() or [str(fault)]
-    return "; ".join(it.removeprefix("replaycheck: ") for it in said)
+    return "; ".join(line.removeprefix("replaycheck: ") for line in said)
 
 
 def parts_reached(session, sides: Sides, step) -> List[int]:

@@ -24,7 +24,7 @@ def share(part: int, whole: int) -> Tuple[str, str]:
 
 def counts(file: SourceFile) -> List[Tuple[int, int]]:
     """What was executed of the lines, taken of the branches, and executed of the functions, each with how many there are."""
-    ways = [is_taken for *_, it in file.branches for is_taken, _ in it.ways]
+    ways = [is_taken for *_, branch in file.branches for is_taken, _ in branch.ways]
     functions = [function.is_executed for function in file.functions.values()]
     return [(len(file.lines) - len(file.unexecuted), len(file.lines)), (sum(ways), len(ways)), (sum(functions), len(functions))]
 
@@ -53,9 +53,9 @@ def spans(file: SourceFile) -> str:
 def rows(covered: Covered) -> Iterator[List[str]]:
     every = [(file, counts(file)) for file in covered.files]
     for file, found in every:
-        yield [plain(file.name), *(it for pair in found for it in share(*pair)), spans(file)]
+        yield [plain(file.name), *(text for pair in found for text in share(*pair)), spans(file)]
     sums = [tuple(map(sum, zip(*column))) for column in zip(*(found for _, found in every))]
-    yield ["All files", *(it for pair in sums for it in share(*pair)), ""]
+    yield ["All files", *(text for pair in sums for text in share(*pair)), ""]
 
 
 def table(body: List[List[str]]) -> Iterator[str]:
@@ -79,10 +79,10 @@ def table(body: List[List[str]]) -> Iterator[str]:
 def ends(runs: Iterable[Made], step: int) -> str:
     """How many runs there are and in which states they are, the most frequent first."""
     states: dict = {}
-    for it in runs:
-        said = f"still running at step {step}" if it.state == "running" else it.state
+    for run in runs:
+        said = f"still running at step {step}" if run.state == "running" else run.state
         states[said] = states.get(said, 0) + 1
-    ordered = sorted(states.items(), key=lambda it: -it[1])
+    ordered = sorted(states.items(), key=lambda pair: -pair[1])
     total = sum(states.values())
     if len(ordered) == 1:
         return f"{total} run{'s' if total > 1 else ''}: {ordered[0][0]}"
@@ -91,13 +91,13 @@ def ends(runs: Iterable[Made], step: int) -> str:
 
 def never_called(covered: Covered, names: Demangler) -> Iterator[str]:
     """The functions that were never executed, if they are few."""
-    found = [(file, it) for file in covered.files for it in file.in_order() if not it.is_executed]
+    found = [(file, one) for file in covered.files for one in file.in_order() if not one.is_executed]
     if not 0 < len(found) <= MOST_NAMED:
         return
-    names.learn(it.name for _, it in found)
+    names.learn(one.name for _, one in found)
     yield "never executed:"
-    for file, it in found:
-        yield f"  {plain(names.name(it.name))} ({plain(file.name)}:{it.first})"
+    for file, function in found:
+        yield f"  {plain(names.name(function.name))} ({plain(file.name)}:{function.first})"
 
 
 def text_of(covered: Covered, names: Demangler, _, runs: List[Made], step: int) -> str:

@@ -42,7 +42,7 @@ def content(address, texts):
     for text in texts:
         table.append(at)
         at += len(text)
-    made = struct.pack(f"<{len(table) + 1}I", *(it % 2**32 for it in table), 0) + b"".join(texts)
+    made = struct.pack(f"<{len(table) + 1}I", *(word % 2**32 for word in table), 0) + b"".join(texts)
     return made + bytes(-len(made) % 4)
 
 
@@ -51,7 +51,7 @@ def patches_for(path, arguments):
     if not arguments:
         return []
     address, size = room_of(path, arguments)
-    made = content(address, [os.fsencode(it) + b"\0" for it in (path, *arguments)])
+    made = content(address, [os.fsencode(argument) + b"\0" for argument in (path, *arguments)])
     if len(made) > size:
         raise NoRoom(f"arguments refused: {path}: they need {len(made)} bytes, and {ROOM} has {size}")
     words = enumerate(word for word, in struct.iter_unpack("<I", made))

@@ -52,7 +52,7 @@ def heap_lines(report):
     """The summary of the heap."""
     sums = report.sums.values()
     yield "HEAP SUMMARY:"
-    yield f"    in use at exit: {sum(it.size for it in sums)} bytes in {sum(it.blocks for it in sums)} blocks"
+    yield f"    in use at exit: {sum(total.size for total in sums)} bytes in {sum(total.blocks for total in sums)} blocks"
     yield ""
 
 
@@ -69,7 +69,7 @@ def summary_lines(shown):
     """The sums of leaks, or that there are none, where a heap was seen; and of errors."""
     from replaycheck.file_heaps import has_heap  # here, as a quiet log has no sums
     report = shown.report
-    if any(it.blocks for it in report.sums.values()):
+    if any(total.blocks for total in report.sums.values()):
         yield "LEAK SUMMARY:"
         yield from (f"{name:>18}: {report.sums[name].size} bytes in {report.sums[name].blocks} blocks" for name in SUMS)
         yield ""

@@ -18,7 +18,7 @@ CODE, DATA = "$x", "$d"  # how the names of mapping symbols begin
 def joined(ranges):
     """Ranges in order, with those that meet made one."""
     together = []
-    for start, end in sorted([*it] for it in ranges if it[0] < it[1]):
+    for start, end in sorted([*pair] for pair in ranges if pair[0] < pair[1]):
         if together and start <= together[-1][1]:
             together[-1][1] = max(together[-1][1], end)
         else:
@@ -48,21 +48,22 @@ class Code:
     def __init__(self, path, isa, regions):
         with open(path, "rb") as file:
             data = file.read(LONGEST_FILE + 1)
-        refused = next((it for it in refusals(data, regions) if not it.readable), None)
+        refused = next((refusal for refusal in refusals(data, regions) if not refusal.readable), None)
         if refused:
             raise Fault(f"{path}: {refused.what}: {refused.cure}")
         self.elf, self.unit = Elf(data, regions), unit_of(isa)
-        self.ranges = ranges_of_code(self.elf, self.unit, [[start, start + len(it)] for _, start, it in ranges_of(data)])
+        self.ranges = ranges_of_code(self.elf, self.unit, [[start, start + len(stub)] for _, start, stub in ranges_of(data)])
         self.starts = self.resyncs()
 
     def resyncs(self) -> List[int]:
         """Where an instruction begins as a symbol says: a function, a label or a mapping symbol."""
-        return sorted({it.value for it in [*self.elf.functions, *self.elf.labels] if not it.value % self.unit}
+        return sorted({symbol.value for symbol in [*self.elf.functions, *self.elf.labels] if not symbol.value % self.unit}
                       | {symbol.value for symbol in self.elf.symbols if self.elf.name(symbol).startswith(CODE)})
 
     def data(self) -> List[List[int]]:
         """The ranges that mapping symbols call data."""
-        marks = sorted({(symbol.value, self.elf.name(symbol)[:2]) for symbol in self.elf.symbols if self.elf.name(symbol)[:2] in (CODE, DATA)})
+        marks = sorted({(symbol.value, self.elf.name(symbol)[:2]) for symbol in self.elf.symbols
+                        if self.elf.name(symbol)[:2] in (CODE, DATA)})
         ends = [value for value, _ in marks[1:]] + [1 << 32]
         return joined([value, end] for (value, name), end in zip(marks, ends) if name == DATA)
 
@@ -77,8 +78,8 @@ class Code:
         """The ranges that have instructions: code that is neither data nor a gap, and what was executed all the same."""
         left = without(self.ranges, joined([*self.data(), *self.gaps()]))
         starts = [start for start, _ in left]
-        more = [it for it in executed if not (at := bisect.bisect_right(starts, it)) or left[at - 1][1] <= it]
-        return joined([*left, *([it, it + self.unit] for it in more)])
+        more = [address for address in executed if not (at := bisect.bisect_right(starts, address)) or left[at - 1][1] <= address]
+        return joined([*left, *([address, address + self.unit] for address in more)])
 
     def instructions(self, executed: List[int]) -> Iterator[Instruction]:
         """All instructions, in order. One begins at each address that was executed, whatever the one before it is taken for."""
@@ -107,7 +108,7 @@ def ranges_of_code(elf, unit, stubs) -> List[List[int]]:
     """The ranges of a file's code, each from and to a multiple of a unit."""
     found = joined([section.addr, section.addr + section.size] for section in elf.sections if section.flags & HAS_CODE)
     if not elf.sections:
-        found = joined([it.vaddr, it.vaddr + it.filesz] for it in elf.contents if it.flags & EXECUTABLE)
-    outside = without(found, joined([it.vaddr, it.vaddr + it.filesz] for it in elf.contents))
+        found = joined([segment.vaddr, segment.vaddr + segment.filesz] for segment in elf.contents if segment.flags & EXECUTABLE)
+    outside = without(found, joined([segment.vaddr, segment.vaddr + segment.filesz] for segment in elf.contents))
     whole = ([start + -start % unit, end - end % unit] for start, end in without(found, outside))
     return without(joined(whole), joined(stubs))

@@ -47,7 +47,7 @@ class Elf:
         has_sections = word_at(data, SECTION_TABLE) and half_at(data, 48)
         self.sections = self.table(Section, "<10I", SECTION_TABLE, 48, SECTION_HEADER) if has_sections else []
         self.loads = [segment for segment in self.segments if segment.kind == LOAD and (segment.memsz or segment.filesz)]
-        self.symbol_table = next((i for i, it in enumerate(self.sections) if it.kind == SYMBOLS), None)
+        self.symbol_table = next((i for i, section in enumerate(self.sections) if section.kind == SYMBOLS), None)
 
     @functools.cached_property
     def loaded(self):
@@ -56,7 +56,7 @@ class Elf:
 
     def table(self, form, layout, place, count, size):
         at = word_at(self.data, place)
-        return [form(*it) for it in struct.iter_unpack(layout, self.data[at:at + half_at(self.data, count) * size])]
+        return [form(*fields) for fields in struct.iter_unpack(layout, self.data[at:at + half_at(self.data, count) * size])]
 
     def section_named(self, name):
         """The first section of a name, or None."""
@@ -88,7 +88,9 @@ class Elf:
         """A symbol's name, with what can't be printed as `\\x1b`."""
         start = symbol.name
         text = self.strings[start:start + LONGEST_NAME].partition(b"\0")[0].decode("ascii", "backslashreplace")
-        return text if text.isprintable() else "".join(it if it.isprintable() else f"\\x{ord(it):02x}" for it in text)
+        if text.isprintable():
+            return text
+        return "".join(character if character.isprintable() else f"\\x{ord(character):02x}" for character in text)
 
     def named(self, symbols, name):
         """Those of some symbols that have this name. A name may be the end of a longer text."""
@@ -99,18 +101,18 @@ class Elf:
     def labels(self):
         """Symbols in code that are neither functions nor objects: what an assembler's file has where it names no
         type."""
-        code = {i for i, it in enumerate(self.sections) if it.flags & HAS_CODE}
+        code = {i for i, section in enumerate(self.sections) if section.flags & HAS_CODE}
         return [symbol for symbol in self.symbols if symbol.info & 15 == NO_TYPE and symbol.section in code
                 and self.name(symbol)[:1] not in ("$", ".", "")]
 
     @functools.cached_property
     def contents(self):
         """The segments that have bytes in the file, by address."""
-        return sorted((load for load in self.loads if load.filesz), key=lambda it: it.vaddr)
+        return sorted((load for load in self.loads if load.filesz), key=lambda load: load.vaddr)
 
     @functools.cached_property
     def content_starts(self):
-        return [it.vaddr for it in self.contents]
+        return [segment.vaddr for segment in self.contents]
 
     def content_at(self, address):
         """The segment that has an address's byte in the file, or None."""
@@ -238,11 +240,11 @@ def bad_symbols(elf):
 
 def meeting(elf):
     """Refusals by where segments lie: each that meets a region, and the first two that meet."""
-    segments = sorted((load for load in elf.loads if load.memsz), key=lambda it: (it.vaddr, it.memsz))
+    segments = sorted((load for load in elf.loads if load.memsz), key=lambda load: (load.vaddr, load.memsz))
     ranges = [(segment.vaddr, segment.vaddr + segment.memsz) for segment in segments]
-    for it, (start, end) in zip(segments, ranges):
+    for header, (start, end) in zip(segments, ranges):
         for name, low, high in elf.regions.ranges:
-            if name in elf.regions.met(it):
+            if name in elf.regions.met(header):
                 yield Refusal(29, f"a segment at 0x{start:08x} to 0x{end - 1:08x}, in the {name}'s region, "
                               f"0x{low:08x} to 0x{high - 1:08x}",
                               "give that memory another ORIGIN in the linker script, such as 0x80000000", True, name)

@@ -16,14 +16,14 @@ def shown(text):
     if isinstance(text, str):
         text = text.encode("utf-8", "surrogateescape")
     cut = text[:LONGEST_SHOWN]
-    told = "".join(chr(it) if 32 <= it < 127 else f"\\x{it:02x}" for it in cut)
+    told = "".join(chr(byte) if 32 <= byte < 127 else f"\\x{byte:02x}" for byte in cut)
     return told + ("..." if len(text) > len(cut) else "")
 
 
 def shown_name(text):
     """A file's name as a terminal may have it: printable characters as they are, all else as `\\x1b`, and not too
     many."""
-    return "".join(it if it.isprintable() else shown(it) for it in text[:LONGEST_SHOWN]) + (
+    return "".join(character if character.isprintable() else shown(character) for character in text[:LONGEST_SHOWN]) + (
         "..." if len(text) > LONGEST_SHOWN else "")
 
 

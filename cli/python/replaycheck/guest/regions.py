@@ -42,7 +42,7 @@ class Regions:
     def options(self):
         """The options that say what isn't usual, each with its value."""
         usual = USUAL_REGIONS.limits
-        return self.places + [it for it in self.limits if it not in usual]
+        return self.places + [option for option in self.limits if option not in usual]
 
     @property
     def words(self):

@@ -15,7 +15,7 @@ MAPPING = b"$"  # what the assembler calls places where code and data meet
 
 def shown(name: bytes) -> str:
     """Returns a name as a report has it: `?` for each byte that is no visible ASCII character."""
-    return "".join(chr(it) if 0x21 <= it <= 0x7E else "?" for it in name)
+    return "".join(chr(byte) if 0x21 <= byte <= 0x7E else "?" for byte in name)
 
 
 class Symbols:

@@ -16,7 +16,8 @@ def regions_for(isa: str, heap: int, stack: Tuple[int, int], moved: int = USUAL_
 
     `Usage` if there is no such instruction set, if a region can't be there, if both overlap, or if a number is none."""
     check_heap(isa, heap)
-    if not (isinstance(stack, tuple) and len(stack) == 2 and all(isinstance(it, int) and it >= 0 for it in stack) and is_stack(*stack)):
+    if not (isinstance(stack, tuple) and len(stack) == 2 and all(isinstance(address, int) and address >= 0 for address in stack)
+            and is_stack(*stack)):
         raise Usage(f"stack_region: {stack!r}: not {STACK_WANTED}")
     if not isinstance(moved, int) or not 1 <= moved <= GREATEST_MOVED:
         raise Usage(f"most_moved: {moved!r}: not a number from 1 to {GREATEST_MOVED}")

@@ -23,7 +23,7 @@ from replaycheck.scripting.talks import Talk
 WORD = 4
 KINDS = ("run", "read", "write", "shadow", "error")
 NAMED = {name: f"x{number}" for number, name in enumerate(Registers._fields) if number}
-ALTERED = {**NAMED, **{it: it for it in NAMED.values()}, "fp": NAMED["s0"], "pc": "pc"}  # registers that can be set, by their names
+ALTERED = {**NAMED, **{name: name for name in NAMED.values()}, "fp": NAMED["s0"], "pc": "pc"}  # registers that can be set, by their names
 MOST_WRITTEN = 4096  # bytes of output that one look returns
 
 
@@ -273,7 +273,7 @@ class Run:
             data.append(bytes.fromhex(rows[0].split()[1]))
             digits = rows[1].split()[1]
             pairs = (digits[i:i + 2] for i in range(0, len(digits), 2))
-            undefined += [None if it == "__" else int(it, 16) for it in pairs]
+            undefined += [None if pair == "__" else int(pair, 16) for pair in pairs]
         return Memory(begin, b"".join(data), tuple(undefined))
 
     # ---- which step does something

@@ -78,7 +78,7 @@ class Scenario:
             value = other.options.get(name, usual)
             if value != self.options.get(name, usual):
                 yield f"option {name} {value}"
-        yield from (f"supp add {it}" for it in other.added[len(self.added):])
+        yield from (f"supp add {suppression}" for suppression in other.added[len(self.added):])
         yield from (f"supp off {index}" for index in sorted(other.off - self.off))
         yield from (f"supp on {index}" for index in sorted(self.off - other.off))
 

@@ -79,7 +79,7 @@ class Memory:
     @property
     def is_defined(self) -> bool:
         """Whether each byte may be accessed and has no undefined bit."""
-        return not any(it or it is None for it in self.undefined)
+        return not any(bits or bits is None for bits in self.undefined)
 
 
 @dataclass(frozen=True)

@@ -37,7 +37,7 @@ class Outcome:
         read_out = outcomes.Outcome(number, text)
         self.number, self.text, self.state = number, text.decode("ascii"), read_out.state
         self.parts: List[str] = [part.text for part in read_out.parts]
-        self.news: List[str] = [it.text for it in read_out.news(outcomes.Outcome(0, unedited))]
+        self.news: List[str] = [part.text for part in read_out.news(outcomes.Outcome(0, unedited))]
         self.has_errors: bool = read_out.has_errors
 
     def __repr__(self) -> str:
@@ -87,7 +87,7 @@ def hinders(line: str, *, isa: str = ISAS[0], heap_region: int = USUAL_REGIONS.h
     `Usage` for a text that is no edit, an unknown instruction set, and an address at which no heap is."""
     check_heap(isa, heap_region)
     try:
-        if all(it.split(" ")[0] in EDITS for it in line.split("; ")):
+        if all(edit.split(" ")[0] in EDITS for edit in line.split("; ")):
             return hindering.hinders(line, isa, heap_region)
     except (ValueError, IndexError):
         pass
@@ -127,7 +127,7 @@ def rows_of(data: Dict[str, bytes], options: List[str], names: Dict[str, str]) -
             rooms = {what: held.enter_context(closing(Room(what, content))) for what, content in data.items()}
             words = [built_program(), "sweep", *options]
             words += [f"--{option}={rooms[what].path}" for what, option in (("input", "input"), ("suppressions", "supp")) if what in rooms]
-            child = piped([*words, rooms["image"].path], [it.number for it in rooms.values()])
+            child = piped([*words, rooms["image"].path], [room.number for room in rooms.values()])
         except (Fault, OSError) as fault:
             raise Error(str(fault)) from None
         held.callback(leave, child)

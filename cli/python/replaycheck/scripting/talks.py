@@ -83,7 +83,7 @@ class Talk(looking.Run):
         lines = [*Scenario(self.scenario.input).lines_to(self.scenario, self.unedited), f"goto {self.chosen}"]
         self.is_sure = False
         try:
-            lent = [it.number for it in self.rooms.values()]
+            lent = [room.number for room in self.rooms.values()]
             program, given, supp = self.files
             session = self.session = Session(program, given, supp, keeps_status=True, lends=lent, command="look", path=built_program(),
                                              isa=self.isa, regions=self.regions, limit=self.limit)
