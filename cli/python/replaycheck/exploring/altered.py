@@ -64,10 +64,10 @@ class Instructions:
             self.addresses.update(((step, skipped), None) for step in steps)
             return
         session.send([line for step in steps for line in (f"goto {step}", "look registers")])
-        for it in steps:
+        for step in steps:
             session.reply()
             state = session.reply("look registers")[0].split(" ")
-            self.addresses[it, skipped] = int(state[2], 16) if state[1] == "running" else None
+            self.addresses[step, skipped] = int(state[2], 16) if state[1] == "running" else None
         if skipped is not None:
             session.accepted("unmark 0")
 
@@ -84,8 +84,9 @@ class Instructions:
     def where(self, address: int) -> str:
         """A place in the program: `verify+0x24 (boot.c:71), lw ra,28(sp)`."""
         elf, name = self.request.elf, f"0x{address:08x}"
-        found = [it.before(address) for it in (elf.function_places, elf.label_places)] if elf else []
-        symbol = next((it for it in found if it and (not it.size or address < it.value + it.size)), None)
+        found = [places.before(address) for places in (elf.function_places, elf.label_places)] if elf else []
+        symbol = next((candidate for candidate in found
+                       if candidate and (not candidate.size or address < candidate.value + candidate.size)), None)
         if symbol:
             away = address - symbol.value
             name = shown_name(elf.name(symbol)) + (f"+0x{away:x}" if away else "")

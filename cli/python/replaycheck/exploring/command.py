@@ -95,7 +95,7 @@ def check(parser: Parser, options: Namespace) -> None:
               (options.seed is not None and options.sample is None, "--seed goes with --sample"),
               (options.tables and options.sample is not None, "--sample makes parts: not of --from"),
               *((options.file is None and getattr(options, name) is not None, f"--{name} goes with a FILE") for name in ("html", "lcov")),
-              (len(printed) > 1, f"{' and '.join(f'{it} -' for it in printed)} at once"),
+              (len(printed) > 1, f"{' and '.join(f'{option} -' for option in printed)} at once"),
               ("" in (*(getattr(options, name) for name in OUTPUTS), options.keep, options.code, options.goal),
                "an option without a value")]
     for is_so, text in faults:
@@ -117,8 +117,8 @@ def tables_given(options, request, room):
             with open(name, "rb") as file:
                 path = spooled(file, name, room)
         found += sources_in(path, "standard input" if name == "-" else name)
-    for it in found if request else ():
-        request.check_files(it)
+    for source in found if request else ():
+        request.check_files(source)
     return in_order(found)
 
 
@@ -174,7 +174,7 @@ def told(options, request, sources, notes, room, outputs, executed):
     lines = SourceLines(request and os.path.abspath(request.program.path))
     instructions = Instructions(request, lines)
     recording = Recording(request, merged, goal, jobs_of(options)) if "html" in outputs else None
-    takers = [it.add for it in (goal, picture, executed, recording) if it]
+    takers = [taker.add for taker in (goal, picture, executed, recording) if taker]
     is_table = "table" in outputs and options.sample is None
     for place in merged.places(outputs["table"].write if is_table else None):
         for take in takers:
@@ -190,10 +190,10 @@ def told(options, request, sources, notes, room, outputs, executed):
     if covered:
         outputs["lcov"].write(lcov.text_of(covered).encode("utf-8", "surrogateescape"))
     if "table" in outputs and not is_table:
-        for it in sources:
-            outputs["table"].copy(it.path)
-    for it in outputs.values():
-        it.end()
+        for source in sources:
+            outputs["table"].copy(source.path)
+    for output in outputs.values():
+        output.end()
     if "-" not in [getattr(options, name) for name in OUTPUTS]:
         write(goal.told(instructions) if goal else "".join(f"{line}\n" for line in summary.lines()))
     flush()

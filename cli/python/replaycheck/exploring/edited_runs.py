@@ -38,14 +38,14 @@ UNEDITED = Edit([], [], None, True)
 
 def edits_of(place, request) -> Iterator[Edit]:
     """The edits of a place of a table."""
-    it, at = place.range, place.at
-    before = None if it.kind == "steps" else request.before(it, at)
+    one_range, at = place.range, place.at
+    before = None if one_range.kind == "steps" else request.before(one_range, at)
     for value in place.edits:
-        lines = it.line(at, value).split("; ")
-        if it.kind == "steps":
+        lines = one_range.line(at, value).split("; ")
+        if one_range.kind == "steps":
             yield Edit(lines, ["unmark 0"] * len(lines), None, False)
         else:
-            yield Edit(lines, [] if before is None else [it.line(at, before)], (it.kind, at), it.kind == "bytes")
+            yield Edit(lines, [] if before is None else [one_range.line(at, before)], (one_range.kind, at), one_range.kind == "bytes")
 
 
 def fault_of(edit: Edit, fault: Fault, option: str) -> Fault:
@@ -112,9 +112,9 @@ class Looker:
         edit, stands = asked.edit, self.stands
         lines = [*([] if edit.place and edit.place == stands.place else stands.back), *edit.lines]
         told = [*((line, None) for line in lines), *looks]
-        self.waiting.extend((asked, *it) for it in told)
+        self.waiting.extend((asked, *pair) for pair in told)
         self.unsent += "".join(f"{line}\n" for line, _ in told).encode("ascii")
-        self.lines += sum(not it.startswith("look ") for it, _ in told)
+        self.lines += sum(not line.startswith("look ") for line, _ in told)
         self.stands = edit
 
     def send(self) -> None:
@@ -152,32 +152,32 @@ class Lookers:
 
     @property
     def has_room(self) -> bool:
-        return any(it.has_room for it in self.all)
+        return any(looker.has_room for looker in self.all)
 
     @property
     def is_waiting(self) -> bool:
         """Whether a reply is to come."""
-        return any(it.waiting for it in self.all)
+        return any(looker.waiting for looker in self.all)
 
     def renew(self) -> None:
         """Ends the sessions that have had their lines. Others take their places."""
-        for it in self.all:
-            if it.lines >= MOST_LINES and not it.waiting:
-                it.close()
+        for looker in self.all:
+            if looker.lines >= MOST_LINES and not looker.waiting:
+                looker.close()
 
     def give(self, asked: Any, looks: List[Tuple[str, Any]]) -> None:
         """Gives an edit with its looks to the session that has the fewest lines to answer. One must have room."""
-        min((it for it in self.all if it.has_room), key=lambda it: len(it.waiting)).give(asked, looks)
+        min((looker for looker in self.all if looker.has_room), key=lambda looker: len(looker.waiting)).give(asked, looks)
 
     def replies(self) -> Iterator[Answer]:
         """Sends what was given, waits for something to come, and yields the replies that are whole."""
-        for it in self.all:
-            it.send()
+        for looker in self.all:
+            looker.send()
         for key, _ in self.selector.select() if self.is_waiting else ():
             yield from key.data.replies()
             key.data.send()
 
     def close(self) -> None:
-        for it in self.all:
-            it.close()
+        for looker in self.all:
+            looker.close()
         self.selector.close()

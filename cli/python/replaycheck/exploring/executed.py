@@ -102,7 +102,7 @@ class Executed:
         if not others:
             return found
         searches = [f"look next run 0x{begin:x} {length} {self.step}" for begin, length in others]
-        return [*((it, None) for it in ("goto 0", *searches, f"goto {self.step}")), *found]
+        return [*((line, None) for line in ("goto 0", *searches, f"goto {self.step}")), *found]
 
     def search(self, edit: Edit):
         """Adds the parts that a run reaches, by a session of its own."""
@@ -171,8 +171,8 @@ class Executed:
             self.sides.add_line(at, digits.decode("ascii"))
         if self.progress:
             self.progress.end()
-        for it in self.request.files:
-            check_unchanged(it, OPTION)
+        for file in self.request.files:
+            check_unchanged(file, OPTION)
         return Covered(self.path, self.code, self.all(), self.places)
 
 
@@ -180,17 +180,17 @@ def told_range(program: bytes) -> Tuple[int, int]:
     """The addresses of which a table says what was executed: of the file's bytes of the segment in which the program begins, at most
     4 MiB."""
     elf = Elf(program)
-    for it in elf.loads:
-        if it.vaddr <= elf.entry < it.vaddr + it.memsz:
-            low = it.vaddr - it.vaddr % 4
-            return low, low + min(it.vaddr % 4 + it.filesz, MOST_TOLD)
+    for segment in elf.loads:
+        if segment.vaddr <= elf.entry < segment.vaddr + segment.memsz:
+            low = segment.vaddr - segment.vaddr % 4
+            return low, low + min(segment.vaddr % 4 + segment.filesz, MOST_TOLD)
     return 0, 0
 
 
 def check_lines(path, code: Code, places: Places):
     """Rejects a program without source lines before anything is done."""
-    for it in code.instructions([]):
-        if places.at(f"0x{it.address:08x}"):
+    for instruction in code.instructions([]):
+        if places.at(f"0x{instruction.address:08x}"):
             return
     Covered(path, code, {}, places)
 
@@ -198,8 +198,8 @@ def check_lines(path, code: Code, places: Places):
 def told(covered: Covered) -> str:
     """A line that says how many lines are executed, and which aren't, of the files that have the most."""
     counts = [(len(file.lines) - len(file.unexecuted), file) for file in covered.files]
-    named = sorted((count for count in counts if count[0]), key=lambda it: (-it[0], it[1].name))[:MOST_FILES]
-    texts = [f"{count} of {len(it.lines)}{'' if at else ' lines'} of {lcov.plain(os.path.basename(it.name))}"
-             + (f" (never {spans(it)})" if it.unexecuted else "") for at, (count, it) in enumerate(named)]
+    named = sorted((count for count in counts if count[0]), key=lambda count: (-count[0], count[1].name))[:MOST_FILES]
+    texts = [f"{count} of {len(file.lines)}{'' if at else ' lines'} of {lcov.plain(os.path.basename(file.name))}"
+             + (f" (never {spans(file)})" if file.unexecuted else "") for at, (count, file) in enumerate(named)]
     more = len(counts) - len(named)
     return "executed: " + ", ".join([*(texts or ["no line"]), *([f"{more} more file{'s' * (more > 1)}"] if more else [])])

@@ -42,9 +42,9 @@ class Goal:
         self.file.seek(0)
         lines = self.file.read().splitlines()
         instructions.learn(line for line in lines if line.startswith(AT_STEPS))
-        for it in lines:
-            told = "; ".join(where for _, where in instructions.told(it)) if it.startswith(AT_STEPS) else ""
-            yield f"{it}: {told}\n" if told else f"{it}\n"
+        for line in lines:
+            told = "; ".join(where for _, where in instructions.told(line)) if line.startswith(AT_STEPS) else ""
+            yield f"{line}: {told}\n" if told else f"{line}\n"
 
     def told(self, instructions):
         """The edits, a line each, how many others still run, and the number of the edits."""

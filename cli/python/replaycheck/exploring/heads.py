@@ -51,12 +51,12 @@ class Head:
     @property
     def places(self) -> int:
         """How many ordinals there are."""
-        return sum(it.size for it in self.ranges)
+        return sum(one_range.size for one_range in self.ranges)
 
     @property
     def is_counted(self) -> bool:
         """Whether it is known how many places there are: of instructions the program's file says that."""
-        return not any(isinstance(it, Code) and it.known is None for it in self.ranges)
+        return not any(isinstance(one_range, Code) and one_range.known is None for one_range in self.ranges)
 
     @property
     def interval(self) -> Optional[Tuple[int, int]]:
@@ -66,21 +66,21 @@ class Head:
             return 0, self.places
         if not self.is_counted:
             return None
-        total = sum(it.count for it in self.ranges)
+        total = sum(one_range.count for one_range in self.ranges)
         return self.ordinal(cut(total, index - 1, count)), self.ordinal(cut(total, index, count))
 
     def ordinal(self, number: int) -> int:
         """The ordinal of the place with a number among all: 0 for the first one, and the number of all ordinals past the last one."""
         before = 0
-        for it in self.ranges if number else ():
-            if number < it.count:
-                return before + it.ordinal(number)
-            before, number = before + it.size, number - it.count
+        for one_range in self.ranges if number else ():
+            if number < one_range.count:
+                return before + one_range.ordinal(number)
+            before, number = before + one_range.size, number - one_range.count
         return before
 
     def over(self, known: Callable[[Code], Code]) -> Head:
         """The head with the instructions that the program's file has: `known` gives a range with them."""
-        return replace(self, ranges=tuple(known(it) if isinstance(it, Code) else it for it in self.ranges))
+        return replace(self, ranges=tuple(known(one_range) if isinstance(one_range, Code) else one_range for one_range in self.ranges))
 
     def same(self):
         """What must be equal in the parts of one sweep."""
@@ -118,7 +118,7 @@ def values_of(lines, text, limit):
     """A name, or a list of numbers, none twice."""
     if text.isalpha():
         return text.decode()
-    found = tuple(at_most(lines, it, limit, "a value") for it in text.split(b","))
+    found = tuple(at_most(lines, number, limit, "a value") for number in text.split(b","))
     if len(set(found)) < len(found):
         lines.fault("a value twice")
     return found
@@ -242,7 +242,7 @@ def read_version(lines):
         raise BadTable(f"{lines.name}: a table in the form that `replaycheck sweep --table` wrote before: make it anew "
                        "by `replaycheck explore --table`, or by `replaycheck sweep` with --part")
     if lines.next not in VERSIONS:
-        known = " and ".join(f"`{it.decode()}`" for it in VERSIONS)
+        known = " and ".join(f"`{version.decode()}`" for version in VERSIONS)
         lines.here(f"an unknown version: {shown(lines.next)}; this reads {known}" if re.fullmatch(rb"sweep [0-9]+", lines.next) else
                    f"no table of a sweep: it begins with {shown(lines.next)}")
     lines.go_on()
@@ -273,4 +273,5 @@ def read_head(lines):
     if ranges[2] and ranges[2].last >= step:
         lines.fault(f"steps up to {ranges[2].last}, and runs that are compared at step {step}")
     lines.taken = None
-    return Head(before, isa, regions, files, tuple(it for it in ranges if it), has_sides, step, has_output, (index, count))
+    return Head(before, isa, regions, files, tuple(one_range for one_range in ranges if one_range), has_sides, step, has_output,
+                (index, count))

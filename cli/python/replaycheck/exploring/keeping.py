@@ -49,11 +49,11 @@ class Kept:
             fcntl.flock(self.lock, fcntl.LOCK_EX | fcntl.LOCK_NB)
         except BlockingIOError:
             raise Fault(f"{shown_name(path)}: another `explore` is using this folder") from None
-        self.found = [it for it in map(TABLE.fullmatch, sorted(os.listdir(path))) if it]
+        self.found = [match for match in map(TABLE.fullmatch, sorted(os.listdir(path))) if match]
 
     def count(self, wanted):
         """How many parts the sweep is cut into: as many as the tables here say, or as are wanted."""
-        counts = {int(it[2]) for it in self.found}
+        counts = {int(match[2]) for match in self.found}
         if len(counts) > 1 or wanted and counts - {wanted}:
             told = " and of ".join(map(str, sorted(counts)))
             raise Fault(f"{shown_name(self.path)}: it keeps another request: parts of {told}"
@@ -62,14 +62,14 @@ class Kept:
 
     def has_sides(self):
         """Whether the tables that are here say what their runs have executed; None if there are none that can be read."""
-        for it in self.found:
+        for match in self.found:
             with contextlib.suppress(OSError, Fault):
-                return next(sources_in(os.path.join(self.path, it[0]), it[0])).head.has_sides
+                return next(sources_in(os.path.join(self.path, match[0]), match[0])).head.has_sides
         return None
 
     def parts(self, runner):
         """The tables that are here, by the numbers of their parts."""
-        return {int(it[1]): self.part(runner, it) for it in self.found}
+        return {int(match[1]): self.part(runner, match) for match in self.found}
 
     def part(self, runner, found):
         """The table of a file with the name of a part."""

@@ -32,12 +32,12 @@ def is_same(number_of_file, path):
 def remove_left(folder):
     """Removes what killed runs of this user left in a folder."""
     with contextlib.suppress(OSError), os.scandir(folder) as entries:
-        for it in entries:
+        for entry in entries:
             with contextlib.suppress(OSError):
-                found = it.stat(follow_symlinks=False)
-                is_ours = NAME.fullmatch(it.name) and found.st_uid == os.getuid()
+                found = entry.stat(follow_symlinks=False)
+                is_ours = NAME.fullmatch(entry.name) and found.st_uid == os.getuid()
                 if is_ours and (stat.S_ISREG(found.st_mode) or stat.S_ISDIR(found.st_mode)):
-                    remove_unlocked(it.path, stat.S_ISDIR(found.st_mode))
+                    remove_unlocked(entry.path, stat.S_ISDIR(found.st_mode))
 
 
 def remove_unlocked(path, is_folder):

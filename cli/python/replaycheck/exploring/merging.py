@@ -91,24 +91,24 @@ class Ahead:
 def in_order(sources, sample: Optional[Tuple[List[int], int]] = None):
     """Tables by their places. All are parts of one sweep, and together they are the whole of it, or just the parts that
     are a sample: their numbers, of how many."""
-    sources = sorted(sources, key=lambda it: (it.head.interval or (), it.head.part))
+    sources = sorted(sources, key=lambda table: (table.head.interval or (), table.head.part))
     first = sources[0]
-    for it in sources[1:]:
-        if it.head.same() != first.head.same():
-            raise BadTable(f"{it} is of another sweep than {first}: {difference(it.head, first.head)}")
+    for source in sources[1:]:
+        if source.head.same() != first.head.same():
+            raise BadTable(f"{source} is of another sweep than {first}: {difference(source.head, first.head)}")
     if sample is not None:
         return expected(sources, [(index, sample[1]) for index in sample[0]])
     check_numbers(sources)
     if not first.head.is_counted:
         return sources
     end, before = 0, None
-    for it in sources:
-        low, high = it.head.interval
+    for source in sources:
+        low, high = source.head.interval
         if low > end:
-            raise BadTable(f"a gap: no table has the places {end} to {low - 1}, before {it}")
+            raise BadTable(f"a gap: no table has the places {end} to {low - 1}, before {source}")
         if low < end and high > low:
-            raise BadTable(f"an overlap: the places from {low} on are in {before} and in {it}")
-        end, before = max(end, high), it if high > low else before
+            raise BadTable(f"an overlap: the places from {low} on are in {before} and in {source}")
+        end, before = max(end, high), source if high > low else before
     if end < first.head.places:
         raise BadTable(f"a gap: no table has the places {end} to {first.head.places - 1}, after {before}")
     return sources
@@ -123,14 +123,14 @@ def check_numbers(sources):
             raise BadTable(f"parts of cuts into {cuts}: which instructions are in each is known only with the program's FILE")
         return
     count, met = counts.pop(), {}
-    for it in sources:
-        if it.head.part[0] in met:
-            raise BadTable(f"an overlap: part {it.head.part[0]}/{count} is in {met[it.head.part[0]]} and in {it}")
-        met[it.head.part[0]] = it
-    missing = [it for it in range(1, count + 1) if it not in met][:9] if len(met) < count else []
+    for source in sources:
+        if source.head.part[0] in met:
+            raise BadTable(f"an overlap: part {source.head.part[0]}/{count} is in {met[source.head.part[0]]} and in {source}")
+        met[source.head.part[0]] = source
+    missing = [number for number in range(1, count + 1) if number not in met][:9] if len(met) < count else []
     if missing:
         more = count - len(met) - len(missing)
-        told = ", ".join(f"{it}/{count}" for it in missing)
+        told = ", ".join(f"{number}/{count}" for number in missing)
         raise BadTable(f"missing: part {told}{f' and {more} more' if more else ''}")
 
 
@@ -155,10 +155,10 @@ def difference(one, other):
                     f"{right[1][:16]}..")
     if one.has_sides != other.has_sides:
         return f"{'' if one.has_sides else 'without '}sides, not {'without ' if one.has_sides else ''}sides"
-    names = [(it.ranges, it.step, it.has_output) for it in (one, other)]
+    names = [(head.ranges, head.step, head.has_output) for head in (one, other)]
     for what, left, right in zip(("", "step ", "output "), *names):
         if left != right:
-            told = [" and ".join(map(str, it)) if isinstance(it, tuple) else it for it in (left, right)]
+            told = [" and ".join(map(str, value)) if isinstance(value, tuple) else value for value in (left, right)]
             return f"{what}{told[0]}, not {what}{told[1]}"
     return "another head"
 

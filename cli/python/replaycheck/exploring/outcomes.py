@@ -63,8 +63,8 @@ class Outcome:
         had = {part.text for part in unedited.parts} | {unedited.state}
         address = self.state.partition(" 0x")[2]
         stop = Part(self.state, address and f"0x{address}")
-        found = [it for it in [stop, *self.parts] if it.badness and it.text not in had]
-        return sorted(found, key=lambda it: -it.badness)
+        found = [part for part in [stop, *self.parts] if part.badness and part.text not in had]
+        return sorted(found, key=lambda part: -part.badness)
 
     def badness(self, unedited):
         """The greater, the worse; 0 where nothing is new."""

@@ -92,8 +92,8 @@ class Outputs:
         return self.files
 
     def __exit__(self, *_):
-        for it in self.files.values():
-            it.clear()
+        for output in self.files.values():
+            output.clear()
 
 
 # ---- outputs that would overwrite a file

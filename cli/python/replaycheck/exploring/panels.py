@@ -22,11 +22,11 @@ class Cell:
 class Panel:
     """The places of a range that the tables have. `begin` is the ordinal of its first place."""
 
-    def __init__(self, it, begin, intervals):
-        self.range, self.columns_at, self.numbers = it, [], []
+    def __init__(self, one_range, begin, intervals):
+        self.range, self.columns_at, self.numbers = one_range, [], []
         self.count = 0
         for low, high in intervals:
-            low, high = (it.number(min(max(at - begin, 0), it.size)) for at in (low, high))
+            low, high = (one_range.number(min(max(at - begin, 0), one_range.size)) for at in (low, high))
             if low < high:
                 self.columns_at.append(self.count)
                 self.numbers.append(low)
@@ -134,8 +134,8 @@ def panels_of(head, sources):
     if None in intervals:  # the parts of a whole, which aren't counted
         intervals = [(0, head.places)]
     begin, found = 0, []
-    for it in head.ranges:
-        if it.kind != "steps":
-            found.append(Panel(it, begin, intervals))
-        begin += it.size
+    for one_range in head.ranges:
+        if one_range.kind != "steps":
+            found.append(Panel(one_range, begin, intervals))
+        begin += one_range.size
     return found

@@ -37,7 +37,7 @@ class Picture:
 
     def __init__(self, merged, sources, goal=None):
         self.merged, self.panels, self.outcomes, self.goal = merged, panels_of(merged.head, sources), [], goal
-        self.steps = next((StepPanels(it) for it in merged.head.ranges if it.kind == "steps"), None)
+        self.steps = next((StepPanels(one_range) for one_range in merged.head.ranges if one_range.kind == "steps"), None)
 
     def add(self, place):
         if place.range.kind == "steps":
@@ -77,12 +77,13 @@ class Picture:
         self.summary = summary
         if self.steps:
             self.colours = {"o0": UNEDITED, "n": OTHER_NEW, "o": OTHER}
-            self.kinds = {it: kind_of_rank(self.rank(it)) for it in range(len(self.merged.outcomes))}
-            named = {**{f"n{i + 1}": it for i, it in enumerate(NEW)}, **{f"o{i + 1}": it for i, it in enumerate(NOT_NEW)}, "g": GOAL}
-            self.colours.update((it, named[it]) for it in named if it in self.kinds.values())
+            self.kinds = {number: kind_of_rank(self.rank(number)) for number in range(len(self.merged.outcomes))}
+            named = {**{f"n{i + 1}": colour for i, colour in enumerate(NEW)},
+                     **{f"o{i + 1}": colour for i, colour in enumerate(NOT_NEW)}, "g": GOAL}
+            self.colours.update((kind, named[kind]) for kind in named if kind in self.kinds.values())
             self.colours["band"] = BAND
             return
-        self.kinds = {it: self.kind_of(it) for it in range(len(self.merged.outcomes))}
+        self.kinds = {number: self.kind_of(number) for number in range(len(self.merged.outcomes))}
         self.colours = {name: BY_KIND[name][2] for name in BY_KIND if name in self.kinds.values()}
 
     def kind_of(self, number):
@@ -166,8 +167,8 @@ class Picture:
     def told(self, number):
         """An outcome in one line."""
         outcome = self.summary.outcomes[number]
-        return "; ".join([outcome.told, *(self.summary.sources.told(it) for it in self.summary.news[number]
-                                          if it.text != outcome.state)])
+        return "; ".join([outcome.told, *(self.summary.sources.told(part) for part in self.summary.news[number]
+                                          if part.text != outcome.state)])
 
     def axes(self, panel, top):
         below, right = top + panel.tall * panel.rows, LEFT + panel.wide * panel.bins
@@ -184,7 +185,7 @@ class Picture:
 
     def first_of(self, numbers):
         """Of outcomes of one kind that with the most edits: its worst that is new, or how it ends; and how many more there are."""
-        number = max(numbers, key=lambda it: (self.merged.tallies[it], -it))
+        number = max(numbers, key=lambda candidate: (self.merged.tallies[candidate], -candidate))
         news = self.summary.news[number]
         more = f"; and {len(numbers) - 1} more" if len(numbers) > 1 else ""
         return (self.summary.sources.told(news[0]) if news else self.told(number)) + more

@@ -166,15 +166,15 @@ class Loaded:
 def loaded(elf: Elf) -> Iterator[Tuple[int, bytearray]]:
     """What a file loads, in order: where memory begins whose bytes come one after another, and its bytes."""
     begin, content = 0, bytearray()
-    for it in sorted((load for load in elf.loads if load.memsz), key=lambda it: it.vaddr):
-        in_file = elf.data[it.offset:it.offset + it.filesz]
-        for low, high in elf.regions.loaded(it):
+    for segment in sorted((load for load in elf.loads if load.memsz), key=lambda load: load.vaddr):
+        in_file = elf.data[segment.offset:segment.offset + segment.filesz]
+        for low, high in elf.regions.loaded(segment):
             if content and low != begin + len(content):
                 yield begin, content
                 content = bytearray()
             if not content:
                 begin = low
-            content += in_file[low - it.vaddr:].ljust(high - low, b"\0")
+            content += in_file[low - segment.vaddr:].ljust(high - low, b"\0")
     if content:
         yield begin, content
 
@@ -195,7 +195,7 @@ class Code(Range):
     def most_edits(self) -> int:
         if self.known is None:
             return super().most_edits
-        return sum(len(self.wanted(it) or ()) for it in self.known.starts)
+        return sum(len(self.wanted(at) or ()) for at in self.known.starts)
 
     @property
     def count(self) -> int:
@@ -233,7 +233,7 @@ class Code(Range):
         if self.known is None:
             return None
         length, was = self.known.found[at]
-        return [it for it in values_for(self.values, length, was) if it != was]
+        return [value for value in values_for(self.values, length, was) if value != was]
 
     def named(self, place: int) -> str:
         return f"0x{place:04x}" if isinstance(place, Half) else f"0x{place:08x}"

@@ -47,13 +47,13 @@ class Remote(Runner):
                 self.stop(child)
             with open(os.path.join(room, "said"), "rb") as file:
                 said = shown(file.read(1000).replace(b"\n", b" "))
-        missing = sorted(set(parts) - {it.head.part[0] for it in found})
+        missing = sorted(set(parts) - {source.head.part[0] for source in found})
         if missing:
             raise Fault(f"part {missing[0]}/{self.count} failed twice: {said or 'it printed nothing'}")
         return found
 
     def child(self, room, parts):
-        files = [os.path.join(room, it) for it in ("program", "input", "supp")]
+        files = [os.path.join(room, base) for base in ("program", "input", "supp")]
         words = list(self.words)
         for path, given, option in zip(files, self.request.files, (None, "--input", "--supp")):
             with open(path, "wb") as file:
@@ -65,7 +65,7 @@ class Remote(Runner):
             file.write(SCRIPT.format(program=shlex.quote(os.path.abspath(shutil.which(words[0]) or words[0])),
                                      words=shlex.join(words[1:]), count=self.count))
         jobs = ["--jobs", str(self.jobs)] if self.jobs else []
-        copies = [word for it in (*files, script) for word in ("--basefile", it)]
+        copies = [word for copy in (*files, script) for word in ("--basefile", copy)]
         with open(os.path.join(room, "said"), "wb") as said, open(os.path.join(room, "parts"), "w+b") as numbers:
             numbers.write("".join(f"{part}\n" for part in parts).encode())
             numbers.seek(0)

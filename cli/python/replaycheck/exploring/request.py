@@ -59,7 +59,7 @@ def values_reader(names, limit):
         if text in names:
             return text
         found = text.split(",")
-        if not all(re.fullmatch(NUMBER, it) for it in found):
+        if not all(re.fullmatch(NUMBER, number) for number in found):
             raise BadValue(f"neither {', '.join(names)} nor a list of numbers: {text!r}")
         numbers = tuple(map(number_of, found))
         if len(set(numbers)) < len(numbers) or max(numbers) >= limit:
@@ -224,29 +224,29 @@ class Request:
         (at, size), = found
         return at, at + size // self.unit * self.unit - self.unit
 
-    def known(self, it):
+    def known(self, one_range):
         """A range of instructions with those that the program's file has there; any other range, or one over a file that can't be read, as
         it is."""
-        if not isinstance(it, Code) or self.elf is None:
-            return it
-        span = it.first, it.last
+        if not isinstance(one_range, Code) or self.elf is None:
+            return one_range
+        span = one_range.first, one_range.last
         if span not in self.instructions:
             self.instructions[span] = Loaded(self.elf, *span)
-        return replace(it, known=self.instructions[span])
+        return replace(one_range, known=self.instructions[span])
 
     # ---- what is told of it
 
     @property
     def places(self):
-        return sum(it.count for it in self.ranges)
+        return sum(one_range.count for one_range in self.ranges)
 
-    def before(self, it, at):
+    def before(self, one_range, at):
         """The value that stands at a place, None where none does."""
-        if it.kind == "bytes":
+        if one_range.kind == "bytes":
             return self.input.content[at] if at < len(self.input.content) else None
-        if isinstance(it, Code):
-            return it.before(at)
-        return None if self.elf is None or it.kind == "steps" else self.word(at)
+        if isinstance(one_range, Code):
+            return one_range.before(at)
+        return None if self.elf is None or one_range.kind == "steps" else self.word(at)
 
     def word(self, address):
         """A word of the loaded program; what the file doesn't have of a segment is 0."""
@@ -262,14 +262,14 @@ class Request:
     def edits(self):
         """How many edits there are, as far as that is told without a look at each place, or 0; for progress alone."""
         count = 0
-        if any(it.kind == "steps" and (it.code or it.has_pairs or it.has_memory) for it in self.ranges):
+        if any(one_range.kind == "steps" and (one_range.code or one_range.has_pairs or one_range.has_memory) for one_range in self.ranges):
             return 0
-        for it in self.ranges:
-            if it.kind == "bytes" and it.values == "edges":
-                for was in self.input.content[it.first:it.last + 1]:
+        for one_range in self.ranges:
+            if one_range.kind == "bytes" and one_range.values == "edges":
+                for was in self.input.content[one_range.first:one_range.last + 1]:
                     count += len({*EDGES, (was + 1) % 256, (was - 1) % 256} - {was})
             else:
-                count += it.most_edits
+                count += one_range.most_edits
         return count
 
     def check_files(self, source):
@@ -303,19 +303,20 @@ class Request:
         """Ranges in words: from the first place to the last one, and values of bytes in the order in which they are
         tried."""
         told = []
-        for it in ranges:
-            if it.kind == "steps":
-                told.append(str(it))
+        for one_range in ranges:
+            if one_range.kind == "steps":
+                told.append(str(one_range))
                 continue
-            is_listed = it.kind == "bytes" and not isinstance(it.values, str)
-            last = it.place(it.size - 1) if it.size else it.last
-            told.append(str(Range(it.kind, it.start, last, tuple(sorted(it.values)) if is_listed else it.values)))
+            is_listed = one_range.kind == "bytes" and not isinstance(one_range.values, str)
+            last = one_range.place(one_range.size - 1) if one_range.size else one_range.last
+            told.append(str(Range(one_range.kind, one_range.start, last,
+                                  tuple(sorted(one_range.values)) if is_listed else one_range.values)))
         return " and ".join(told)
 
     def words(self):
         """The command line of a part, without its number."""
         words = ["sweep", *isa_words(self.isa), *self.regions.words, f"--step={self.step}"]
-        words += [word for it in self.ranges for word in it.words()]
+        words += [word for one_range in self.ranges for word in one_range.words()]
         words += [f"--input={self.input.path}"] if self.input.path else []
         words += [f"--supp={self.supp.path}"] if self.supp.path else []
         words += ["--with-output"] if self.has_output else []
@@ -324,7 +325,7 @@ class Request:
     @property
     def is_of_bytes(self):
         """Whether all edits are of bytes of the input."""
-        return all(it.kind == "bytes" for it in self.ranges)
+        return all(one_range.kind == "bytes" for one_range in self.ranges)
 
     def title(self):
         words = [os.path.basename(file.name) or file.name for file in self.files[:2] if file.name]

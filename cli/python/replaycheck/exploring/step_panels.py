@@ -75,7 +75,7 @@ class Grid:
 
     def worst(self, row, first, last):
         """The worst cell of a run, the first of equals."""
-        return max((self.cells[row][it] for it in range(first, last + 1)), key=lambda it: it.rank)
+        return max((self.cells[row][column] for column in range(first, last + 1)), key=lambda cell: cell.rank)
 
     def span(self, values, first, last, count, bins):
         """The first and the last of the values that share some bins."""
@@ -111,7 +111,7 @@ class OverSteps(Grid):
 
     def bands(self):
         """The step that each column begins with."""
-        return [self.steps[first_of(it, self.of_columns, self.columns)] for it in range(self.columns)]
+        return [self.steps[first_of(column, self.of_columns, self.columns)] for column in range(self.columns)]
 
     def places(self, first, last):
         return ends(*self.span(self.steps, first, last, self.of_columns, self.columns), "step")
@@ -154,7 +154,7 @@ class OfModel(OverSteps):
         self.heights.append(len(outcomes) // self.each)
         for begin in range(0, len(outcomes), self.each):
             edits = outcomes[begin:begin + self.each]
-            worst = 0 if len(set(edits)) == 1 else max(range(len(edits)), key=lambda it: rank(edits[it]))
+            worst = 0 if len(set(edits)) == 1 else max(range(len(edits)), key=lambda index: rank(edits[index]))
             self.outcomes.append(edits[worst])
             self.which.append(worst)
 
@@ -197,7 +197,7 @@ class Skips(OverSteps):
         found = instructions.addresses_of(self.steps) if instructions else [None] * len(self.steps)
         self.is_known = bool(found) and None not in found
         self.addresses = sorted(set(found)) if self.is_known else [0]
-        rows = {it: row for row, it in enumerate(self.addresses)} if self.is_known else {None: 0}
+        rows = {at: row for row, at in enumerate(self.addresses)} if self.is_known else {None: 0}
         executed, columns = [0] * len(rows), []
         for address in found:
             row = rows[address if self.is_known else None]
@@ -235,9 +235,9 @@ class Skips(OverSteps):
         if self.rows <= MANY:
             return list(enumerate(wheres))
         found = {}
-        for first, last, name in sorted(runs_of([function_of(it) for it in wheres]), key=lambda it: it[0] - it[1]):
+        for first, last, name in sorted(runs_of([function_of(where) for where in wheres]), key=lambda run: run[0] - run[1]):
             row = (first + last) // 2
-            if all(abs(row - it) * self.tall >= 11 for it in found):
+            if all(abs(row - other) * self.tall >= 11 for other in found):
                 found[row] = name
         return found.items()
 
@@ -263,7 +263,7 @@ class Bytes(OverSteps):
         """Takes the edits of a step: of each byte the worst."""
         for begin in range(0, len(edits), BYTE_BITS):
             found = outcomes[begin:begin + BYTE_BITS]
-            worst = max(range(len(found)), key=lambda it: rank(found[it]))
+            worst = max(range(len(found)), key=lambda index: rank(found[index]))
             self.columns_at.append(len(self.steps))
             self.addresses.append(bit_of(edits[begin])[0])
             self.outcomes.append(found[worst])
@@ -274,7 +274,7 @@ class Bytes(OverSteps):
         self.rows_at = sorted(set(self.addresses))
         self.of_rows, self.of_columns = len(self.rows_at), len(self.steps)
         self.settle()
-        rows = {it: row for row, it in enumerate(self.rows_at)}
+        rows = {at: row for row, at in enumerate(self.rows_at)}
         for column, address, outcome, bit in zip(self.columns_at, self.addresses, self.outcomes, self.bits):
             self.put(column, rows[address], rank(outcome), outcome, (self.steps[column], address, bit))
 
@@ -284,7 +284,7 @@ class Bytes(OverSteps):
         return list(byte_edits(step, address))[bit]
 
     def row_names(self):
-        return self.every([f"0x{it:08x}" for it in self.rows_at], self.of_rows, self.rows, self.tall, 12)
+        return self.every([f"0x{address:08x}" for address in self.rows_at], self.of_rows, self.rows, self.tall, 12)
 
     def where(self, row, first, last):
         low, high = self.span(self.rows_at, row, row, self.of_rows, self.rows)
@@ -310,7 +310,7 @@ class Pairs(Grid):
         self.columns_at, self.rows_at = sorted(set(self.firsts)), sorted(set(self.seconds))
         self.of_columns, self.of_rows = len(self.columns_at), len(self.rows_at)
         self.settle()
-        columns, rows = ({it: index for index, it in enumerate(them)} for them in (self.columns_at, self.rows_at))
+        columns, rows = ({step: index for index, step in enumerate(them)} for them in (self.columns_at, self.rows_at))
         for first, second, outcome in zip(self.firsts, self.seconds, self.outcomes):
             self.put(columns[first], rows[second], rank(outcome), outcome, (first, second))
 
@@ -322,7 +322,7 @@ class Pairs(Grid):
         return self.every(self.columns_at, self.of_columns, self.columns, self.wide, 50)
 
     def bands(self):
-        return [self.columns_at[first_of(it, self.of_columns, self.columns)] for it in range(self.columns)]
+        return [self.columns_at[first_of(column, self.of_columns, self.columns)] for column in range(self.columns)]
 
     def row_names(self):
         return self.every(self.rows_at, self.of_rows, self.rows, self.tall, 12)
@@ -335,9 +335,9 @@ class Pairs(Grid):
 class StepPanels:
     """The panels of the steps of a sweep: one for each model, and one for pairs."""
 
-    def __init__(self, it):
-        self.range = it
-        self.models = {model: Skips() if model == "skip" else OfModel(model) for model in it.models if model in SIZES}
+    def __init__(self, steps):
+        self.range = steps
+        self.models = {model: Skips() if model == "skip" else OfModel(model) for model in steps.models if model in SIZES}
         self.bytes, self.pairs = Bytes(), Pairs()
 
     def add(self, place, rank):
@@ -358,7 +358,7 @@ class StepPanels:
 
     def grids(self, rank, instructions):
         """The panels that have edits, when all are there."""
-        found = [it for it in (*self.models.values(), self.bytes) if it.steps] + [self.pairs] * bool(self.pairs.firsts)
-        for it in found:
-            it.finish(rank, instructions)
+        found = [panel for panel in (*self.models.values(), self.bytes) if panel.steps] + [self.pairs] * bool(self.pairs.firsts)
+        for panel in found:
+            panel.finish(rank, instructions)
         return found

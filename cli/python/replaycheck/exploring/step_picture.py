@@ -26,8 +26,9 @@ class StepPicture:
     def notes(self):
         """Where columns or rows are shared."""
         found = []
-        for it in self.grids:
-            for count, drawn, what, bins in ((it.of_columns, it.columns, it.axis, "columns"), (it.of_rows, it.rows, it.row_word, "rows")):
+        for grid in self.grids:
+            for count, drawn, what, bins in ((grid.of_columns, grid.columns, grid.axis, "columns"),
+                                             (grid.of_rows, grid.rows, grid.row_word, "rows")):
                 if drawn < count:
                     found.append(f"{count} {what}s share {drawn} {bins}, and the worst is seen")
         return list(dict.fromkeys(found))
@@ -99,7 +100,8 @@ class StepPicture:
     def bands(self, grid, top):
         """The functions that the steps of columns are in, if that is known."""
         steps = grid.bands() if self.is_known else []
-        names = [it and function_of(self.instructions.where(it)) for it in self.instructions.addresses_of(steps)] if steps else []
+        names = [address and function_of(self.instructions.where(address))
+                 for address in self.instructions.addresses_of(steps)] if steps else []
         for first, last, name in runs_of(names):
             if name:
                 yield from self.band(name, LEFT + first * grid.wide, (last + 1 - first) * grid.wide, top)

@@ -132,10 +132,10 @@ class Steps(Places):
         if turned_bytes(step, turned) is None:
             return False
         last = step
-        for it in map(PAIR.fullmatch, pairs):
-            if not it or int(it[1]) != step or not last < int(it[2]) <= self.last:
+        for pair in map(PAIR.fullmatch, pairs):
+            if not pair or int(pair[1]) != step or not last < int(pair[2]) <= self.last:
                 return False
-            last = int(it[2])
+            last = int(pair[2])
         return not (found and self.code) or self.code[0] <= int(found, 16) <= self.code[1]
 
 

@@ -64,11 +64,11 @@ class Summary:
         self.order = [0, *sorted(range(1, len(self.outcomes)), key=self.weight)]
         # How wide the column of first edits is.
         has_two = any("; " in str(value) for _, _, value, _ in merged.firsts.values())
-        self.width = min(WIDE if has_two else WIDTHS[1], max(WIDTHS[0], *(len(self.first(it)) for it in self.order)))
+        self.width = min(WIDE if has_two else WIDTHS[1], max(WIDTHS[0], *(len(self.first(number)) for number in self.order)))
         sources.learn([part.address for outcome in self.outcomes for part in outcome.parts] + [
-            f"0x{at:08x}" for it, at, *_ in merged.firsts.values() if it.kind == "words"])
+            f"0x{at:08x}" for one_range, at, *_ in merged.firsts.values() if one_range.kind == "words"])
         if instructions:
-            instructions.learn(value for it, _, value, _ in merged.firsts.values() if it.kind == "steps")
+            instructions.learn(value for one_range, _, value, _ in merged.firsts.values() if one_range.kind == "steps")
 
     def weight(self, number):
         return (-self.outcomes[number].badness(self.unedited), -self.merged.tallies[number],
@@ -89,12 +89,12 @@ class Summary:
                 one[1] += self.merged.tallies[number]
                 if self.merged.firsts[number][3] < self.merged.firsts[one[2]][3]:
                     one[2] = number
-        return sorted(found.values(), key=lambda it: (-it[0].badness, self.merged.firsts[it[2]][3]))
+        return sorted(found.values(), key=lambda find: (-find[0].badness, self.merged.firsts[find[2]][3]))
 
     def edit(self, number):
         """The first edit of an outcome: a line of a session, and other forms of the byte."""
-        it, at, value, _ = self.merged.firsts[number]
-        return it.line(at, value) + (f" ({byte_told(value)})" if it.kind == "bytes" else "")
+        one_range, at, value, _ = self.merged.firsts[number]
+        return one_range.line(at, value) + (f" ({byte_told(value)})" if one_range.kind == "bytes" else "")
 
     def bad_lines(self):
         finds = self.finds()
@@ -116,7 +116,7 @@ class Summary:
         edits, head = sum(self.merged.tallies[outcome.number] for outcome in self.outcomes if not outcome.has_errors), self.merged.head
         if edits and not head.files[SUPPRESSIONS][0]:
             too = "" if self.unedited.has_errors else " and the unedited run"
-            is_hindered = any(it.kind == "steps" and it.hinders(head.isa, head.regions.heap) for it in head.ranges)
+            is_hindered = any(one_range.kind == "steps" and one_range.hinders(head.isa, head.regions.heap) for one_range in head.ranges)
             says = "" if is_hindered else (
                 f": nothing that uninitialised, freed or unmapped memory holds can change these runs up to step {head.step}")
             yield f"no error by {counted(edits, 'edit')}{too}{says}"
@@ -127,8 +127,8 @@ class Summary:
         """The first edit of an outcome, with the byte that it replaces."""
         if not number:
             return "as unedited"
-        it, at, *_ = self.merged.firsts[number]
-        before = self.before(it, at) if it.kind == "bytes" else None
+        one_range, at, *_ = self.merged.firsts[number]
+        before = self.before(one_range, at) if one_range.kind == "bytes" else None
         return self.edit(number) + (f", was {before} ({byte_told(before)})" if before is not None else "")
 
     def outcome_lines(self, number):
@@ -136,12 +136,12 @@ class Summary:
         yield f"   {self.merged.tallies[number]:8}  {self.first(number):<{self.width}} {number}: {outcome.told}"
         if not number:
             return
-        it, at, value, _ = self.merged.firsts[number]
-        if it.kind == "steps" and self.instructions:
+        one_range, at, value, _ = self.merged.firsts[number]
+        if one_range.kind == "steps" and self.instructions:
             yield from (f"{INDENT}step {step}: {where}" for step, where in self.instructions.told(value))
-        before = self.before(it, at) if it.kind == "words" else None
+        before = self.before(one_range, at) if one_range.kind == "words" else None
         if before is not None:
-            yield f"{INDENT}was {it.named(before)}{self.sources.behind(f'0x{at:08x}')}"
+            yield f"{INDENT}was {one_range.named(before)}{self.sources.behind(f'0x{at:08x}')}"
         for part in outcome.parts:
             yield f"{INDENT}{'  ' if part.text in had else '+ '}{self.sources.told(part)}"
         for part in self.unedited.parts:

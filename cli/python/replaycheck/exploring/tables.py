@@ -95,10 +95,10 @@ def byte_before(values, edited):
         rest = set(range(256)) - set(edited)
         return rest.pop() if len(rest) == 1 else None
     if values == "flips":
-        was = sum(1 << bit for bit in range(8) if sum(it >> bit & 1 for it in edited) > 4)
+        was = sum(1 << bit for bit in range(8) if sum(value >> bit & 1 for value in edited) > 4)
         return was if sorted(was ^ 1 << bit for bit in range(8)) == edited else None
     if values == "edges":
-        near = {(it + away) % 256 for it in edited for away in (1, -1)}
+        near = {(value + away) % 256 for value in edited for away in (1, -1)}
         return next((was for was in near if sorted({*EDGES, (was + 1) % 256, (was - 1) % 256} - {was}) == edited), None)
     return None
 
@@ -131,7 +131,7 @@ def has_all(place):
     wanted = [NO_OP[place.length]] if values == "skip" else sorted(values) if place.range.kind == "bytes" else list(values)
     if values != "skip" and place.length != WORD:
         return False
-    return edited == wanted or len(edited) == len(wanted) - 1 and edited == [it for it in wanted if it in set(edited)]
+    return edited == wanted or len(edited) == len(wanted) - 1 and edited == [value for value in wanted if value in set(edited)]
 
 
 # ---- a table
@@ -212,29 +212,29 @@ class Table:
     def open(self, kind, at, value, last):
         """A place that comes after another one, and is the part's."""
         before, interval = 0, self.head.interval
-        for it in self.head.ranges:
-            if it.takes(kind, at, value):
-                ordinal = before + (at - it.start) // it.stride
+        for one_range in self.head.ranges:
+            if one_range.takes(kind, at, value):
+                ordinal = before + (at - one_range.start) // one_range.stride
                 if interval and not interval[0] <= ordinal < interval[1]:
                     self.lines.here(f"an edit of another part: {shown(self.lines.next)}")
                 if ordinal <= last:
                     self.lines.here(f"an edit out of turn: {shown(self.lines.next)}")
                 self.none_left_out(last, ordinal)
-                return Place(it, at, ordinal, length_of(value))
-            before += it.size
-        if any(isinstance(it, Code) and it.first <= at <= it.last for it in self.head.ranges if kind == "words"):
+                return Place(one_range, at, ordinal, length_of(value))
+            before += one_range.size
+        if any(isinstance(code, Code) and code.first <= at <= code.last for code in self.head.ranges if kind == "words"):
             self.lines.here(f"the program has no instruction of {8 * length_of(value)} bits there: {shown(self.lines.next)}")
         return self.lines.here(f"an edit outside of the sweep: {shown(self.lines.next)}")
 
     def none_left_out(self, last, ordinal):
         """Refuses the next line where a place between two ordinals must have an edit."""
         before = 0
-        for it in self.head.ranges if ordinal > last + 1 else ():
-            begin, end = max(last + 1 - before, 0), min(ordinal - before, it.size)
-            at = it.first_missing(begin, end) if begin < end else None
+        for one_range in self.head.ranges if ordinal > last + 1 else ():
+            begin, end = max(last + 1 - before, 0), min(ordinal - before, one_range.size)
+            at = one_range.first_missing(begin, end) if begin < end else None
             if at is not None:
-                self.lines.here(f"a gap: no edit of {it.called(at)}")
-            before += it.size
+                self.lines.here(f"a gap: no edit of {one_range.called(at)}")
+            before += one_range.size
 
     def close(self, place):
         if not has_all(place):

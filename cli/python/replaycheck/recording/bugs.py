@@ -67,7 +67,7 @@ class Bugs:
 
     def found(self, group: Group) -> Found:
         text, trace = group
-        frames = [frame_of(it) for it in trace]
+        frames = [frame_of(line) for line in trace]
         title = f"a block is {text}" if text in LEAK_KINDS else text
         if text.startswith("stopped "):
             state = read_state(ReportLines([f"state {text}" + ("" if " 0x" in text else " 0x00000000")]))
@@ -79,16 +79,16 @@ class Bugs:
     def news(self, number: int) -> List[int]:
         """The numbers of what is new in an outcome, the worst first."""
         new = {part.text: -part.badness for part in self.summary.news[number]}
-        told = [(new[text], it) for it in self.of[number] if (text := part_text(self.all[it])) in new]
-        return [it for _, it in sorted(told, key=lambda pair: pair[0])]
+        told = [(new[text], index) for index in self.of[number] if (text := part_text(self.all[index])) in new]
+        return [index for _, index in sorted(told, key=lambda pair: pair[0])]
 
     def places(self) -> List[Bug]:
         """What is new by what it is and where, the worst first, and among equals in the order of the first edits."""
         bugs: Dict[Tuple[str, str], Bug] = {}
         for number in self.summary.order[1:]:
             of_outcome = set()
-            for it in self.new[number]:
-                found = self.all[it]
+            for index in self.new[number]:
+                found = self.all[index]
                 part = part_of(found.text, list(found.trace))
                 bug = bugs.setdefault((found.title, found.where), Bug(found, kind_of_outcome(number, [part], False), part.badness))
                 if id(bug) not in of_outcome:
@@ -97,7 +97,7 @@ class Bugs:
                     bug.edits += self.summary.merged.tallies[number]
         for bug in bugs.values():
             bug.outcomes.sort(key=self.first)
-        return sorted(bugs.values(), key=lambda it: (-it.badness, self.first(it.outcomes[0])))
+        return sorted(bugs.values(), key=lambda place: (-place.badness, self.first(place.outcomes[0])))
 
     def first(self, number: int) -> int:
         """Which edit of all is the first one with an outcome."""

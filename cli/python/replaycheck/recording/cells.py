@@ -71,14 +71,14 @@ class Cells:
         if place.range.kind == "steps":
             self.add_step(place, address)
             return
-        it = place.range
-        kind = "instructions" if isinstance(it, Code) else it.kind
-        panel = self.panel_of(kind, is_of_bytes=kind == "bytes", rows=row_names(it))
-        before = request.before(it, place.at)
+        one_range = place.range
+        kind = "instructions" if isinstance(one_range, Code) else one_range.kind
+        panel = self.panel_of(kind, is_of_bytes=kind == "bytes", rows=row_names(one_range))
+        before = request.before(one_range, place.at)
         if kind != "bytes":
-            address, before = place.at, None if before is None else it.named(before)
-        column = panel.column(it.named(place.at), address, before)
-        for row, value in zip(Drawn(it, 0, []).rows_of(place), place.edits):
+            address, before = place.at, None if before is None else one_range.named(before)
+        column = panel.column(one_range.named(place.at), address, before)
+        for row, value in zip(Drawn(one_range, 0, []).rows_of(place), place.edits):
             self.put(kind, column, row, place, value)
 
     def add_step(self, place, address: Optional[int]) -> None:
@@ -107,7 +107,7 @@ class Cells:
         for index, panel in enumerate(self.panels.values()):
             if panel.met:
                 order = {row: number for number, row in enumerate(sorted(panel.met))}
-                panel.rows = [panel.met[it] for it in order]
+                panel.rows = [panel.met[row] for row in order]
                 self.row = [order[row] if at == index else row for at, row in zip(self.panel, self.row)]
 
 
@@ -116,19 +116,19 @@ BITS_A_ROW = {"registers": 32}
 
 def rows_of_model(model: str) -> List[str]:
     if model in OF_REGISTERS:
-        return [NAMES[it] for it in range(1, LAST_REGISTER + 1)]
-    return ["left out"] if model == "skip" else [f"bit {it}" for it in range(SIZES[model])]
+        return [NAMES[register] for register in range(1, LAST_REGISTER + 1)]
+    return ["left out"] if model == "skip" else [f"bit {bit}" for bit in range(SIZES[model])]
 
 
-def row_names(it) -> List[str]:
+def row_names(one_range) -> List[str]:
     """The names of the rows of a range of bytes or words."""
-    if it.values == "all":
+    if one_range.values == "all":
         return [f"{value:02x}" for value in range(1 << BITS)]
-    if it.values == "flips":
-        return [f"bit {bit}" for bit in range(BITS if it.kind == "bytes" else BITS * WORD)]
-    if it.values == "edges":
+    if one_range.values == "flips":
+        return [f"bit {bit}" for bit in range(BITS if one_range.kind == "bytes" else BITS * WORD)]
+    if one_range.values == "edges":
         return list(EDGE_NAMES)
-    return ["left out"] if it.values == "skip" else [it.named(value) for value in it.values]
+    return ["left out"] if one_range.values == "skip" else [one_range.named(value) for value in one_range.values]
 
 
 def form_of(line: str, name: str) -> str:
@@ -145,16 +145,16 @@ def form_of(line: str, name: str) -> str:
 def runs_of(numbers) -> List[int]:
     """Numbers as runs: of each run its first number, how many there are, and by how much one is greater than the one before, 0 or 1."""
     runs: List[int] = []
-    for it in numbers:
+    for number in numbers:
         if runs:
             first, count, more = runs[-3:]
-            if count == 1 and it - first in (0, 1):
-                runs[-2:] = 2, it - first
+            if count == 1 and number - first in (0, 1):
+                runs[-2:] = 2, number - first
                 continue
-            if it == first + more * count:
+            if number == first + more * count:
                 runs[-2] += 1
                 continue
-        runs += (it, 1, 0)
+        runs += (number, 1, 0)
     return runs
 
 

@@ -128,16 +128,16 @@ class Recording:
         edits = {"panel": cells.panel, "column": cells.column, "row": cells.row, "form": cells.form, "outcome": numbers}
         return {
             "step": self.merged.head.step, "panels": [self.panel(panel, notes) for panel in cells.panels.values()], "notes": list(notes),
-            "forms": list(cells.forms), "edits": {name: runs_of([0, *it]) for name, it in edits.items()},
-            "reports": [runs_of(it) for it in self.reports.all], "outputs": [written(it) for it in self.outputs.all],
+            "forms": list(cells.forms), "edits": {name: runs_of([0, *values]) for name, values in edits.items()},
+            "reports": [runs_of(report) for report in self.reports.all], "outputs": [written(output) for output in self.outputs.all],
             "report": runs_of(self.reports.of), "output": runs_of(self.outputs.of), "mostOutput": MOST_OUTPUT,
-            "outcomes": [self.outcome(outcome) for outcome in outcomes], "found": [self.found(it) for it in self.bugs.all]}
+            "outcomes": [self.outcome(outcome) for outcome in outcomes], "found": [self.found(found) for found in self.bugs.all]}
 
     def panel(self, panel, notes: Dict[str, int]) -> Dict[str, object]:
         where = self.summary.instructions.where
         told = ["" if address is None else where(address) for address in panel.addresses]
         return {"caption": panel.caption, "isOfBytes": panel.is_of_bytes, "columns": panel.columns, "before": panel.before,
-                "rows": panel.rows, "notes": runs_of([notes.setdefault(it, len(notes)) for it in told])}
+                "rows": panel.rows, "notes": runs_of([notes.setdefault(note, len(notes)) for note in told])}
 
     def outcome(self, number: int) -> Dict[str, object]:
         return {"kind": self.kinds.kind(number), "state": self.summary.outcomes[number].told, "has": self.bugs.of[number],
@@ -175,7 +175,7 @@ class Recording:
             "asked": text_of("; ".join(map(str, self.merged.head.ranges))), "rows": "\n".join(self.rows(places)),
             "command": text_of(shlex.join(["replaycheck", "explore", *sys.argv[1:]])), "step": f"{self.merged.head.step:,}",
             "notes": "\n".join(f"<li>{text_of(note)}" for note in self.notes())}
-        return MARK.sub(lambda it: parts[it[1]], (PARTS / "recording.html").read_text("utf-8"))
+        return MARK.sub(lambda mark: parts[mark[1]], (PARTS / "recording.html").read_text("utf-8"))
 
     @staticmethod
     def places_told(count: int) -> str:
@@ -193,23 +193,23 @@ class Recording:
         by_kind: Dict[str, List[int]] = {}
         for number in range(len(tallies)):
             by_kind.setdefault(self.kinds.kind(number), []).append(number)
-        reached = sum(tallies[it] for it in by_kind.get(GOAL, ()))
+        reached = sum(tallies[outcome] for outcome in by_kind.get(GOAL, ()))
         if self.kinds.goal:
             yield row(GOAL, reached, f"a line that begins with {self.kinds.goal.shown}", "", self.first(by_kind.get(GOAL, [])))
         for bug in places:
             yield row(bug.kind, bug.edits, bug.found.title, bug.found.where, self.first(bug.outcomes))
         for kind in HARMLESS:
-            edits = sum(tallies[it] for it in by_kind.get(kind, ()))
+            edits = sum(tallies[outcome] for outcome in by_kind.get(kind, ()))
             if edits:
-                yield row(kind, edits, BY_KIND[kind][1], "", self.first([it for it in by_kind[kind] if it]))
+                yield row(kind, edits, BY_KIND[kind][1], "", self.first([outcome for outcome in by_kind[kind] if outcome]))
 
     def first(self, numbers: List[int]) -> Tuple[str, bool]:
         """The first edit that leads to one of some outcomes, and whether the file has it."""
         found = [self.merged.firsts[number] for number in numbers if number in self.merged.firsts]
         if not found:
             return "", False
-        it, at, value, _ = min(found, key=lambda first: first[3])
-        return it.line(at, value), (it, at) in self.there
+        one_range, at, value, _ = min(found, key=lambda first: first[3])
+        return one_range.line(at, value), (one_range, at) in self.there
 
     def notes(self) -> Iterator[str]:
         """What else one has to know, a line each."""
@@ -246,8 +246,8 @@ def row(kind: str, edits: int, what: str, where: str, first: Tuple[str, bool]) -
             f'<td><code>{text_of(line)}</code><td>{show}')
 
 
-def written(it) -> List[object]:
-    return [it.before, it.after, it.between.decode("latin-1")]
+def written(output) -> List[object]:
+    return [output.before, output.after, output.between.decode("latin-1")]
 
 
 def hash_of(text: str) -> str:

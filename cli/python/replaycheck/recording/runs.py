@@ -63,7 +63,7 @@ class Chosen:
             else:
                 kept.append(place)
                 edits += len(place.edits)
-        return sorted(kept, key=lambda it: it.ordinal)
+        return sorted(kept, key=lambda one: one.ordinal)
 
 
 @dataclass
@@ -151,8 +151,8 @@ class Recorder:
         finally:
             progress.end()
             lookers.close()
-        for it in self.request.files:
-            check_unchanged(it, OPTION)
+        for file in self.request.files:
+            check_unchanged(file, OPTION)
 
     def asked(self, places: list) -> Iterator[Asked]:
         index = 0
@@ -205,11 +205,11 @@ class Recorder:
         def made(number: int) -> Optional[List[int]]:
             nonlocal room
             report = found[number]
-            needed = sum(len(names[it]) for it in {*report} - lines.keys()) + len(report)
+            needed = sum(len(names[line]) for line in {*report} - lines.keys()) + len(report)
             if len(report) > LONGEST_REPORT or needed > room:
                 return None
             room -= needed
-            return [lines.setdefault(it, len(lines)) for it in report]
+            return [lines.setdefault(line, len(lines)) for line in report]
 
         return texts_of(self.of_reports, made), [names[line] for line in lines]
 
@@ -255,7 +255,7 @@ def outline(report: Report, has_output: bool) -> Iterator[str]:
     """The lines that a table of a sweep has for an outcome. Of a bad jump they leave out where it went."""
     state = report.state
     is_at = state.name == "stopped" and state.why != "jump"
-    yield " ".join(str(it) for it in (state.name, state.why, state.address if is_at else None, state.status) if it is not None)
+    yield " ".join(str(word) for word in (state.name, state.why, state.address if is_at else None, state.status) if word is not None)
     if has_output:
         yield f"output {report.written}"
     errors = ((error.text, error.trace[is_jump(error.text):]) for error in report.errors)

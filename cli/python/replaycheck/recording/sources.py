@@ -58,8 +58,8 @@ class Sources:
         there."""
         if not path.lower().endswith(SUFFIXES):
             return []
-        for it in (path, os.path.join(self.folder, path), os.path.join(self.folder, os.path.basename(path))):
-            text = read(it)
+        for place in (path, os.path.join(self.folder, path), os.path.join(self.folder, os.path.basename(path))):
+            text = read(place)
             if text is not None:
                 return text.split("\n")
         return []
