@@ -148,7 +148,8 @@ class Search:
         until = self.state.begun + options.time if options.time else float("inf")
         return Plan(self.opened, self.code, options.step, [content for _, content in self.seeds], self.tokens, options.max_len,
                     None if goal is None else goal.encode("utf-8", "surrogateescape"), options.runs, options.seed, until,
-                    self.folder.path, self.folder.own, [finding.text for finding in self.findings], self.first_seed, self.first, os.getpid())
+                    self.folder.path, self.folder.own, [finding.text for finding in self.findings], self.first_seed, self.first,
+                    os.getpid())
 
     def work(self):
         """Runs the workers. A signal or a fault ends them. What was found until a signal comes is printed, too."""
