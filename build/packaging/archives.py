@@ -107,13 +107,13 @@ def newest_libc(program):
 
 def make_debian(tree, source, folder):
     """The tree as a package for Debian."""
-    files = [it for it in entries(tree) if it.is_file() and not it.is_symlink()]
+    files = [path for path in entries(tree) if path.is_file() and not path.is_symlink()]
     control = tree.parent / "DEBIAN"
     control.mkdir()
-    size = sum(it.stat().st_size + 1023 for it in files) // 1024
+    size = sum(path.stat().st_size + 1023 for path in files) // 1024
     (control / "control").write_text(CONTROL.format(
         version=source.version, size=size, libc=newest_libc(source.program), maintainer=source.maintainer))
-    sums = (f"{hashlib.md5(it.read_bytes()).hexdigest()}  {it.relative_to(tree.parent)}\n" for it in files)
+    sums = (f"{hashlib.md5(path.read_bytes()).hexdigest()}  {path.relative_to(tree.parent)}\n" for path in files)
     (control / "md5sums").write_text("".join(sums))
     for name, text in SCRIPTS.items():
         (control / name).write_text(text)

@@ -41,26 +41,26 @@ fi
 
 def completions(helps):
     """The files of three shells, by their paths below the folder share."""
-    named = [it for it in helps if it.name]
+    named = [told for told in helps if told.name]
     return {"bash-completion/completions/replaycheck": bash(named), "zsh/vendor-completions/_replaycheck": zsh(named),
             "fish/vendor_completions.d/replaycheck.fish": fish(named)}
 
 
 def bash(named):
-    cases = "\n".join(f"    {it.name}) options='{' '.join(it.options)}' ;;" for it in named)
-    return BASH.format(names=" ".join(it.name for it in named), cases=cases)
+    cases = "\n".join(f"    {told.name}) options='{' '.join(told.options)}' ;;" for told in named)
+    return BASH.format(names=" ".join(told.name for told in named), cases=cases)
 
 
 def zsh(named):
-    commands = "\n".join(f"  {quoted(it.name + ':' + it.summary)}" for it in named)
-    return ZSH.format(commands=commands, cases="\n".join(f"  {it.name}) options=({' '.join(it.options)}) ;;" for it in named))
+    commands = "\n".join(f"  {quoted(told.name + ':' + told.summary)}" for told in named)
+    return ZSH.format(commands=commands, cases="\n".join(f"  {told.name}) options=({' '.join(told.options)}) ;;" for told in named))
 
 
 def fish(named):
     lines = ["# Completion for replaycheck, in fish."]
-    for it in named:
-        lines.append(f"complete -c replaycheck -n __fish_use_subcommand -f -a {it.name} -d {quoted(it.summary)}")
-        lines += [f"complete -c replaycheck -n '__fish_seen_subcommand_from {it.name}' -l {option[2:]}" for option in it.options]
+    for told in named:
+        lines.append(f"complete -c replaycheck -n __fish_use_subcommand -f -a {told.name} -d {quoted(told.summary)}")
+        lines += [f"complete -c replaycheck -n '__fish_seen_subcommand_from {told.name}' -l {option[2:]}" for option in told.options]
     return "\n".join(lines) + "\n"
 
 

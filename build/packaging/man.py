@@ -33,8 +33,8 @@ class Item(NamedTuple):
 def man_pages(helps, source):
     """The pages, by their files' names."""
     date = datetime.datetime.fromtimestamp(source.time, datetime.timezone.utc).strftime("%Y-%m-%d")
-    names = [it.name for it in helps if it.name]
-    return {f"{called(it.name)}.1": page(it, names, f'"{date}" "replaycheck {source.version}" "Memcheck for RV32IM"') for it in helps}
+    names = [told.name for told in helps if told.name]
+    return {f"{called(told.name)}.1": page(told, names, f'"{date}" "replaycheck {source.version}" "Memcheck for RV32IM"') for told in helps}
 
 
 def called(name):
@@ -77,18 +77,18 @@ def sections(told):
             subtitle = [".PP", marked(title)] if at in found else []
             found.setdefault(at, []).extend([*subtitle, *shape(items_of(rest.split("\n")))])
         elif OPTION.match(rest) or title in ("Arguments:", "Options:"):
-            items = [it for it in items_of(rest.split("\n")) if it.name not in [name for name, _ in options]]
+            items = [item for item in items_of(rest.split("\n")) if item.name not in [name for name, _ in options]]
             options += items
             subtitle = [] if title in ("Arguments:", "Options:") else [f'.SS "{plain(title.rstrip(":"))}"']
             found.setdefault("OPTIONS", []).extend([*subtitle, *tagged(items)])
         else:
             found.setdefault(at if at in ("EXIT STATUS", "DESCRIPTION") else "DESCRIPTION", []).extend(paragraph(part))
     if told.is_tool:
-        found.setdefault("OPTIONS", []).extend(tagged(Item(*it) for it in OF_EACH_TOOL))
+        found.setdefault("OPTIONS", []).extend(tagged(Item(*row) for row in OF_EACH_TOOL))
     more = (("EXIT STATUS", STATUSES, tagged), ("ENVIRONMENT", ENVIRONMENTS, as_variables), ("FILES", FILES, as_variables))
     for name, rows, shape in more:
         if told.name in rows:
-            found.setdefault(name, []).extend(shape(Item(*it) for it in rows[told.name]))
+            found.setdefault(name, []).extend(shape(Item(*row) for row in rows[told.name]))
     found["SYNOPSIS"] = synopsis(usages if usages != [""] else [own_usage(told.name, options)])
     return found
 
@@ -108,13 +108,13 @@ def usages_of(part):
 
 
 def own_usage(name, options):
-    given = [it.name for it in options if it.name.startswith("--") or not it.name.startswith("-")]
-    return f"replaycheck {name} " + " ".join(it if not it.startswith("-") else f"[{it}]" for it in given)
+    given = [item.name for item in options if item.name.startswith("--") or not item.name.startswith("-")]
+    return f"replaycheck {name} " + " ".join(word if not word.startswith("-") else f"[{word}]" for word in given)
 
 
 def items_of(lines):
     """The items of a list, each with its text, which may go on in lines that are indented further."""
-    found, least = [], min(len(it) - len(it.lstrip()) for it in lines)
+    found, least = [], min(len(row) - len(row.lstrip()) for row in lines)
     for line in lines:
         indent = len(line) - len(line.lstrip())
         if indent == least or OPTION.match(line):
@@ -141,23 +141,23 @@ def line_of(text):
 def marked(text):
     """A text with what stands between backquotes, and options, in bold."""
     found, at = [], 0
-    for it in WORD.finditer(text):
-        found += [plain(text[at:it.start()]), f"\\fB{plain(it[1] if it[1] is not None else it[2])}\\fR"]
-        at = it.end()
+    for word in WORD.finditer(text):
+        found += [plain(text[at:word.start()]), f"\\fB{plain(word[1] if word[1] is not None else word[2])}\\fR"]
+        at = word.end()
     return line_of("".join(found) + plain(text[at:]))
 
 
 def tag(name):
     """An item's name: placeholders in italics, and all else in bold."""
     found, at = [], 0
-    for it in PLACEHOLDER.finditer(name):
-        found += [f"\\fB{plain(name[at:it.start()])}\\fR" if at < it.start() else "", f"\\fI{it[0]}\\fR"]
-        at = it.end()
+    for placeholder in PLACEHOLDER.finditer(name):
+        found += [f"\\fB{plain(name[at:placeholder.start()])}\\fR" if at < placeholder.start() else "", f"\\fI{placeholder[0]}\\fR"]
+        at = placeholder.end()
     return line_of("".join(found) + (f"\\fB{plain(name[at:])}\\fR" if name[at:] else ""))
 
 
 def tagged(items, shown=tag):
-    return [line for it in items for line in (".TP", shown(it.name), marked(it.text) if it.text else "\\&")]
+    return [line for item in items for line in (".TP", shown(item.name), marked(item.text) if item.text else "\\&")]
 
 
 def as_variables(items):
@@ -166,18 +166,18 @@ def as_variables(items):
 
 def as_references(items):
     """The pages of commands and tools."""
-    items = [it._replace(name=it.name.removeprefix("replaycheck ")) for it in items if it.name != "help"]
+    items = [item._replace(name=item.name.removeprefix("replaycheck ")) for item in items if item.name != "help"]
     return tagged(items, lambda name: f"\\fB{plain(called(name))}\\fR(1)")
 
 
 def listed(lines):
     """A list of items with a text each, or if none has a text a paragraph, indented."""
-    if any(GAP.search(it.strip()) for it in lines):
+    if any(GAP.search(line.strip()) for line in lines):
         return tagged(items_of(lines))
-    text = " ".join(it.strip() for it in lines)
+    text = " ".join(line.strip() for line in lines)
     # Each text that is quoted is a line of its own.
     parts = re.split(r" (?=`)", text) if text.startswith("`") else [text]
-    return [".RS 4", *[line for it in parts for line in (".br", marked(it))][1:], ".RE"]
+    return [".RS 4", *[line for part in parts for line in (".br", marked(part))][1:], ".RE"]
 
 
 def paragraph(part):
@@ -185,13 +185,13 @@ def paragraph(part):
     found, lines = [".PP"], part.split("\n")
     while lines:
         is_list = lines[0].startswith("  ")
-        count = next((at for at, it in enumerate(lines) if it.startswith("  ") != is_list), len(lines))
+        count = next((at for at, line in enumerate(lines) if line.startswith("  ") != is_list), len(lines))
         taken, lines = lines[:count], lines[count:]
         if not is_list:
             text = " ".join(taken)
             found += [*([".PP"] if found[-1] != ".PP" else []), marked(text if lines or not text[-1].isalnum() else text + ".")]
-        elif all(it.startswith(("  replaycheck ", "  gdb", "  (gdb)")) for it in taken):
-            found = [*(found if found != [".PP"] else []), *as_typed(it.strip() for it in taken)]
+        elif all(line.startswith(("  replaycheck ", "  gdb", "  (gdb)")) for line in taken):
+            found = [*(found if found != [".PP"] else []), *as_typed(line.strip() for line in taken)]
         else:
             found += listed(taken)
     return found
@@ -203,13 +203,13 @@ def synopsis(usages):
     for usage in usages:
         words = re.findall(r"\[(?:[^\[\]]|\[[^\]]*\])*\](?:\.\.)?|(?:--?[a-z-]+ [A-Z]+(?:\.\.)?)|\S+", usage)
         named = 2 if len(words) > 1 and re.fullmatch(r"[a-z]+", words[1]) else 1
-        lines += [f'.SY "{" ".join(words[:named])}"', *(unbroken(it) for it in words[named:]), ".YS"]
+        lines += [f'.SY "{" ".join(words[:named])}"', *(unbroken(word) for word in words[named:]), ".YS"]
     return lines
 
 
 def unbroken(word):
     """An argument with its value, in one piece unless it is longer than half a line."""
-    made = re.sub(r"(?<![\w-])--?[a-z][a-z-]*|\b[A-Z][A-Z]*\b|[^-A-Z]+|.", lambda it: face(it[0]), word)
+    made = re.sub(r"(?<![\w-])--?[a-z][a-z-]*|\b[A-Z][A-Z]*\b|[^-A-Z]+|.", lambda piece: face(piece[0]), word)
     return line_of(made if len(word) > 36 else made.replace(" ", "\\ "))
 
 
@@ -220,21 +220,21 @@ def face(text):
 
 
 def as_typed(lines):
-    return [".PP", ".RS 4", ".EX", *(line_of(plain(it)) for it in lines), ".EE", ".RE"]
+    return [".PP", ".RS 4", ".EX", *(line_of(plain(line)) for line in lines), ".EE", ".RE"]
 
 
 # ---- what man_rows.py adds
 
 def examples(name):
     lines = [".PP", marked(COPIED), *as_typed(COPY)]
-    for it in EXAMPLES[name]:
-        lines += [".PP", marked(it.says), *as_typed([f"$ {it.command}".replace("\n", "\n    "), *it.prints.splitlines()])]
-        if it.status:
-            lines += [".PP", f"It ends with status {it.status}."]
+    for example in EXAMPLES[name]:
+        lines += [".PP", marked(example.says), *as_typed([f"$ {example.command}".replace("\n", "\n    "), *example.prints.splitlines()])]
+        if example.status:
+            lines += [".PP", f"It ends with status {example.status}."]
     return [part for line in lines for part in line.split("\n")]
 
 
 def see_also(name, names):
-    own = [called(it) for it in (names if not name else ["", *SEE_ALSO.get(name, ())])]
-    refs = ", ".join(f"\\fB{plain(it)}\\fR(1)" for it in own if it != called(name))
+    own = [called(other) for other in (names if not name else ["", *SEE_ALSO.get(name, ())])]
+    refs = ", ".join(f"\\fB{plain(other)}\\fR(1)" for other in own if other != called(name))
     return [refs + ".", ".PP", f"The manual: \\fI{plain(MANUAL)}\\fR"]

@@ -31,7 +31,7 @@ def notices():
     for name in crates():
         found = sorted((library / name).glob("LICENSE*"))
         # Of two licences, between which one may choose, the shorter.
-        for path in [it for it in found if it.name == "LICENSE-MIT"] or found:
+        for path in [licence for licence in found if licence.name == "LICENSE-MIT"] or found:
             texts.setdefault(path.read_text(), []).append(f"{name} ({path.name})")
     parts = [f"{'-' * 72}\n{', '.join(names)}:\n\n{text.strip()}\n" for text, names in texts.items()]
     return "\n".join([HEAD, *parts])

@@ -39,7 +39,7 @@ LINK = re.compile(r'<a href="(?!#|https?:)([^"#]*)(#[^"]*)?">(.*?)</a>', re.S)
 def sources():
     """The pages of a release, in Markdown as a reader of it needs them, by their paths below docs/."""
     docs = TOP / "docs"
-    texts = {str(it.relative_to(docs)): it.read_text() for pattern in SHIPPED for it in sorted(docs.glob(pattern))}
+    texts = {str(path.relative_to(docs)): path.read_text() for pattern in SHIPPED for path in sorted(docs.glob(pattern))}
     for old, new in IN_RELEASE:
         pattern = re.compile(re.sub(r"(?:\\ )+", r"\\s+", re.escape(old)))
         changed = {name: pattern.sub(lambda _: new, text) for name, text in texts.items()}
@@ -58,7 +58,7 @@ def manual():
     """The pages as HTML, with the pictures that they show, by their files' names."""
     texts = sources()
     made = {of_release(name): html(text, name, texts) for name, text in texts.items()}
-    return made | {it: (TOP / "examples/firmware" / it).read_bytes() for it in PICTURES}
+    return made | {picture: (TOP / "examples/firmware" / picture).read_bytes() for picture in PICTURES}
 
 
 def of_release(name):
@@ -79,7 +79,7 @@ def html(text, name, texts):
     title = re.search(r"^# (.+)$", text, re.M)[1]
     page = turned(text, "-m", f"title={title}")
     page = page.replace("</head>\n", STYLE, 1).replace("&#47;", "/")
-    page = re.sub(r'(<h\d id=")([^"]+)(")', lambda it: it[1] + re.sub(r"[^\w-]", "", it[2].lower()) + it[3], page)
-    for it in PICTURES:
-        page = re.sub(f'src="[^"]*{re.escape(it)}"', f'src="{os.path.relpath(it, folder or ".")}"', page)
+    page = re.sub(r'(<h\d id=")([^"]+)(")', lambda heading: heading[1] + re.sub(r"[^\w-]", "", heading[2].lower()) + heading[3], page)
+    for picture in PICTURES:
+        page = re.sub(f'src="[^"]*{re.escape(picture)}"', f'src="{os.path.relpath(picture, folder or ".")}"', page)
     return LINK.sub(link, page)

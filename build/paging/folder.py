@@ -74,15 +74,15 @@ def encoded(path):
 def examples():
     """The examples that the page offers, with their files, and the text of their sources."""
     made, sources = [], {}
-    for it in json.loads((SOURCES / "examples.json").read_text()):
-        optional = {role: it[role] for role in ("goal", "isa", "sources") if role in it}
-        example = {"name": it["name"], "about": " ".join(it["about"]), **optional}
+    for given in json.loads((SOURCES / "examples.json").read_text()):
+        optional = {role: given[role] for role in ("goal", "isa", "sources") if role in given}
+        example = {"name": given["name"], "about": " ".join(given["about"]), **optional}
         for role in ("program", "input"):
-            if role in it:
-                path = EXAMPLES / it[role]
+            if role in given:
+                path = EXAMPLES / given[role]
                 example[role], example[f"{role}Bytes"] = path.name, encoded(path)
         made.append(example)
-        sources.update((path, (EXAMPLES / path).read_text()) for path in it.get("sources", ()))
+        sources.update((path, (EXAMPLES / path).read_text()) for path in given.get("sources", ()))
     return constant("EXAMPLES", made) + constant("SOURCES", sources)
 
 
@@ -138,7 +138,7 @@ def one_file(module):
     style = (SOURCES / "page.css").read_text()
     policy = (f"default-src 'none'; script-src {source_of(script)} 'wasm-unsafe-eval' blob:; style-src {source_of(style)}; "
               "worker-src blob:; img-src data:; base-uri 'none'; form-action 'none'")
-    page, count = POLICY.subn(lambda it: it[1] + policy + it[2], (SOURCES / "index.html").read_text())
+    page, count = POLICY.subn(lambda found: found[1] + policy + found[2], (SOURCES / "index.html").read_text())
     if count != 1:
         raise Fault("page/index.html: not exactly one policy")
     page = replaced(page, STYLE, f"<style>{style}</style>")

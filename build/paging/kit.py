@@ -26,7 +26,7 @@ def find():
     if not found:
         raise Fault("cannot build the page: it needs the toolchain of Rattle, and its command rt is not on the path")
     kit = pathlib.Path(os.path.realpath(found)).parents[1]
-    missing = [it for it in NEEDED if not (kit / it).exists()]
+    missing = [name for name in NEEDED if not (kit / name).exists()]
     if missing:
         raise Fault(f"the toolchain of Rattle in {kit} lacks {', '.join(missing)}")
     return kit
@@ -34,7 +34,7 @@ def find():
 
 def run(words, folder, what):
     """Runs a tool, whose words are told where it fails."""
-    ran = subprocess.run([str(it) for it in words], cwd=folder, stdin=subprocess.DEVNULL, capture_output=True, text=True,
+    ran = subprocess.run([str(word) for word in words], cwd=folder, stdin=subprocess.DEVNULL, capture_output=True, text=True,
                          errors="replace")
     if ran.returncode:
         said = (ran.stdout + ran.stderr).strip()[-2000:]
@@ -61,7 +61,7 @@ class Tools:
     def flags(self):
         """What the linker has the compiler make code for a page with: all words before `-c`, but the place of the tools."""
         words = (self.kept / f"{HELPERS}.words").read_text().splitlines()
-        return [it for it in words[:words.index("-c")] if not it.startswith("--sysroot=")]
+        return [word for word in words[:words.index("-c")] if not word.startswith("--sysroot=")]
 
     def take_helpers(self, room):
         """Has the linker hand its helpers to the compiler, by a library of one function that it links."""

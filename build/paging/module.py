@@ -44,9 +44,9 @@ def libraries_of(text):
 def below(name, libraries):
     """The crates that one stands on, each after those that it stands on itself."""
     found = []
-    for it in libraries[name]:
-        if it in libraries:
-            found += [crate for crate in [*below(it, libraries), it] if crate not in found]
+    for library in libraries[name]:
+        if library in libraries:
+            found += [crate for crate in [*below(library, libraries), library] if crate not in found]
     return found
 
 
@@ -62,16 +62,16 @@ class Crates:
         return self.top / "crates" / name / "out" / "rlib" / f"{name}.rlib"
 
     def are_built(self):
-        return all((self.library(it) / "format").is_file() for it in self.below)
+        return all((self.library(crate) / "format").is_file() for crate in self.below)
 
     def words(self, kit, checked):
         """The words with which the program's crate is built over its libraries: from what a check has proved, or else by a proof."""
         used = self.libraries[NAME]
         words = ["--crate-name", NAME, "src/main.rt"]
-        for name in ["std", *(it for it in used if it not in self.libraries)]:
+        for name in ["std", *(crate for crate in used if crate not in self.libraries)]:
             words += ["--extern", f"{name}={kit}/rlibs/{name}.rlib"]
         words += ["-L", f"dependency={kit}/rlibs"]
-        for name in (it for it in used if it in self.libraries):
+        for name in (crate for crate in used if crate in self.libraries):
             words += ["--extern", f"{name}={self.library(name)}"]
         for name in self.below:
             words += ["-L", f"dependency={self.library(name).parent}"]
@@ -87,7 +87,7 @@ def copy_of_crates(room):
     (top / ".git").mkdir(parents=True)
     shutil.copy(TOP / "HANDLES", top)
     lines = (TOP / "crates.txt").read_text().splitlines(True)
-    (top / "crates.txt").write_text("".join(it for it in lines if not names.isdisjoint(it.partition(":")[0].split()[:1])))
+    (top / "crates.txt").write_text("".join(line for line in lines if not names.isdisjoint(line.partition(":")[0].split()[:1])))
     for name in names:
         for part in PARTS:
             source, to = TOP / "crates" / name / part, top / "crates" / name / part
@@ -178,7 +178,7 @@ def keep(made, path):
         part = path.with_suffix(f".{os.getpid()}")
         part.write_bytes(made)
         part.rename(path)
-        for old in sorted(path.parent.glob("*.wasm"), key=lambda it: -it.stat().st_mtime)[MOST_KEPT:]:
+        for old in sorted(path.parent.glob("*.wasm"), key=lambda kept: -kept.stat().st_mtime)[MOST_KEPT:]:
             old.unlink()
     except OSError as fault:
         tell(f"the module isn't kept for the next time: {fault}")

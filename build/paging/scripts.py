@@ -45,7 +45,7 @@ def wrapped(name, modules):
     """A module as a function that is called at once."""
     text = modules[name]
     exported, needed = ", ".join(EXPORTED.findall(text)), iter(imports_of(name, modules))
-    body = IMPORT.sub(lambda it: f"const {{ {it[1].replace(' as ', ': ')} }} = {variable(next(needed)[0])};\n", text)
+    body = IMPORT.sub(lambda found: f"const {{ {found[1].replace(' as ', ': ')} }} = {variable(next(needed)[0])};\n", text)
     body = EXPORT.sub("", body)
     if OTHER.search(body):
         raise Fault(f"{name}: an import or export in a form that the page of one file doesn't support")
@@ -55,10 +55,10 @@ def wrapped(name, modules):
 def one_script(name, modules):
     """The script of a module with all that it needs."""
     names = order_of(name, modules)
-    for it in names:
-        if not is_found(it, modules):
-            raise Fault(f"{it}: imports something that isn't exported in a form that the page of one file supports")
-    variables = [variable(it) for it in names]
+    for needed in names:
+        if not is_found(needed, modules):
+            raise Fault(f"{needed}: imports something that isn't exported in a form that the page of one file supports")
+    variables = [variable(module) for module in names]
     if len(set(variables)) < len(variables):
         raise Fault(f"two of the page's modules have the same name in one script: {' '.join(names)}")
-    return "'use strict';\n" + "".join(wrapped(it, modules) for it in names)
+    return "'use strict';\n" + "".join(wrapped(module, modules) for module in names)

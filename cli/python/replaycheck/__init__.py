@@ -39,7 +39,7 @@ _RENAMED = {"ReportedError": ("reports", "Error")}
 
 def _found(name):
     """Imports a public name from its module."""
-    module, there = _RENAMED.get(name) or next(((it, name) for it, names in _HOMES.items() if name in names), ("", ""))
+    module, there = _RENAMED.get(name) or next(((home, name) for home, names in _HOMES.items() if name in names), ("", ""))
     if not there:
         raise AttributeError(f"module {__name__!r} has no attribute {name!r}")
     from importlib import import_module

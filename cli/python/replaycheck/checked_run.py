@@ -158,7 +158,7 @@ def with_places(shown, options):
 
 def verdict_line(options):
     """The line of `look certify` on the run, by a look with its options of the heap; nothing where the files can't be read twice."""
-    if not all(os.path.isfile(it) for it in (options.file, options.input) if it is not None):
+    if not all(os.path.isfile(path) for path in (options.file, options.input) if path is not None):
         return ""
     lines = [f"option {name} {getattr(options, name)}" for name in ("redzone", "queue") if getattr(options, name) is not None]
     given = ["--input", path_of(options.input)] if options.input is not None else []

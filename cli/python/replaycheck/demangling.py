@@ -36,7 +36,7 @@ class Demangler:
 
     def learn(self, symbols):
         """Asks for names, many at a time."""
-        waiting = [it for it in dict.fromkeys(symbols) if is_mangled(it) and it not in self.known]
+        waiting = [symbol for symbol in dict.fromkeys(symbols) if is_mangled(symbol) and symbol not in self.known]
         try:
             while waiting and self.is_on:
                 waiting = self.ask(waiting)
@@ -49,8 +49,8 @@ class Demangler:
         """Asks for the first of some names. Returns those that are left."""
         self.child = self.child or started()
         questions, count = b"", 0
-        for number, it in enumerate(waiting):
-            question = f"{it}\n{number}\n".encode()
+        for number, symbol in enumerate(waiting):
+            question = f"{symbol}\n{number}\n".encode()
             if questions and len(questions) + len(question) > AT_ONCE:
                 break
             questions, count = questions + question, number + 1
@@ -59,11 +59,11 @@ class Demangler:
             self.child.stdin.flush()
         except BrokenPipeError:
             self.ended()
-        for number, it in enumerate(waiting[:count]):
+        for number, symbol in enumerate(waiting[:count]):
             told = self.line()
             if self.line() != str(number):
-                raise Fault(f"c++filt: no answer for {it}")
-            self.known[it] = told if told.isprintable() and told else it
+                raise Fault(f"c++filt: no answer for {symbol}")
+            self.known[symbol] = told if told.isprintable() and told else symbol
         return waiting[count:]
 
     def line(self):

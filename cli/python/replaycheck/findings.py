@@ -65,7 +65,7 @@ def outside(calls: list[Call]):
     outside either: `operator new` may have functions of its own, which call `malloc`."""
     begin = 0
     if any(call.is_of_allocator for call in calls if call.address == calls[0].address):
-        begin = max(at for at, it in enumerate(calls, 1) if it.is_of_allocator)
+        begin = max(at for at, call in enumerate(calls, 1) if call.is_of_allocator)
     return [call for call in calls[begin:] if not call.is_of_allocator and not call.is_of_library]
 
 
@@ -110,7 +110,7 @@ class Shown:
     def show(self, paths, is_demangled):
         """Finds the places of all addresses, and the names that all functions have in the source. Returns what can't be found, in lines: a
         report can do without it."""
-        traces = [it for error in self.report.errors for it in (error.trace, error.note.trace if error.note else [])]
+        traces = [trace for error in self.report.errors for trace in (error.trace, error.note.trace if error.note else [])]
         frames = [frame for trace in [*traces, *(leak.trace for leak in self.report.leaks)] for frame in trace]
         addresses = [frame.address for frame in frames] + ([] if self.report.state.address is None else [self.report.state.address])
         missing, self.names = [], Demangler(is_demangled)
@@ -122,7 +122,7 @@ class Shown:
             self.places = NoPlaces()
             self.places.learn(addresses)
         own = [self.places.name(frame.address, frame.name) for frame in frames]
-        self.names.learn(own + [it.function for told in self.places.known.values() for it in told])
+        self.names.learn(own + [place.function for told in self.places.known.values() for place in told])
         return missing + ([f"no names as in the source: {self.names.fault}"] if self.names.fault else [])
 
     @property
@@ -152,7 +152,7 @@ class Shown:
         if (address, name) not in self.made:
             places = self.places.at(address) or [None]
             symbols = [*(place.function for place in places[:-1]), self.places.name(address, name)]
-            self.made[address, name] = [Call(address, it, self.names.name(it), place) for it, place in zip(symbols, places)]
+            self.made[address, name] = [Call(address, symbol, self.names.name(symbol), place) for symbol, place in zip(symbols, places)]
         return self.made[address, name]
 
     def findings(self):

@@ -120,7 +120,7 @@ def json_text(shown):
 @functools.cache
 def uri(path):
     """A path as a URI: absolute, or relative to the root of the sources."""
-    text = "".join(chr(it) if it in PLAIN else f"%{it:02X}" for it in os.fsencode(path))
+    text = "".join(chr(byte) if byte in PLAIN else f"%{byte:02X}" for byte in os.fsencode(path))
     return ("file://" if path.startswith("/") else "") + text
 
 
@@ -192,7 +192,7 @@ def sarif_text(shown):
     rules = list(RULES)
     driver = {"name": "replaycheck", "version": shown.version,
               "rules": [{"id": rule, "shortDescription": {"text": RULES[rule]}} for rule in rules]}
-    names = [os.path.basename(it) for it in (shown.file, shown.given) if it is not None]
+    names = [os.path.basename(path) for path in (shown.file, shown.given) if path is not None]
     run = {"tool": {"driver": driver}, "automationDetails": {"id": "/".join(["replaycheck", *map(printable, names), ""])},
            "invocations": [invocation(shown)], "results": [*sarif_results(shown, rules)]}
     schema = "https://json.schemastore.org/sarif-2.1.0.json"
@@ -363,8 +363,8 @@ def gcc_text(shown):
 
 def escaped(text, also=""):
     """A text as a command of GitHub's runner takes it; a property can't have what is in `also` either."""
-    for it in "%\r\n" + also:
-        text = text.replace(it, f"%{ord(it):02X}")
+    for character in "%\r\n" + also:
+        text = text.replace(character, f"%{ord(character):02X}")
     return printable(text)
 
 

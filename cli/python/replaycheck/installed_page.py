@@ -74,7 +74,7 @@ def show(options: Namespace) -> int:
 
 def copy(out: pathlib.Path, front: bytes) -> int:
     """Writes the file, the folder and the front page."""
-    for path in (PLACE / FILE, *sorted(it for it in (PLACE / FOLDER).rglob("*") if it.is_file())):
+    for path in (PLACE / FILE, *sorted(file for file in (PLACE / FOLDER).rglob("*") if file.is_file())):
         to = out / path.relative_to(PLACE)
         with naming(str(to)):
             to.parent.mkdir(parents=True, exist_ok=True)

@@ -83,7 +83,7 @@ class Sections:
         except OSError:
             data = b""
         elf = None if beginning(data) or tables(data) else Elf(data)
-        self.lines, self.line_texts, self.texts = (content(elf, it) if elf else b"" for it in ("line", "line_str", "str"))
+        self.lines, self.line_texts, self.texts = (content(elf, name) if elf else b"" for name in ("line", "line_str", "str"))
 
 
 def content(elf: Elf, name) -> bytes:
@@ -197,7 +197,7 @@ class Unit:
     @functools.cached_property
     def including(self) -> str | None:
         """The path of file 0, where some begin a sequence, if the file in which it does begin is another one."""
-        zero, first = (self.path(it) for it in (0, FIRST_FILE)) if self.has_header and self.version == 5 else ("", "")
+        zero, first = (self.path(number) for number in (0, FIRST_FILE)) if self.has_header and self.version == 5 else ("", "")
         return zero if zero != first else None
 
 
@@ -301,8 +301,8 @@ class LineTable:
     def __init__(self, path):
         self.sections = Sections(path)
         self.units: list[Unit] = [*itertools.islice(self.all_units(), MOST_UNITS)]
-        begins = sorted(self.beginnings(), key=lambda it: it[0])
-        self.starts, self.sequences = [it for it, _ in begins], [it for _, it in begins]
+        begins = sorted(self.beginnings(), key=lambda begin: begin[0])
+        self.starts, self.sequences = [start for start, _ in begins], [sequence for _, sequence in begins]
 
     def all_units(self) -> Iterator[Unit]:
         lines, begin = self.sections.lines, 0
@@ -330,8 +330,9 @@ class LineTable:
 
     def row(self, address, is_wanted=lambda unit: True) -> Row | None:
         """The row of an address, or None, also where it isn't of a unit that is wanted."""
-        wanted = (it for it in last_of(self.sequences, self.starts, address) if it.unit.has_header and is_wanted(it.unit))
-        return next(filter(None, (it.row(address) for it in wanted)), None)
+        wanted = (sequence for sequence in last_of(self.sequences, self.starts, address)
+                  if sequence.unit.has_header and is_wanted(sequence.unit))
+        return next(filter(None, (sequence.row(address) for sequence in wanted)), None)
 
     def misread(self, address) -> Row | None:
         """The row of an address of which some take file 0 for its file, though that is another one."""

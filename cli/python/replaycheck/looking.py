@@ -137,7 +137,7 @@ class Run:
             self.at(self.step)
             state, *rows = self.look("registers")
             words = state.split()[1:]
-            pairs = [(0, 0)] + [tuple(int(it, 16) for it in row.split()[1:]) for row in rows]
+            pairs = [(0, 0)] + [tuple(int(word, 16) for word in row.split()[1:]) for row in rows]
             pc = self.last_pc() if words[0] == "exited" else int(words.pop(), 16)
             self.seen = Seen(" ".join(words), pc, *([pair[i] for pair in pairs] for i in (0, 1)))
             self.seen_at = self.step
@@ -162,7 +162,7 @@ class Run:
         """The bytes of a range, up to 2^32."""
         end = min(address + length, TOP)
         seen = [self.view(begin, min(MOST_SEEN, end - begin)) for begin in range(address, end, MOST_SEEN)]
-        return Bytes(b"".join(it.data for it in seen), "".join(it.undefined for it in seen))
+        return Bytes(b"".join(part.data for part in seen), "".join(part.undefined for part in seen))
 
     def view(self, address, length):
         self.at(self.step)
@@ -182,13 +182,13 @@ class Run:
     def stack(self) -> List[int]:
         """The address of the next instruction at the step, and those of the calls that the program is in, newest first: the newest 256."""
         self.at(self.step)
-        return [int(it, 16) for it in self.look("stack")[0].split()[1:]]
+        return [int(word, 16) for word in self.look("stack")[0].split()[1:]]
 
     def blocks(self) -> List[Block]:
         """The blocks of the heap at the step, in order: also freed ones, as long as their places aren't used again."""
         self.at(self.step)
         rows = [row.split() for row in self.listed("blocks", 0)]
-        return [Block(int(row[1], 16), int(row[2]), row[3] == "live", [int(it, 16) for it in row[4:]]) for row in rows]
+        return [Block(int(row[1], 16), int(row[2]), row[3] == "live", [int(word, 16) for word in row[4:]]) for row in rows]
 
     # ---- which step does something
 
@@ -203,12 +203,12 @@ class Run:
 
     def reaches(self):
         """How far steps are looked for, at first near the one where it is: the last is the whole run."""
-        return [*(it for it in NEAR if it < self.limit), self.limit]
+        return [*(reach for reach in NEAR if reach < self.limit), self.limit]
 
     def end(self):
         """The step at which the program runs no more, or the last that there is."""
         if self.last_step is None:
-            edge = next((it for it in self.reaches()[:-1] if not self.runs_at(it)), self.limit)
+            edge = next((reach for reach in self.reaches()[:-1] if not self.runs_at(reach)), self.limit)
             last = self.search("last", "run", ALL, edge, 0)
             self.last_step = 0 if last is None else last + 1
         return self.last_step
@@ -247,7 +247,7 @@ class Run:
 
     def errors_of(self, step):
         """The errors that a step makes, in words."""
-        before, after = (errors_by_trace(self.report(it)) for it in (step, step + 1))
+        before, after = (errors_by_trace(self.report(moment)) for moment in (step, step + 1))
         return [trace[0] for trace, count in after.items() if count > before.get(trace, 0)]
 
 

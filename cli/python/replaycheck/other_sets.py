@@ -13,8 +13,8 @@ def set_with_all(file, isa):
             found = Findings(opened.read(1 << 26), {}, set(), isa)
     except (OSError, Fault, ValueError, IndexError):
         return asked
-    needed = SHORT if isa == USUAL and any(is_control(it.word) for it in found.control) else isa
-    best = max((it for it in (asked, found.isa, needed) if it), key=ISAS.index)
+    needed = SHORT if isa == USUAL and any(is_control(instruction.word) for instruction in found.control) else isa
+    best = max((candidate for candidate in (asked, found.isa, needed) if candidate), key=ISAS.index)
     return best if ISAS.index(best) > ISAS.index(isa) else None
 
 

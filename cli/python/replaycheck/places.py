@@ -53,7 +53,7 @@ def names_of_here():
     names, shells = [os.path.realpath(".")], os.environ.get("PWD", "")
     if shells.startswith("/") and os.path.realpath(shells) == names[0]:
         names.append(os.path.normpath(shells))
-    return [it.rstrip("/") + "/" for it in dict.fromkeys(names)]
+    return [name.rstrip("/") + "/" for name in dict.fromkeys(names)]
 
 
 class NoPlaces:
@@ -94,16 +94,16 @@ class Places:
 
     def learn(self, addresses):
         """Asks for the places of addresses, many at a time."""
-        new = [it for it in dict.fromkeys(addresses) if it not in self.known]
+        new = [wanted for wanted in dict.fromkeys(addresses) if wanted not in self.known]
         for begin in range(0, len(new), AT_ONCE):
             part = new[begin:begin + AT_ONCE]
             try:
-                self.child.stdin.write("".join(f"{self.asked(it)}\n{NOWHERE}\n" for it in part).encode())
+                self.child.stdin.write("".join(f"{self.asked(wanted)}\n{NOWHERE}\n" for wanted in part).encode())
                 self.child.stdin.flush()
             except BrokenPipeError:
                 self.ended()
             # addr2line reads the file meanwhile
-            rows = [self.table.misread(int(str(self.asked(it)), 16)) for it in part]
+            rows = [self.table.misread(int(str(self.asked(wanted)), 16)) for wanted in part]
             for address, row in zip(part, rows):
                 self.known[address] = self.righted(row, self.answer())
 
@@ -120,7 +120,7 @@ class Places:
         self.read()
         told = list(iter(self.read, NOWHERE))
         self.read(), self.read()
-        return [it for it in map(self.place, told[::2], told[1::2]) if it]
+        return [place for place in map(self.place, told[::2], told[1::2]) if place]
 
     @functools.cached_property
     def table(self):
@@ -150,8 +150,8 @@ class Places:
 
 def is_same(path, one, other):
     """Whether a path is rather one than another one. Both may lack the folder where they begin."""
-    names = [os.path.basename(it) for it in (path, one, other)]
+    names = [os.path.basename(name) for name in (path, one, other)]
     if names[1] != names[2]:
         return names[0] == names[1]
-    whole = [os.path.normpath(it) for it in (path, one, other)]
+    whole = [os.path.normpath(name) for name in (path, one, other)]
     return whole[0].endswith(whole[1]) and not whole[0].endswith(whole[2])

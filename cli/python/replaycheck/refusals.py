@@ -33,7 +33,7 @@ WORDS = {
     30: "more than 16777216 bytes are loaded",
     31: "a bad table of symbols",
 }
-REFUSALS = ("refused", *(f"replaycheck: {it} refused" for it in ("image", "input", "suppressions", "bytes", "words")))
+REFUSALS = ("refused", *(f"replaycheck: {what} refused" for what in ("image", "input", "suppressions", "bytes", "words")))
 AT_LINE = "replaycheck: suppressions refused 13 at line"
 UNREADABLE = "replaycheck: cannot read "
 

@@ -12,7 +12,7 @@ class Form:
 
 
 CALLS, ACCESSES = Form("__replaycheck_stubs", 28, "$semihosting"), Form("__replaycheck_device_stubs", 112, "$device")
-FORMS = {it.range: it for it in (CALLS, ACCESSES)}
+FORMS = {form.range: form for form in (CALLS, ACCESSES)}
 LONGEST_FILE = 1 << 26
 
 
@@ -21,7 +21,7 @@ def ranges_of(data):
     if not any(name.encode() in data for name in FORMS):
         return
     from replaycheck.guest.elf import Elf, refusals  # here, as few files have stubs
-    if any(not it.readable for it in refusals(data)):
+    if any(not refusal.readable for refusal in refusals(data)):
         return
     elf = Elf(data)
     for symbol in elf.symbols:

@@ -97,8 +97,8 @@ class Alterer:
         """Goes elsewhere. Behind a call of a function gdb sets the registers back whose values have changed, pc as the last of them, and
         leaves alone what it holds to be unchanged, so that undefined bits are set back here."""
         seen, step = self.run.registers(), self.run.step
-        before = next((it for call in reversed(self.calls) if call.step < step for it in reversed(call.seen)
-                       if it.pc == value and it.values == seen.values), None)
+        before = next((earlier for call in reversed(self.calls) if call.step < step for earlier in reversed(call.seen)
+                       if earlier.pc == value and earlier.values == seen.values), None)
         lines = [f"set {step} pc 0x{value:08x}"]
         if before is not None:
             lines += [set_bits(step, number, seen.values[number], bits) for number, bits in enumerate(before.undefined)

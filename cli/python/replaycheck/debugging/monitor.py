@@ -111,7 +111,7 @@ class Monitor:
         asked = ["--input", path_of(given)] if given is not None else []
         asked += ["--supp", path_of(supp)] if supp is not None else []
         asked += [*isa_words(self.run.isa), *self.run.regions.words, *limit_words(self.run.limit)]
-        asked += [it for line in self.run.edits for it in ("--line", line)]
+        asked += [part for line in self.run.edits for part in ("--line", line)]
         asked += [f"--last={min(self.run.step + 1, self.run.limit)}", f"--error={number(words[0]) if words else 1}"]
         child = start([f"{TOP}/cli/bin/replaycheck-origin", path_of(file), *asked], stdin=subprocess.DEVNULL,
                       stdout=subprocess.PIPE, stderr=subprocess.STDOUT, env={**os.environ, "COLUMNS": "100"})
@@ -204,7 +204,7 @@ class Monitor:
         """What stands."""
         taken(words, 0, 0, word)
         listed, others = self.alterer.standing()
-        rows = [*(f"   {other}" for other in others), *(f"{index}: {it}" for index, it in enumerate(listed))]
+        rows = [*(f"   {other}" for other in others), *(f"{index}: {line}" for index, line in enumerate(listed))]
         return "\n".join(rows or ["no edits"]) + "\n"
 
     def unmark(self, word, *words):

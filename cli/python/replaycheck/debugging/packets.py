@@ -77,18 +77,18 @@ class Packets:
 
 def escaped(data):
     """Bytes in which none begins or ends a packet."""
-    return b"".join(bytes([ESCAPE, it ^ 0x20]) if it in b"#$}*" else bytes([it]) for it in data)
+    return b"".join(bytes([ESCAPE, byte ^ 0x20]) if byte in b"#$}*" else bytes([byte]) for byte in data)
 
 
 def unescaped(data):
     found, rest = bytearray(), iter(data)
-    for it in rest:
-        if it == ESCAPE:
-            it = next(rest, None)
-            if it is None:
+    for byte in rest:
+        if byte == ESCAPE:
+            byte = next(rest, None)
+            if byte is None:
                 break
-            it ^= 0x20
-        found.append(it)
+            byte ^= 0x20
+        found.append(byte)
     return bytes(found)
 
 

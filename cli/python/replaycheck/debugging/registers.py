@@ -27,14 +27,14 @@ def feature(name, registers):
 
 def description(controls=()):
     """What gdb is told of the registers, where there are control registers of these names."""
-    plain = [register(it, number, "data_ptr" if it in POINTERS else "int") for number, it in enumerate(NAMES)]
+    plain = [register(name, number, "data_ptr" if name in POINTERS else "int") for number, name in enumerate(NAMES)]
     plain.append(register("pc", PC, "code_ptr"))
     own = [register("step", STEP, "uint32", "general")]
-    own += [register(it + "s1", SHADOWS + number, "uint32", "shadow") for number, it in enumerate(NAMES)]
-    own += [register(it + "s1", CONTROLS + len(controls) + number, "uint32", "shadow") for number, it in enumerate(controls)]
+    own += [register(name + "s1", SHADOWS + number, "uint32", "shadow") for number, name in enumerate(NAMES)]
+    own += [register(name + "s1", CONTROLS + len(controls) + number, "uint32", "shadow") for number, name in enumerate(controls)]
     parts = feature("org.gnu.gdb.riscv.cpu", plain) + feature("org.replaycheck.run", own)
     if controls:
-        kept = [register(it, CONTROLS + number, "int", "csr") for number, it in enumerate(controls)]
+        kept = [register(name, CONTROLS + number, "int", "csr") for number, name in enumerate(controls)]
         parts += feature("org.gnu.gdb.riscv.csr", kept)
     return HEAD + parts + "</target>\n"
 
@@ -55,5 +55,5 @@ def value_of(number, run):
     if number < CONTROLS:
         return run.registers().undefined[number - SHADOWS]
     controls = run.controls()
-    values = [it.value for it in controls] + [it.undefined for it in controls]
+    values = [control.value for control in controls] + [control.undefined for control in controls]
     return values[number - CONTROLS] if number - CONTROLS < len(values) else None

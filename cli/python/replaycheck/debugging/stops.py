@@ -89,7 +89,7 @@ class Goer:
         if kind == "write":
             low, high = (here, edge) if way == "next" else (edge, here)
             found += [step - 1 for step, written in self.alterer.writes() if low < step <= high and overlap(span, written)]
-        return (min if way == "next" else max)((it for it in found if it is not None), default=None)
+        return (min if way == "next" else max)((step for step in found if step is not None), default=None)
 
     def first(self, here, edge, within):
         """The first stop before a step. An error at a stop of another kind is told when it goes on from there: gdb itself has points for

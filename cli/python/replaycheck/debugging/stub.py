@@ -91,7 +91,7 @@ class Stub:
         if stop.word == END:
             self.packets.say(f"[{self.run.registers().state} at step {stop.step}]\n")
         if stop.errs:
-            self.packets.say("".join(f"[step {stop.step} makes an error: {it}]\n" for it in self.run.errors_of(stop.step)))
+            self.packets.say("".join(f"[step {stop.step} makes an error: {error}]\n" for error in self.run.errors_of(stop.step)))
         return self.stopped(stop.word)
 
     def point(self, text, does):
@@ -104,10 +104,10 @@ class Stub:
     # ---- what there is
 
     def described(self, text):
-        return part(description([it.name for it in self.run.controls()]), text)
+        return part(description([control.name for control in self.run.controls()]), text)
 
     def all_registers(self, _):
-        return "".join(in_hexadecimal(value_of(it, self.run)) for it in range(PC + 1))
+        return "".join(in_hexadecimal(value_of(number, self.run)) for number in range(PC + 1))
 
     def one_register(self, text):
         value = value_of(numbers(text, 1)[0], self.run)

@@ -55,13 +55,13 @@ def told(search, teller, options):
     search.floor = max(0, search.step - SHORT) if is_short else 0
     origins = search.needed(search.origins(reads))
     if not search.certified(origins):
-        origins = [Group(it.step, it.ranges, "read") for it in reads]
+        origins = [Group(read.step, read.ranges, "read") for read in reads]
         if not search.certified(origins):
             teller.lines("", "no certificate: no marks that were found remove it with none to spare")
             return 1
     if len(origins) > 1:
         teller.lines(f" it hangs on {len(origins)} origins together")
     for index, group in enumerate(origins):
-        teller.origin(index + 1, group, [it for it in origins if it is not group])
+        teller.origin(index + 1, group, [other for other in origins if other is not group])
     teller.certificate(origins)
-    return int(any(it.made in ("lost", "read") for it in origins))
+    return int(any(origin.made in ("lost", "read") for origin in origins))

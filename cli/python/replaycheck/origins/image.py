@@ -24,14 +24,14 @@ class Image:
         self.has_halves = isa != USUAL
         with open(path, "rb") as file:
             data = file.read(LONGEST_FILE + 1)
-        if any(not it.readable for it in refusals(data, regions)):
+        if any(not refusal.readable for refusal in refusals(data, regions)):
             raise Fault(f"{path}: it has changed since the program read it")
         self.elf = Elf(data, regions)
         self.heap = {symbol.value: self.elf.name(symbol) for symbol in reversed(self.elf.symbols)
                      if symbol.info & 15 == FUNCTION and self.elf.name(symbol) in HEAP_FUNCTIONS}
         self.patched = halves_of(filter(None, map(PATCH.fullmatch, lines)))
         found = filter(None, map(MARK.fullmatch, lines))
-        self.marked = [(int(it[1], 0), int(it[2], 0), int(it[2], 0) + int(it[3], 0), it[0]) for it in found]
+        self.marked = [(int(mark[1], 0), int(mark[2], 0), int(mark[2], 0) + int(mark[3], 0), mark[0]) for mark in found]
 
     def word(self, address):
         return self.half(address) | self.half(address + 2) << 16
@@ -83,9 +83,9 @@ class Image:
 def halves_of(patches):
     """What patches write, two bytes at each address: a later one over those before it."""
     found = {}
-    for it in patches:
-        at, value = int(it[2], 0), int(it[3], 0)
-        for place in range(1 if it[1] else 2):
+    for patch in patches:
+        at, value = int(patch[2], 0), int(patch[3], 0)
+        for place in range(1 if patch[1] else 2):
             found[at + 2 * place] = value >> 16 * place & 0xFFFF
     return found
 

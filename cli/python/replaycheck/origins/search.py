@@ -136,11 +136,11 @@ class Search:
         *rest, (low, high) = ranges
         fewer = [[*rest, (low, high - 1)], *(ranges[:i] + ranges[i + 1:] for i in range(len(ranges)))]
         return self.removes(beside + marked(step, ranges)) and not any(
-            self.removes(beside + marked(step, it)) for it in fewer)
+            self.removes(beside + marked(step, part)) for part in fewer)
 
     def first_byte(self, step, beside):
         """The first byte that must be marked at a step."""
-        low = most(0, size_of(self.memory), lambda it: self.removes(beside + halves(self.all_at(step), it)[1]))
+        low = most(0, size_of(self.memory), lambda size: self.removes(beside + halves(self.all_at(step), size)[1]))
         return halves(self.all_at(step), low)[1][0][1]
 
     def trimmed(self, step, ranges, beside):
@@ -190,7 +190,7 @@ class Search:
         undefined."""
         addresses = self.trials.addresses(first, last)
         creates = {address for address in set(addresses) if self.image.creates(address)}
-        steps = {first + index + 1 for index, it in enumerate(addresses) if it in creates}
+        steps = {first + index + 1 for index, address in enumerate(addresses) if address in creates}
         steps |= {step for step, *_ in self.image.marked if first < step <= last}
         room = self.trials.room // 2 // len(self.memory)
         return [first, *sorted(steps)[-room:]]
@@ -237,14 +237,14 @@ class Search:
         self.trials.doing = "the last reads"
         groups = self.groups_at(self.moments(self.step, []), [])
         for group in groups:
-            others = marks_of(it for it in groups if it is not group)
+            others = marks_of(other for other in groups if other is not group)
             group.step = self.last_with(group.step, group.ranges, others)
         self.shapes = [group.ranges for group in groups if size_of(group.ranges) > MANY]
         return groups
 
     def last_with(self, step, ranges, beside):
         """The last step, from one on, at which these bytes may be marked to remove the error: it reads them."""
-        return most(step, self.step + 1, lambda it: self.removes(beside + marked(it, ranges)))
+        return most(step, self.step + 1, lambda later: self.removes(beside + marked(later, ranges)))
 
     def was_there(self, step, beside):
         """Whether the value was in memory at a step, or shortly before it and then in registers."""
@@ -276,7 +276,7 @@ class Search:
         for _ in range(MOST_GROUPS):
             if not waiting:
                 return merged(found)
-            waiting.sort(key=lambda it: it.step)
+            waiting.sort(key=lambda queued: queued.step)
             group = waiting.pop()
             beside = marks_of(waiting + found)
             if self.removes(beside):
@@ -311,15 +311,15 @@ class Search:
     def parted(self, group, beside, kind):
         """The ranges of a group that were undefined before the step that made others so, and these others."""
         reached, earlier, made = self.reached, [], []
-        for index, it in enumerate(group.ranges):
+        for index, span in enumerate(group.ranges):
             others = beside + marks_of(earlier + made) + marked(group.step, group.ranges[index + 1:])
             if kind != "frame":
                 self.reach(len(REACHES) - 1)  # a block that moves comes from anywhere
             if self.removes(others + self.all_at(group.step - 1)):
-                earlier.append(Group(group.step - 1, self.least(group.step - 1, others, [it])))
+                earlier.append(Group(group.step - 1, self.least(group.step - 1, others, [span])))
             else:
                 heap = kind if kind not in ("frame", "call") else ""
-                made += self.by_lines(Group(group.step, [it], "frame" if kind == "frame" else "heap", heap))
+                made += self.by_lines(Group(group.step, [span], "frame" if kind == "frame" else "heap", heap))
         if not earlier:
             self.reach(reached)
         return earlier, made
@@ -340,10 +340,10 @@ class Search:
         if len(marks) > 1 and sum(high - low for _, low, high in marks) <= CLOSE:
             marks = self.least_marks(marks, [])
         for mark in list(marks):
-            rest = [it for it in marks if it != mark]
+            rest = [other for other in marks if other != mark]
             marks = rest if self.removes(rest) else marks
         left = [Group(group.step, joined(inside(marks, group)), group.made, group.heap) for group in groups]
-        return [it for it in left if it.ranges]
+        return [group for group in left if group.ranges]
 
     def certified(self, groups):
         """Whether the report, asked once more, hasn't the error with the marks of all groups, and has it with each left
@@ -352,7 +352,7 @@ class Search:
         self.trials.make_room()
         marks = marks_of(groups)
         return bool(marks) and self.lacks(marks) and not any(
-            self.lacks([it for it in marks if it != mark]) for mark in marks)
+            self.lacks([other for other in marks if other != mark]) for mark in marks)
 
     # ---- on to the error
 
@@ -418,8 +418,8 @@ def inside(marks, group):
 def merged(groups):
     """One group for all bytes that one thing made undefined, by step."""
     found = {}
-    for it in groups:
-        found.setdefault((it.step, it.made), Group(it.step, [], it.made, it.heap)).ranges.extend(it.ranges)
-    for it in found.values():
-        it.ranges = joined(it.ranges)
-    return sorted(found.values(), key=lambda it: (it.step, it.ranges))
+    for part in groups:
+        found.setdefault((part.step, part.made), Group(part.step, [], part.made, part.heap)).ranges.extend(part.ranges)
+    for whole in found.values():
+        whole.ranges = joined(whole.ranges)
+    return sorted(found.values(), key=lambda group: (group.step, group.ranges))

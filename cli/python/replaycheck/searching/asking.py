@@ -25,7 +25,7 @@ class Repairs:
     def __init__(self, worker, entry, tries):
         self.worker, self.tries = worker, tries
         self.guards: List[Guard] = entry.guards
-        self.steps = frozenset(it.step for it in self.guards)
+        self.steps = frozenset(guard.step for guard in self.guards)
 
     def begin(self, content: bytes, how: str, unrepaired="", then=None, kept: Kept = frozenset()):
         """Tries an input once it is repaired. One that needs no repair is tried if `unrepaired` says how it was made. `then` gets the input
@@ -46,7 +46,7 @@ class Repairs:
 
     def repaired(self, content: bytes, pairs: List[Pair], kept: Kept):
         """The input with the first compare put right that has to be."""
-        found = {it.step: it for it in pairs}
+        found = {differing.step: differing for differing in pairs}
         for guard in self.guards:
             pair = found.get(guard.step) if kept.isdisjoint(guard.parts.values()) else None
             made = guard.repaired(content, pair) if pair and pair.others[0] != pair.others[1] else None
@@ -82,10 +82,10 @@ class Asking:
         self.repairs = Repairs(self.worker, self.entry, self.tries)
         if self.repairs.guards:
             self.change_repaired()
-        for it in self.longer:
-            self.repairs.begin(it, "repair", self.how, self.tried)
-        for it in self.compares.tokens():
-            self.worker.mutations.add(it)
+        for content in self.longer:
+            self.repairs.begin(content, "repair", self.how, self.tried)
+        for token in self.compares.tokens():
+            self.worker.mutations.add(token)
         self.solve()
 
     def lengthen(self):
@@ -114,8 +114,8 @@ class Asking:
         for offset in range(min(len(self.content), MOST_ASKED)):
             self.worker.differ(self.tries, self.changed(offset), partial(self.replied, offset))
             self.worker.settle(self.tries, AHEAD)
-        for it in self.longer_by_one():
-            self.worker.differ(self.tries, it, lambda _, pairs: self.compares.add_longer(pairs))
+        for longer in self.longer_by_one():
+            self.worker.differ(self.tries, longer, lambda _, pairs: self.compares.add_longer(pairs))
         self.worker.settle(self.tries)
 
     def longer_by_one(self) -> List[bytes]:
@@ -133,8 +133,8 @@ class Asking:
         for offset in self.parting:
             self.repairs.ask(self.changed(offset), partial(self.repaired, offset), frozenset([offset]))
             self.worker.settle(self.tries, AHEAD)
-        for it in self.longer_by_one():
-            self.repairs.ask(it, self.repaired_longer, frozenset())
+        for longer in self.longer_by_one():
+            self.repairs.ask(longer, self.repaired_longer, frozenset())
         self.worker.settle(self.tries)
 
     def repaired(self, offset: int, content: bytes, pairs: List[Pair], rounds: int):

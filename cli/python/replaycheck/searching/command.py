@@ -148,7 +148,8 @@ class Search:
         until = self.state.begun + options.time if options.time else float("inf")
         return Plan(self.opened, self.code, options.step, [content for _, content in self.seeds], self.tokens, options.max_len,
                     None if goal is None else goal.encode("utf-8", "surrogateescape"), options.runs, options.seed, until,
-                    self.folder.path, self.folder.own, [finding.text for finding in self.findings], self.first_seed, self.first, os.getpid())
+                    self.folder.path, self.folder.own, [finding.text for finding in self.findings], self.first_seed, self.first,
+                    os.getpid())
 
     def work(self):
         """Runs the workers. A signal or a fault ends them. What was found until a signal comes is printed, too."""
@@ -204,18 +205,18 @@ class Search:
         if any(finding.text == text for finding in self.findings):
             return
         taken = {finding.number for finding in self.findings}
-        number = next(it for it in range(1, len(taken) + 2) if it not in taken)
-        tries = runs + sum(it.runs for other, it in enumerate(self.state.told) if other != place)
+        number = next(candidate for candidate in range(1, len(taken) + 2) if candidate not in taken)
+        tries = runs + sum(told.runs for other, told in enumerate(self.state.told) if other != place)
         self.findings.append(Finding(number, text, address, bytes.fromhex(content), tries))
         self.keep(self.findings[-1])
         self.state.findings, self.state.finding_at = len(self.findings), time.monotonic()
 
     def take_shorter(self, _, content, text):
-        for it in self.findings:
+        for finding in self.findings:
             made = bytes.fromhex(content)
-            if it.text == text and len(made) <= len(it.content):
-                it.content = made
-                self.keep(it)
+            if finding.text == text and len(made) <= len(finding.content):
+                finding.content = made
+                self.keep(finding)
 
     def take_fault(self, _, text, said):
         fault = Fault(text)
@@ -235,7 +236,7 @@ class Search:
     def tell(self, covered):
         options = self.options
         names = [os.path.basename(options.file), *([os.path.basename(self.seeds[0][0])] if self.seeds[0][0] else [])]
-        found = sorted(self.findings, key=lambda it: it.number)
+        found = sorted(self.findings, key=lambda finding: finding.number)
         lines = summary(" with ".join(map(shown_name, names)), self, found, SourceLines(os.path.abspath(options.file)))
         write("".join(f"{line}\n" for line in [*lines, *([executed_told(covered)] if covered else [])]))
 
@@ -266,7 +267,7 @@ class Search:
 def check_output(options):
     """Rejects an info file that would overwrite a file that is read."""
     read = [("the program", options.file), ("the suppressions", options.supp), ("the tokens", options.tokens),
-            *(("an input", it) for it in options.input)]
+            *(("an input", name) for name in options.input)]
     for what, path in read:
         if options.lcov not in (None, "-") and path is not None and is_one(options.lcov, path):
             raise Fault(f"--lcov {shown_name(options.lcov)}: it would overwrite {what}")
@@ -286,10 +287,10 @@ def output_of(options, room):
 def search(options) -> int:
     check_output(options)
     with Room() as room, output_of(options, room) as output:
-        it = Search(options, room)
+        search = Search(options, room)
         try:
-            it.work()
+            search.work()
         except Interrupted:
-            it.interrupted()
+            search.interrupted()
             raise
-        return it.end(output)
+        return search.end(output)

@@ -64,7 +64,7 @@ class Compare:
                 parts = self.parts(side, sign)
                 if parts:
                     found.append((count - len(parts), Guard(self.step, side, parts, sign)))
-        yield from (it for _, it in sorted(found, key=lambda it: it[0]))
+        yield from (guard for _, guard in sorted(found, key=lambda ranked: ranked[0]))
 
 
 class Compares:
@@ -87,12 +87,12 @@ class Compares:
     def add_longer(self, pairs: List[Pair]):
         """Adds what one byte more moves, where that isn't known."""
         for pair in pairs:
-            it = self.at(pair)
-            if it.longer == [0, 0]:
-                it.longer = differences(pair)
+            compare = self.at(pair)
+            if compare.longer == [0, 0]:
+                compare.longer = differences(pair)
 
     def guards(self) -> List[Guard]:
-        found = [it for step in sorted(self.found) for it in self.found[step].guards()]
+        found = [guard for step in sorted(self.found) for guard in self.found[step].guards()]
         return found[:MOST_GUARDS]
 
     def in_order(self) -> Iterator[Compare]:
@@ -100,52 +100,52 @@ class Compares:
         steps: Dict[int, List[int]] = {}
         for step in sorted(self.found):
             steps.setdefault(self.found[step].pc, []).append(step)
-        chosen = {it for those in steps.values() for it in (*those[:MOST_AT_ONE], *those[-MOST_AT_ONE:])}
+        chosen = {kept for those in steps.values() for kept in (*those[:MOST_AT_ONE], *those[-MOST_AT_ONE:])}
         yield from (self.found[step] for step in sorted(chosen))
 
     def solved(self, most: int) -> Iterator[Tuple[bytes, Compare]]:
         """The inputs by which compares come out otherwise, none twice, each with its compare. The last compare comes first: of an input
         with many parts the last one changes, and there is room before it for what another one has to say."""
         known = {self.content}
-        for it in reversed(list(self.in_order())):
+        for compare in reversed(list(self.in_order())):
             for side in (0, 1):
-                for content in (*self.lengths(it, side, most), *self.contents(it, side)):
+                for content in (*self.lengths(compare, side, most), *self.contents(compare, side)):
                     if content is not None and content not in known:
                         known.add(content)
-                        yield content, it
+                        yield content, compare
 
-    def contents(self, it: Compare, side: int) -> Iterator[Optional[bytes]]:
+    def contents(self, compare: Compare, side: int) -> Iterator[Optional[bytes]]:
         for sign in SIGNS:
-            parts = it.parts(side, sign)
+            parts = compare.parts(side, sign)
             if parts:
                 for near in NEAR:
-                    yield moved(self.content, parts, sign * (it.operands[1 - side] - it.operands[side] + near))
-                if self.comparisons.at(it.pc).is_signed:
-                    yield moved(self.content, parts, sign * (-1 - it.operands[side]), wraps=True)
+                    yield moved(self.content, parts, sign * (compare.operands[1 - side] - compare.operands[side] + near))
+                if self.comparisons.at(compare.pc).is_signed:
+                    yield moved(self.content, parts, sign * (-1 - compare.operands[side]), wraps=True)
 
-    def lengths(self, it: Compare, side: int, most: int) -> Iterator[bytes]:
+    def lengths(self, compare: Compare, side: int, most: int) -> Iterator[bytes]:
         """Inputs of other lengths, where the length moves an operand."""
-        each = signed(it.longer[side], 32)
+        each = signed(compare.longer[side], 32)
         for near in NEAR if each else ():
-            more = (signed(it.operands[1 - side], 32) + near - signed(it.operands[side], 32)) // each
+            more = (signed(compare.operands[1 - side], 32) + near - signed(compare.operands[side], 32)) // each
             length = len(self.content) + more
             if abs(more) < FARTHEST and 1 <= length <= most:
                 yield self.content[:length].ljust(length, b"\0")
 
     def tokens(self) -> Iterator[bytes]:
         """The values that bytes are compared with, as they would be in the input."""
-        for it in self.in_order():
+        for compare in self.in_order():
             for side in (0, 1):
-                parts = it.parts(side, 1)
+                parts = compare.parts(side, 1)
                 if parts:
-                    yield token(it.operands[1 - side], parts)
+                    yield token(compare.operands[1 - side], parts)
 
     # ---- which bytes they depend on
 
     @property
     def moving(self) -> Set[int]:
         """The offsets of bytes that compares depend on."""
-        return {offset for it in self.found.values() for offset in it.moves}
+        return {offset for compare in self.found.values() for offset in compare.moves}
 
     def end(self) -> int:
         """An offset soon after the last byte that a compare depends on."""
@@ -154,7 +154,7 @@ class Compares:
     def without_idle(self, most: int) -> bytes:
         """The input with other bytes for those that no compare depends on, of the first ones, which were changed to see that."""
         moving, most = self.moving, min(most, self.end())
-        return bytes(it if at in moving or at >= most else IDLE for at, it in enumerate(self.content))
+        return bytes(byte if at in moving or at >= most else IDLE for at, byte in enumerate(self.content))
 
 
 def differences(pair: Pair) -> List[int]:

@@ -27,10 +27,10 @@ class Known:
 
     def add(self, content: bytes) -> bool:
         """Adds an input. Returns whether it is new."""
-        it = hashlib.blake2b(content, digest_size=16).digest()
-        if it in self.sums or len(self.sums) >= MOST_KNOWN:
+        digest = hashlib.blake2b(content, digest_size=16).digest()
+        if digest in self.sums or len(self.sums) >= MOST_KNOWN:
             return False
-        self.sums.add(it)
+        self.sums.add(digest)
         return True
 
 
@@ -75,11 +75,11 @@ class Deepening:
     def step(self) -> bool:
         """Does a piece of work. Returns whether there was one."""
         if self.waiting:
-            it = self.waiting.popleft()
-            self.worker.at_work = it.entry
-            asking = Deeper(self.worker, Entry(it.content, it.entry.number, False), self)
+            source = self.waiting.popleft()
+            self.worker.at_work = source.entry
+            asking = Deeper(self.worker, Entry(source.content, source.entry.number, False), self)
             asking.work()
-            self.add(it.entry, asking, it.depth)
+            self.add(source.entry, asking, source.depth)
             return True
         sources = next(filter(None, self.sources), None)
         if not sources:
@@ -98,8 +98,8 @@ class Deepening:
             if parting and parting.pc not in places and len(self.waiting) < MOST_WAITING and self.asked.add(content):
                 places.add(parting.pc)
                 self.waiting.append(Source(source.entry, content, [], source.depth + 1))
-        for it in source.vain:
-            self.worker.differ(tries, it, take)
+        for content in source.vain:
+            self.worker.differ(tries, content, take)
             self.worker.settle(tries, AHEAD)
         self.worker.settle(tries)
 
@@ -117,4 +117,4 @@ class Deeper(Asking):
         """Leaves the length as it is."""
 
     def inputs(self) -> Iterator[Tuple[bytes, Optional[Compare]]]:
-        return (it for it in super().inputs() if self.deepening.tried.add(it[0]))
+        return (candidate for candidate in super().inputs() if self.deepening.tried.add(candidate[0]))

@@ -98,8 +98,8 @@ class Folders:
     def queues(self) -> List[str]:
         """The folders of queues: this search's first."""
         found = [os.path.join(self.path, QUEUE)]
-        found += sorted((os.path.join(it.path, QUEUE) for it in os.scandir(self.path) if it.is_dir()), key=os.fsencode)
-        return [self.own, *(it for it in found if os.path.isdir(it) and it != self.own)]
+        found += sorted((os.path.join(folder.path, QUEUE) for folder in os.scandir(self.path) if folder.is_dir()), key=os.fsencode)
+        return [self.own, *(queue for queue in found if os.path.isdir(queue) and queue != self.own)]
 
     def new(self) -> Iterator[Tuple[str, Optional[int], bytes]]:
         """The files that have come: the folder of each, its number there, and its content."""

@@ -110,7 +110,7 @@ class Folder:
             content = read(self.finding(f"{found[1]}.input"), 1 << 20) if found and text else None
             if found and text and content is not None:
                 line, *more = text.decode("utf-8", "surrogateescape").rstrip("\n").split("\n")
-                counts = [TRIES.fullmatch(it) for it in more]
+                counts = [TRIES.fullmatch(other) for other in more]
                 address = more[0] if more and not counts[0] else ""
                 yield Finding(int(found[1]), line, address, content, next((int(count[1]) for count in counts if count), None))
 
@@ -134,7 +134,7 @@ def session_lines(seed: bytes, content: bytes, step: int) -> List[str]:
         lines = ["bytes is " + content.hex() if content else "bytes is"] if content != seed else []
     else:
         more = content[len(seed):]
-        lines = [*(f"input append {it}" for it in more), *(["input cut"] * (len(seed) - len(content)))]
+        lines = [*(f"input append {byte}" for byte in more), *(["input cut"] * (len(seed) - len(content)))]
         whole = (seed + more)[:len(content)]
         for at in range(0, len(content), LONGEST):
             was, part = whole[at:at + LONGEST], content[at:at + LONGEST]

@@ -21,8 +21,8 @@ class Mutations:
         self.random, self.most = random.Random(seed).random, most
         self.tokens: List[bytes] = []
         self.known: Set[bytes] = set()
-        for it in tokens:
-            self.add(it)
+        for token in tokens:
+            self.add(token)
         self.same_length: List[Callable] = [self.flip, self.byte, self.byte, self.value, self.add_to, self.add_to, self.over, self.over,
                                             self.copy, self.pair]
         self.all: List[Callable] = [*self.same_length, self.put, self.put, self.remove, self.repeat, self.repeat, self.insert]

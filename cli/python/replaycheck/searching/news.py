@@ -67,14 +67,14 @@ class News:
 
     def skip(self, number: int, text: bytes):
         """Takes what an outcome has as known, as a seed has it."""
-        self.known.update(it.text for it in self.learn(number, text))
+        self.known.update(part.text for part in self.learn(number, text))
 
     def new(self, number: int, text: bytes) -> List[Part]:
         """What an outcome has that wasn't known. It is known then."""
-        found = [it for it in self.learn(number, text) if it.text not in self.known]
-        self.known.update(it.text for it in found)
+        found = [part for part in self.learn(number, text) if part.text not in self.known]
+        self.known.update(part.text for part in found)
         return found
 
     def has(self, number: int, finding: str) -> bool:
         """Whether an outcome has a finding."""
-        return any(it.text == finding for it in self.parts.get(number, ()))
+        return any(part.text == finding for part in self.parts.get(number, ()))

@@ -51,8 +51,8 @@ class Comparisons:
 
     def at(self, address: int) -> Comparing:
         if address not in self.known:
-            it = self.code.instruction(address)
-            self.known[address] = Comparing(None if it is None else it.word)
+            instruction = self.code.instruction(address)
+            self.known[address] = Comparing(None if instruction is None else instruction.word)
         return self.known[address]
 
     def take(self, pairs: List[Pair]) -> bool:
@@ -60,27 +60,27 @@ class Comparisons:
         run before."""
         is_new = False
         for pair in pairs:
-            it = self.at(pair.pc)
-            if it.is_branch or it.condition is None:
+            compare = self.at(pair.pc)
+            if compare.is_branch or compare.condition is None:
                 continue
-            if it.is_zero:
+            if compare.is_zero:
                 pair.mine[1] = pair.others[1] = 0
-            self.values.add((pair.pc, it.condition(*pair.mine)))
-            value = (pair.pc, it.condition(*pair.others))
+            self.values.add((pair.pc, compare.condition(*pair.mine)))
+            value = (pair.pc, compare.condition(*pair.others))
             is_new = is_new or value not in self.values
             self.values.add(value)
         return is_new
 
     def has_open_value(self, address: int) -> bool:
         """Whether a compare may put a value into a register that isn't known."""
-        it = self.at(address)
-        return not it.is_branch and it.condition is not None and not {(address, False), (address, True)} <= self.values
+        compare = self.at(address)
+        return not compare.is_branch and compare.condition is not None and not {(address, False), (address, True)} <= self.values
 
     def part_ways(self, pair: Pair) -> bool:
         """Whether the two runs continue at different places after a compare."""
-        it = self.at(pair.pc)
-        return it.is_branch and it.condition is not None and it.condition(*pair.mine) != it.condition(*pair.others)
+        compare = self.at(pair.pc)
+        return compare.is_branch and compare.condition is not None and compare.condition(*pair.mine) != compare.condition(*pair.others)
 
     def parting(self, pairs: List[Pair]) -> Optional[Pair]:
         """The compare after which two runs continue at different places."""
-        return next((it for it in pairs if self.part_ways(it)), None)
+        return next((pair for pair in pairs if self.part_ways(pair)), None)

@@ -98,7 +98,7 @@ class Workers:
 
     def add(self, work: Callable, unneeded: List[int]):
         number = len(self.running)
-        worker = Forked(work, [*unneeded, *(it.stdout.fileno() for it in self.running)])
+        worker = Forked(work, [*unneeded, *(other.stdout.fileno() for other in self.running)])
         children.append(worker)
         self.running.append(worker)
         self.selector.register(worker.stdout, selectors.EVENT_READ, (number, worker))
@@ -128,5 +128,5 @@ class Workers:
 
     def stop(self):
         """Has the workers end. They report how far they are first."""
-        for it in self.running:
-            it.terminate()
+        for worker in self.running:
+            worker.terminate()

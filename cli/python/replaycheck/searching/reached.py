@@ -44,8 +44,8 @@ class Reached:
         elif content is not None:
             run(self.options.file, path, self.options, self.sides)
         found = self.sides.all()
-        self.count = sum(it in self.addresses for it in found)
-        self.sides_count = sum(bin(it).count("1") for it in found.values())
+        self.count = sum(address in self.addresses for address in found)
+        self.sides_count = sum(bin(sides).count("1") for sides in found.values())
         return True
 
     def look_at(self, content: bytes):

@@ -16,12 +16,12 @@ def paths_of(name: str) -> Iterator[str]:
     if not os.path.isdir(name):
         yield name
         return
-    names = [it for it, _ in files_in(name)]
+    names = [file for file, _ in files_in(name)]
     if os.path.isdir(os.path.join(name, QUEUE)):  # the folder of a whole search
         yield from paths_of(os.path.join(name, QUEUE))
         return
-    for it in names:
-        path = os.path.join(name, it)
+    for file in names:
+        path = os.path.join(name, file)
         if os.path.exists(path) and stat.S_ISREG(os.stat(path).st_mode):  # a link may lead nowhere
             yield path
 

@@ -66,11 +66,11 @@ class State:
 
     @property
     def runs(self) -> int:
-        return sum(it.runs for it in self.told)
+        return sum(told.runs for told in self.told)
 
     @property
     def all_running(self) -> bool:
-        return all(it.all_running for it in self.told)
+        return all(told.all_running for told in self.told)
 
     @property
     def now(self) -> float:
@@ -131,11 +131,11 @@ class State:
 
     @property
     def pending(self) -> int:
-        return min(it.waiting for it in self.told)
+        return min(told.waiting for told in self.told)
 
     @property
     def cycles(self) -> int:
-        return min(it.cycles for it in self.told)
+        return min(told.cycles for told in self.told)
 
     def cover(self) -> str:
         whole = self.reached.total if self.reached else 0

@@ -41,10 +41,10 @@ def summary(title: str, search, found: List[Finding], sources: SourceLines) -> I
     yield from found_lines(search, found)
     if not found:
         return
-    sources.learn([it.address for it in found])
+    sources.learn([finding.address for finding in found])
     yield ""
     yield f"   finding  bytes  {'new error, leak or stop' if search.options.goal is None else 'line of the outcome'}"
-    for it in found:
-        yield f"   {it.name:>7}  {len(it.content):5}  {sources.told(Part(it.text, it.address))}"
-        if len(it.content) <= LONGEST:
-            yield f"{INDENT}bytes is {it.content.hex()}".rstrip()
+    for finding in found:
+        yield f"   {finding.name:>7}  {len(finding.content):5}  {sources.told(Part(finding.text, finding.address))}"
+        if len(finding.content) <= LONGEST:
+            yield f"{INDENT}bytes is {finding.content.hex()}".rstrip()

@@ -20,7 +20,7 @@ AT_ONCE = 1 << 16  # bytes of one read
 PATIENCE = 1.0  # seconds after which a wait is interrupted for a look at the clock
 PAIRS_KEPT = 4  # compares at one address of those that a reply lists: the first ones and the last ones
 MOST_AHEAD = 1000  # lines of the runs that a new session makes first
-REFUSED, TRIED, END = (it.encode() for it in (replies.REFUSED, replies.TRIED, replies.END))
+REFUSED, TRIED, END = (word.encode() for word in (replies.REFUSED, replies.TRIED, replies.END))
 FULL = REFUSED + b"1"  # memory ran out
 # What a line is, and which replies are passed on: a try, of which those with news, or each; a question for compares; a counted line.
 NEWS, EACH, COMPARES, LINE = range(4)
@@ -95,9 +95,9 @@ class Tries:
         self.numbers, self.dull, self.counted, self.is_full = [], set(), 0, False
         self.line(f"goto {self.step}")
         runs = self.runs
-        for it in self.known():
-            self.prepare(it)
-            self.attempt(it, lambda *_: None)
+        for known in self.known():
+            self.prepare(known)
+            self.attempt(known, lambda *_: None)
             self.settle(MOST_AHEAD)
         self.settle()
         self.runs = runs
@@ -244,7 +244,7 @@ def pairs_in(lines: List[bytes], kept) -> List[Pair]:
             found.add(place)
     for those in places.values():
         found.update(those[:PAIRS_KEPT], those[-PAIRS_KEPT:])
-    return [Pair(lines[it]) for it in sorted(found)]
+    return [Pair(lines[chosen]) for chosen in sorted(found)]
 
 
 def common(one: bytes, other: bytes) -> int:

@@ -307,14 +307,14 @@ class Worker:
                 self.finish()
         self.keep_fresh()
         self.tell_state()
-        for it in self.sessions.values():
-            it.close()
+        for tries in self.sessions.values():
+            tries.close()
 
     def finish(self):
         """Takes the replies that are to come, as long as there is time."""
         with contextlib.suppress(Over):
-            for it in list(self.sessions.values()):
-                it.settle()
+            for tries in list(self.sessions.values()):
+                tries.settle()
 
     def turn(self):
         """Does the next piece of work."""
@@ -328,7 +328,7 @@ class Worker:
         if self.deepening.is_due:
             self.deepening.turn()
             return
-        entry = min(reversed(self.entries), key=lambda it: it.rank)
+        entry = min(reversed(self.entries), key=lambda queued: queued.rank)
         entry.taken += 1
         self.at_work = entry
         if entry.is_own or entry.taken > 1:
@@ -402,8 +402,8 @@ class Worker:
             if at + size <= len(content):
                 yield content[:at] + content[at + size:]
                 yield content[:at + size] + content[at:]
-        for it in self.mutations.tokens[:MOST_PLACED]:
-            yield content[:at] + it + content[at:]
+        for token in self.mutations.tokens[:MOST_PLACED]:
+            yield content[:at] + token + content[at:]
 
 
 def share(runs: Optional[int], place: int, count: int) -> Optional[int]:
