@@ -84,12 +84,12 @@ class Code:
             while (index := stretch.seen.find(1, index)) >= 0:
                 yield None
                 while index < len(stretch.seen) and stretch.seen[index]:
-                    it = self.instruction(stretch.start + self.unit * index)
-                    if it is None:
+                    instruction = self.instruction(stretch.start + self.unit * index)
+                    if instruction is None:
                         index += 1
                         break
-                    yield it
-                    index += it.length // self.unit
+                    yield instruction
+                    index += instruction.length // self.unit
 
     def data(self):
         """What mapping symbols call data: from each up to the next one or the next function."""
@@ -228,13 +228,15 @@ def stack_words(code, entry):
     before = 0
     while address not in walked and len(walked) < FURTHEST:
         walked.add(address)
-        it = code.instruction(address)
-        if it is None or rv32.opcode(it.word) == rv32.JALR or rv32.opcode(it.word) == rv32.JAL and rv32.rd(it.word) != rv32.ZERO:
+        instruction = code.instruction(address)
+        if instruction is None or rv32.opcode(instruction.word) == rv32.JALR:
             break
-        if places_stack(it.word, before, bool(found)):
-            found.append(it)
-        before = it.word
-        address += rv32.branch_offset(it.word) if rv32.opcode(it.word) == rv32.JAL else it.length
+        if rv32.opcode(instruction.word) == rv32.JAL and rv32.rd(instruction.word) != rv32.ZERO:
+            break
+        if places_stack(instruction.word, before, bool(found)):
+            found.append(instruction)
+        before = instruction.word
+        address += rv32.branch_offset(instruction.word) if rv32.opcode(instruction.word) == rv32.JAL else instruction.length
     return found
 
 

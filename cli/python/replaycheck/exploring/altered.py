@@ -96,7 +96,7 @@ class Instructions:
     def text(self, address: int) -> Optional[str]:
         """The text of an instruction; those of all that are known are asked for together."""
         if address not in self.texts:
-            new = {address, *(address for address in self.addresses.values() if address is not None)} - self.texts.keys()
+            new = {address, *(other for other in self.addresses.values() if other is not None)} - self.texts.keys()
             self.texts.update(dict.fromkeys(new))
             self.texts.update(texts_at(self.request.program.path, new) if self.request.program.path else {})
         return self.texts[address]

@@ -40,7 +40,7 @@ class Outcome:
         starts = [i for i in range(begin, len(self.lines)) if not self.lines[i].startswith("   ")]
         for start, end in zip(starts, [*starts[1:], len(self.lines)]):
             part = part_of(self.lines[start], self.lines[start + 1:end])
-            if part.text not in {part.text for part in self.parts}:
+            if part.text not in {met.text for met in self.parts}:
                 self.parts.append(part)
 
     @property

@@ -200,7 +200,7 @@ class Picture:
         there = [text for text in texts if text in self.kinds.values()]
         for index, name in enumerate(there):
             y = top + LEGEND_LINE * (index + 1)
-            numbers = [kind for kind in self.kinds if self.kinds[kind] == name]
+            numbers = [number for number in self.kinds if self.kinds[number] == name]
             edits = sum(self.merged.tallies[number] for number in numbers)
             style = "ink b" if name[0] in "gn" else "ink"
             told = "; ".join(f"{number}: {self.told(number)}" for number in numbers)

@@ -87,12 +87,12 @@ class Code:
         for start, end in self.parts(executed):
             address, at = start, bisect.bisect_right(begins, start)
             while address + self.unit <= end:
-                it = self.instruction(address)
-                if it is None:
+                instruction = self.instruction(address)
+                if instruction is None:
                     break
-                yield it
-                address = it.next
-                while at < len(begins) and begins[at] <= it.address:
+                yield instruction
+                address = instruction.next
+                while at < len(begins) and begins[at] <= instruction.address:
                     at += 1
                 if at < len(begins) and begins[at] < address:
                     address = begins[at]
