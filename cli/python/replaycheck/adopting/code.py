@@ -176,9 +176,9 @@ class CodeOfHalves(Code):
         """Instructions have no one length: they are counted from the begin of the function, if there is one."""
         symbol, found = self.elf.function_places.before(address), []
         at = symbol.value if symbol else address
-        while at < address and (it := self.instruction(at)):
-            found.append(it)
-            at = it.next
+        while at < address and (instruction := self.instruction(at)):
+            found.append(instruction)
+            at = instruction.next
         return found[:-NEAR:-1] if at == address else []
 
     def line(self, address):

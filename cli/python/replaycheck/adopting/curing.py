@@ -54,7 +54,7 @@ class Cured:
                 places[name] = len(strings)
                 strings += name.encode() + b"\0"
             symbols += struct.pack("<IIIBBH", places[name], address, size, WEAK | kind, 0, section)
-        suffixes = tuple(form.suffix for form in FORMS.values())
+        suffixes = tuple(kind.suffix for kind in FORMS.values())
         added = ", ".join(f"{name} at 0x{address:08x}" for name, address, *_ in named if not name.endswith(suffixes))
         stubs = sum(name.endswith(suffixes) for name, *_ in named)
         added += f" and {stubs} of stubs" if stubs else ""

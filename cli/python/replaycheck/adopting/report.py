@@ -18,24 +18,25 @@ DEVICES = "device registers (unmapped): every access is reported, and polling lo
 HOST = "a word by which a host is asked (HTIF); no host answers"
 
 
-def device_line(elf, it):
+def device_line(elf, device):
     """One page that is reached where no memory is, or a word by which a host is asked."""
-    if not it.places:
-        return f"{it.name} at 0x{it.first:08x}: {HOST}"
-    span = f"0x{it.first:08x}" + (f" to 0x{it.last:08x}" if it.last > it.first else "") + (f", {it.name}" if it.name else "")
-    return f"{span}: from {elf.where_all(it.places)}"
+    if not device.places:
+        return f"{device.name} at 0x{device.first:08x}: {HOST}"
+    span = f"0x{device.first:08x}" + (f" to 0x{device.last:08x}" if device.last > device.first else "")
+    span += f", {device.name}" if device.name else ""
+    return f"{span}: from {elf.where_all(device.places)}"
 
 
-def taken_line(it):
-    called = [f"is called {it.function}, too, at 0x{it.named:08x}"] if it.named is not None else []
-    return f"{it.name} at 0x{it.symbol.value:08x}: " + "; ".join(it.texts + called)
+def taken_line(taken):
+    called = [f"is called {taken.function}, too, at 0x{taken.named:08x}"] if taken.named is not None else []
+    return f"{taken.name} at 0x{taken.symbol.value:08x}: " + "; ".join(taken.texts + called)
 
 
-def control_line(elf, it):
-    text = isa.control(it.word)
-    note = "; a wait for the clock has no end" if isa.reads_clock(it.word) else ""
-    note = "; what follows it is run" if text in isa.RETURNS and it.text == "nop" else note
-    return f"{elf.where(it.address)}: {text} becomes {it.text}{note}"
+def control_line(elf, instruction):
+    text = isa.control(instruction.word)
+    note = "; a wait for the clock has no end" if isa.reads_clock(instruction.word) else ""
+    note = "; what follows it is run" if text in isa.RETURNS and instruction.text == "nop" else note
+    return f"{elf.where(instruction.address)}: {text} becomes {instruction.text}{note}"
 
 
 def hosted_line(elf, address):

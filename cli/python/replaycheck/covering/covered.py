@@ -110,16 +110,16 @@ class Covered:
     def files(self) -> List[SourceFile]:
         return [self.by_name[name] for name in sorted(self.by_name)]
 
-    def add(self, it: Instruction, told: List[Place]):
+    def add(self, instruction: Instruction, told: List[Place]):
         """Adds an instruction with its places, from the innermost call that is inlined out to the function that has the code."""
-        sides = self.executed.get(it.address, 0)
+        sides = self.executed.get(instruction.address, 0)
         for depth, place in enumerate(told):
-            function = self.function_of(it, place, depth == len(told) - 1)
+            function = self.function_of(instruction, place, depth == len(told) - 1)
             if place.function == UNNAMED:
-                self.unnamed.append((it.address, place))
-            self.add_to(self.line_of(place.file, place.line, function), function, it, sides)
-        if it.is_branch and told:
-            self.by_name[told[0].file].lines[told[0].line].branches.append(self.branch(it, sides))
+                self.unnamed.append((instruction.address, place))
+            self.add_to(self.line_of(place.file, place.line, function), function, instruction, sides)
+        if instruction.is_branch and told:
+            self.by_name[told[0].file].lines[told[0].line].branches.append(self.branch(instruction, sides))
         self.placeless += not told
 
     def name_unnamed(self):
@@ -140,15 +140,16 @@ class Covered:
             line = self.by_name[place.file].lines[place.line]
             line.function = line.function or name
 
-    def add_to(self, line: Line, function: Optional[Function], it: Instruction, sides: int):
-        block = self.blocks.at(it.address)
+    def add_to(self, line: Line, function: Optional[Function], instruction: Instruction, sides: int):
+        block = self.blocks.at(instruction.address)
         if function:
             function.blocks[block] = function.blocks.get(block, False) or bool(sides)
         line.is_executed, line.has_unexecuted = line.is_executed or bool(sides), line.has_unexecuted or not sides
         line.blocks.add(block)
 
-    def branch(self, it: Instruction, sides: int) -> Branch:
-        return Branch(sides, self.blocks.at(it.address), self.blocks.leading(it.next), self.blocks.leading(it.target))
+    def branch(self, instruction: Instruction, sides: int) -> Branch:
+        return Branch(sides, self.blocks.at(instruction.address), self.blocks.leading(instruction.next),
+                      self.blocks.leading(instruction.target))
 
     def line_of(self, file: str, number: int, function: Optional[Function]) -> Line:
         lines = self.file_of(file).lines
@@ -161,13 +162,13 @@ class Covered:
             self.by_name[name] = SourceFile(name)
         return self.by_name[name]
 
-    def function_of(self, it: Instruction, place: Place, is_outer: bool) -> Optional[Function]:
+    def function_of(self, instruction: Instruction, place: Place, is_outer: bool) -> Optional[Function]:
         """The function of a place, which is in the file where its code begins: a part of it may be included from another one."""
         if place.function == UNNAMED:
             return None
         file = place.file
         if is_outer:
-            if self.outer is None or self.outer[0] != place.function or it.address in self.begins:
+            if self.outer is None or self.outer[0] != place.function or instruction.address in self.begins:
                 self.outer = (place.function, place.file)
             file = self.outer[1]
         functions = self.file_of(file).functions

@@ -18,21 +18,21 @@ def text(name: str) -> str:
     return name.encode("utf-8", "surrogateescape").decode("utf-8", "backslashreplace")
 
 
-def branches(it: Branch) -> list:
+def branches(branch: Branch) -> list:
     return [{"count": int(is_taken), "destination_block_id": NOWHERE if block is None else block, "fallthrough": way == 0,
-             "source_block_id": it.source, "throw": False} for way, (is_taken, block) in enumerate(it.ways)]
+             "source_block_id": branch.source, "throw": False} for way, (is_taken, block) in enumerate(branch.ways)]
 
 
-def line(number: int, it: Line) -> dict:
-    named = {"function_name": text(it.function)} if it.function else {}
-    return {"block_ids": sorted(it.blocks), "branches": [way for branch in it.branches for way in branches(branch)], "calls": [],
-            "conditions": [], "count": int(it.is_executed), "line_number": number, "unexecuted_block": it.has_unexecuted, **named}
+def line(number: int, covered: Line) -> dict:
+    named = {"function_name": text(covered.function)} if covered.function else {}
+    return {"block_ids": sorted(covered.blocks), "branches": [way for branch in covered.branches for way in branches(branch)], "calls": [],
+            "conditions": [], "count": int(covered.is_executed), "line_number": number, "unexecuted_block": covered.has_unexecuted, **named}
 
 
-def function(it: Function, names: Demangler) -> dict:
-    return {"blocks": len(it.blocks), "blocks_executed": sum(it.blocks.values()), "demangled_name": text(names.name(it.name)),
-            "end_column": 0, "end_line": it.last, "execution_count": int(it.is_executed), "name": text(it.name), "start_column": 0,
-            "start_line": it.first}
+def function(covered: Function, names: Demangler) -> dict:
+    return {"blocks": len(covered.blocks), "blocks_executed": sum(covered.blocks.values()),
+            "demangled_name": text(names.name(covered.name)), "end_column": 0, "end_line": covered.last,
+            "execution_count": int(covered.is_executed), "name": text(covered.name), "start_column": 0, "start_line": covered.first}
 
 
 def source(file: SourceFile, names: Demangler) -> dict:
