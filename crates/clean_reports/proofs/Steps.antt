@@ -157,7 +157,7 @@ module _ (c : Core) (qs : Held) (a : HeldAgree (held-of c) qs) (f g : ℕ → �
           (sym (ap (is_half c.isa) (sym half) ∙ k))
 
   -- both steps do the same
-  action-same : NoUse (action-leaves c (action_at c f setup.hooks) f).raised
+  pub action-same : NoUse (action-leaves c (action_at c f setup.hooks) f).raised
       → action_at c f setup.hooks ≡ action_at (swap c qs) g setup.hooks
   unfolding called_here
   action-same none = go (called_here c setup.hooks) none

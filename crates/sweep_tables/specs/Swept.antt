@@ -20,13 +20,13 @@ use Rattle.memory_map.specs.Regions.{heap_begin}
 use Rattle.memory_map.specs.declared.regions.Regions.{Regions}
 use Rattle.memory_map.specs.declared.regions.StackRegion.{StackRegion}
 use Rattle.report_lines.specs.Text.{address_text, newline}
-use Rattle.scenario.specs.Scenario.{Scenario, IsOutlineOf, at_step, begun_within, limit_for}
+use Rattle.scenario.specs.Scenario.{Scenario, IsOutlineOf}
 use Rattle.suppressions.specs.Rules.{Rule}
 use Rattle.sweeps.specs.Covered.{FitsPlan, HasCovered, apart_in, table_of}
 use Rattle.sweeps.specs.Covered.{range_of as table_range}
 use Rattle.sweeps.specs.Outcomes.{Met, AreMet}
 use Rattle.sweeps.specs.Standing.{changes_from}
-use Rattle.sweeps.specs.Sweeps.{HasMet, scenario_of, tells_output}
+use Rattle.sweeps.specs.Sweeps.{HasMet, scenario_of, tells_output, unedited_at}
 use Rattle.sweeps.specs.Tables.{rows_text, table_text}
 use Rattle.run_values.specs.declared.span.Span.{Span}
 use Rattle.sweep_tables.specs.SidesLines.{TellsSides, range_for, sides_lines}
@@ -265,7 +265,7 @@ abbrev pub case_with : List ℕ → List ℕ → ProgramImage → List ℕ → L
 case_with file text image input list words named part plan = record {
   head = head_text file input text (profile_of image) words plan named part;
   with_output = words.with_output;
-  sc = at_step (begun_within (limit_for words.step) image input list) words.step;
+  sc = unedited_at image input list words.step;
   plan = plan;
   from = part_from plan part;
   range = range_for words.with_sides plan image;

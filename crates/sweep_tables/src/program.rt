@@ -6,9 +6,8 @@ ghost use Rattle.sweep_plans.specs.Planned.{IsPart, part_from, part_to};
 ghost use Rattle.sweep_tables.specs.SidesLines.{range_for};
 ghost use Rattle.sweep_tables.specs.Swept.{Case, HasTable, Sweeps, Writes, case_with, head_text};
 ghost use Rattle.scenario.specs.Limits.{furthest_step, longest_input};
-ghost use Rattle.scenario.specs.Scenario.{at_step, begun_within, limit_for};
 ghost use Rattle.sweeps.specs.Covered.{HasCovered, range_of};
-ghost use Rattle.sweeps.specs.Sweeps.{HasMet, scenario_of, tells_output};
+ghost use Rattle.sweeps.specs.Sweeps.{HasMet, scenario_of, tells_output, unedited_at};
 ghost use Rattle.sweeps.specs.Tables.{rows_text};
 
 use crate::head::{Sources, Swept, push_head};
@@ -43,7 +42,8 @@ fn begin_table<'p>(
     requires short { length material.input.items ≤ longest_input }
     requires near { swept.words.now.step ≤ furthest_step }
     requires empty { out.old.items ≡ [] }
-    ensures scenario { IfOk result (λ sweep. scenario_of sweep ≡ at_step (begun_within (limit_for swept.entry.words.now.step) material.entry.image material.entry.input.items material.entry.suppressions.items) swept.entry.words.now.step) }
+    ensures scenario { IfOk result (λ sweep. scenario_of sweep
+        ≡ unedited_at material.entry.image material.entry.input.items material.entry.suppressions.items swept.entry.words.now.step) }
     ensures output { IfOk result (λ sweep. tells_output sweep ≡ swept.entry.words.now.with_output) }
     ensures range { IfOk result (λ sweep. range_of sweep ≡ range_for swept.entry.words.now.with_sides swept.entry.plan.now material.entry.image) }
     ensures covered { IfOk result (λ sweep. HasCovered sweep []) }

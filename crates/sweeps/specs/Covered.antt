@@ -14,6 +14,7 @@ use Rattle.sweep_plans.specs.declared.standing.Standing.{Standing}
 use Rattle.sweep_plans.specs.declared.standing.Standing.TheVariants as At
 use Rattle.sweeps.specs.Outcomes.{edited}
 use Rattle.sweeps.specs.Sweeps.{scenario_of}
+use Rattle.sweeps.specs.declared.entering.Coverage.{Coverage}
 use Rattle.sweeps.specs.declared.sweep.Sweep.{Sweep}
 
 -- how far the places of a scenario's instructions are apart
@@ -39,6 +40,10 @@ abbrev pub CoversMore : Scenario → ℕ → List Change → List Sides → List
 CoversMore sc first changes old new =
     (done : List Change) (len : ℕ) → AreCovered sc done (span first len) old
     → AreCovered sc (done ++ changes) (span first len) new
+
+-- the table of a coverage says so of these changes, too
+abbrev pub CoverageGrows : Scenario → List Change → Coverage → Coverage → Type 0
+CoverageGrows sc changes old new = CoversMore sc old.range.start changes old.table.items new.table.items
 
 -- a table can say what the runs of the changes there execute: at a byte, or anywhere if it has no rows
 abbrev pub MayCover : Standing → List Sides → Type 0

@@ -1,5 +1,5 @@
 -- What a sweep finds at a place: what is there, and the machine from which each run continues that is changed there.
-use Rattle.std.specs.Prelude.{◌≡◌, ℕ, ◌<◌, ◌≤◌, Bool, [], Option, Some, None}
+use Rattle.std.specs.Prelude.{◌≡◌, ℕ, ◌<◌, ◌≤◌, Bool, List, [], Option, Some, None}
 use Rattle.checkpoints.specs.Effects.{LeadsTo, Run, code_effect}
 use Rattle.checkpoints.specs.Forks.{IsForkFor}
 use Rattle.checkpoints.specs.declared.effect.Effect.TheVariants.{After}
@@ -12,9 +12,10 @@ use Rattle.scenario.specs.Edits.{row}
 use Rattle.scenario.specs.Scenario.{Scenario, run_of}
 use Rattle.sweep_plans.specs.Changes.{edit_of}
 use Rattle.sweep_plans.specs.declared.change.Change.{Change}
+use Rattle.sweep_plans.specs.declared.plan.Plan.{Plan}
 use Rattle.sweep_plans.specs.declared.standing.Standing.{Standing}
 use Rattle.sweep_plans.specs.declared.standing.Standing.TheVariants as At
-use Rattle.sweeps.specs.Standing.{IsAt, Stands, state_before}
+use Rattle.sweeps.specs.Standing.{IsAt, Stands, all_changes, state_before}
 use Rattle.sweeps.specs.Recall.{IsTouched}
 use Rattle.sweeps.specs.declared.memory.Turning.{Turning}
 use Rattle.sweeps.specs.declared.sites.Site.{Site}
@@ -30,6 +31,10 @@ abbrev pub ForksEachCode : Scenario → ℕ → ℕ → Fork → Type 0
 ForksEachCode sc addr len fork =
     (code : Code) → len_of code ≡ len
     → IsForkFor (code_effect (profile_of sc.image).isa sc.marks addr code) (run_of sc) sc.step fork
+
+-- the changes of a plan at what is found there
+abbrev pub changes_there : Scenario → Plan → Site → List Change
+changes_there sc plan site = all_changes sc plan (Some site.standing)
 
 -- this is found where something is, and nothing else
 abbrev pub IsFoundAt : Scenario → Option Standing → Option Site → Type 0

@@ -1,6 +1,8 @@
 -- The scenario of a sweep, and what it has met.
 use Rattle.std.specs.Prelude.{◌≡◌, ℕ, ◌++◌, Bool, List, length, map}
-use Rattle.scenario.specs.Scenario.{Scenario, IsOutlineOf}
+use Rattle.guest_elf.specs.declared.image.Image.{Image}
+use Rattle.scenario.specs.Scenario.{Scenario, IsOutlineOf, at_step, begun_within, limit_for}
+use Rattle.suppressions.specs.Rules.{Rule}
 use Rattle.texts.specs.Tallied.{entries_of}
 use Rattle.sweeps.specs.Recall.{Recalls}
 use Rattle.sweeps.specs.Outcomes.{Met, AreMet, standing, steps_of, tallied}
@@ -8,6 +10,10 @@ use Rattle.sweeps.specs.Tables.{rows_after, rows_text}
 use Rattle.sweep_plans.specs.declared.change.Change.{Change}
 use Rattle.sweeps.specs.declared.counting.Counts.{Counts}
 use Rattle.sweeps.specs.declared.sweep.Sweep.{Sweep}
+
+-- the scenario of a file with an input and rules at a step, with the limit that the step needs
+abbrev pub unedited_at : Image → List ℕ → List Rule → ℕ → Scenario
+unedited_at image input rules step = at_step (begun_within (limit_for step) image input rules) step
 
 -- the scenario whose edits are tried, and whether outcomes have the number of bytes written
 unfoldable pub scenario_of : Sweep → Scenario

@@ -1,8 +1,7 @@
 //! How a sweep begins: with an unedited scenario, and the outcome of its run.
 ghost use Rattle.std.specs.Prelude.{◌≡◌, ◌≤◌, ◌++◌, [], ℕ, List, IfOk, length};
 ghost use Rattle.scenario.specs.Limits.{furthest_step, longest_input};
-ghost use Rattle.scenario.specs.Scenario.{at_step, begun_within, limit_for};
-ghost use Rattle.sweeps.specs.Sweeps.{Counted};
+ghost use Rattle.sweeps.specs.Sweeps.{Counted, unedited_at};
 ghost use Rattle.sweeps.specs.Tables.{rows_text};
 
 use crate::counting::Counts;
@@ -25,7 +24,7 @@ pub(crate) fn scenario_at<'a>(
 ) -> Result<Scenario<'a>, AllocError>
     requires short { length input.items ≤ longest_input }
     requires near { step ≤ furthest_step }
-    ensures { IfOk result (λ scenario. scenario ≡ at_step (begun_within (limit_for step) image.entry input.items suppressions.items) step) }
+    ensures { IfOk result (λ scenario. scenario ≡ unedited_at image.entry input.items suppressions.items step) }
 {
     let mut scenario = Scenario::begin_within(alloc, image, input, suppressions, limit_for(step))?;
     scenario.choose(step);

@@ -1,5 +1,5 @@
 //! The changes of a byte, one at a time, each by a run that enters in a table what it executes.
-ghost use Rattle.std.specs.Prelude.{◌≡◌, ◌≤◌, ◌∷◌, [], ℕ, IfOk, OnOk, Some, length};
+ghost use Rattle.std.specs.Prelude.{◌≡◌, ◌≤◌, ◌∷◌, [], ℕ, IfOk, OnOk, length};
 ghost use Rattle.std.specs.List.{All};
 ghost use Rattle.checkpoints.specs.Effects.{IsOfSetup, LeadsTo, Run};
 ghost use Rattle.checkpoints.specs.Forks.{IsForkFor};
@@ -7,10 +7,10 @@ ghost use Rattle.checkpoints.specs.Merged.{AlsoEnters};
 ghost use Rattle.scenario.specs.Edits.{row};
 ghost use Rattle.scenario.specs.Scenario.{IsOutlineOf, run_of, limit_of};
 ghost use Rattle.sweep_plans.specs.Changes.{edit_of};
-ghost use Rattle.sweeps.specs.Covered.{AreCovered, CoversMore, IsByte, MayCover};
+ghost use Rattle.sweeps.specs.Covered.{AreCovered, CoverageGrows, CoversMore, IsByte, MayCover};
 ghost use Rattle.sweeps.specs.Outcomes.{IsOutcome};
-ghost use Rattle.sweeps.specs.Sites.{Continues};
-ghost use Rattle.sweeps.specs.Standing.{IsAt, IsBelow, Stands, all_changes};
+ghost use Rattle.sweeps.specs.Sites.{Continues, changes_there};
+ghost use Rattle.sweeps.specs.Standing.{IsAt, IsBelow, Stands};
 ghost use Rattle.sweeps.specs.Sweeps.{CountsMore};
 
 use crate::counting::Counts;
@@ -128,7 +128,7 @@ fn try_entering(
     ensures range { coverage.new.range ≡ coverage.old.range }
     ensures same { scenario.new ≡ scenario.old }
     ensures met { OnOk result (CountsMore counts.old counts.new with_output scenario.old (change ∷ []) out.old.items out.new.items) }
-    ensures covers { OnOk result (CoversMore scenario.old coverage.old.range.start (change ∷ []) coverage.old.table.items coverage.new.table.items) }
+    ensures covers { OnOk result (CoverageGrows scenario.old (change ∷ []) coverage.old coverage.new) }
 {
     let outcome = outcome_entering(
         scenario,
@@ -162,7 +162,7 @@ fn try_each_entering(
     ensures range { coverage.new.range ≡ coverage.old.range }
     ensures same { scenario.new ≡ scenario.old }
     ensures met { OnOk result (CountsMore counts.old counts.new with_output scenario.old changes.now out.old.items out.new.items) }
-    ensures covers { OnOk result (CoversMore scenario.old coverage.old.range.start changes.now coverage.old.table.items coverage.new.table.items) }
+    ensures covers { OnOk result (CoverageGrows scenario.old changes.now coverage.old coverage.new) }
 {
     for change in changes {
         try_entering(scenario, counts, site, *change, coverage, with_output, out)?;
@@ -188,8 +188,8 @@ fn try_byte(
     requires fork { Continues scenario.old site.now.standing site.now.fork }
     ensures range { coverage.new.range ≡ coverage.old.range }
     ensures same { scenario.new ≡ scenario.old }
-    ensures met { OnOk result (CountsMore counts.old counts.new settings.with_output scenario.old (all_changes scenario.old plan.now (Some site.now.standing)) out.old.items out.new.items) }
-    ensures covers { OnOk result (CoversMore scenario.old coverage.old.range.start (all_changes scenario.old plan.now (Some site.now.standing)) coverage.old.table.items coverage.new.table.items) }
+    ensures met { OnOk result (CountsMore counts.old counts.new settings.with_output scenario.old (changes_there scenario.old plan.now site.now) out.old.items out.new.items) }
+    ensures covers { OnOk result (CoverageGrows scenario.old (changes_there scenario.old plan.now site.now) coverage.old coverage.new) }
 {
     let changes = plan.changes(settings.alloc, site.standing)?;
     try_each_entering(
@@ -221,9 +221,10 @@ pub(crate) fn try_site(
     requires fork { Continues run.old.scenario site.now.standing site.now.fork }
     ensures range { coverage.new.range ≡ coverage.old.range }
     ensures same { run.new.scenario ≡ run.old.scenario }
-    ensures met { OnOk result (CountsMore counts.old counts.new settings.with_output run.old.scenario (all_changes run.old.scenario plan.now (Some site.now.standing)) out.old.items out.new.items) }
+    ensures met { OnOk result (CountsMore counts.old counts.new settings.with_output run.old.scenario
+        (changes_there run.old.scenario plan.now site.now) out.old.items out.new.items) }
     ensures covers { OnOk result (MayCover site.now.standing coverage.old.table.items
-        → CoversMore run.old.scenario coverage.old.range.start (all_changes run.old.scenario plan.now (Some site.now.standing)) coverage.old.table.items coverage.new.table.items) }
+        → CoverageGrows run.old.scenario (changes_there run.old.scenario plan.now site.now) coverage.old coverage.new) }
 {
     if coverage.table.is_empty() {
         return try_place(settings, &mut run.scenario, counts, plan, site, out);

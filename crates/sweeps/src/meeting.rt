@@ -1,13 +1,13 @@
 //! The changes of one place, one at a time.
-ghost use Rattle.std.specs.Prelude.{◌≡◌, ◌≤◌, ◌∷◌, [], OnOk, Some};
+ghost use Rattle.std.specs.Prelude.{◌≡◌, ◌≤◌, ◌∷◌, [], OnOk};
 ghost use Rattle.std.specs.List.{All};
 ghost use Rattle.checkpoints.specs.Forks.{IsForkFor};
 ghost use Rattle.scenario.specs.Edits.{row};
 ghost use Rattle.scenario.specs.Scenario.{run_of, limit_of};
 ghost use Rattle.sweep_plans.specs.Changes.{edit_of};
 ghost use Rattle.sweep_plans.specs.Plans.{changes_of};
-ghost use Rattle.sweeps.specs.Sites.{Continues};
-ghost use Rattle.sweeps.specs.Standing.{IsAt, IsBelow, Stands, all_changes};
+ghost use Rattle.sweeps.specs.Sites.{Continues, changes_there};
+ghost use Rattle.sweeps.specs.Standing.{IsAt, IsBelow, Stands};
 ghost use Rattle.sweeps.specs.Sweeps.{CountsMore};
 
 use crate::accesses::is_running;
@@ -137,7 +137,7 @@ pub(crate) fn try_place(
     requires below { IsBelow scenario.old.step site.now.standing }
     requires fork { Continues scenario.old site.now.standing site.now.fork }
     ensures same { scenario.new ≡ scenario.old }
-    ensures met { OnOk result (CountsMore counts.old counts.new settings.with_output scenario.old (all_changes scenario.old plan.now (Some site.now.standing)) out.old.items out.new.items) }
+    ensures met { OnOk result (CountsMore counts.old counts.new settings.with_output scenario.old (changes_there scenario.old plan.now site.now) out.old.items out.new.items) }
 {
     try_all(settings, scenario, counts, plan, site, out)?;
     try_memory(settings, scenario, counts, plan, site, out)?;

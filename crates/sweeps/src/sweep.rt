@@ -52,12 +52,11 @@ pub struct Sweep<'a> {
 impl<'a> Sweep<'a> {
     ghost use Rattle.std.specs.Prelude.{◌≡◌, ◌≤◌, ◌++◌, [], ℕ, List, IfOk, OnOk, length, map};
     ghost use Rattle.scenario.specs.Limits.{furthest_step, longest_input};
-    ghost use Rattle.scenario.specs.Scenario.{at_step, begun_within, limit_for};
     ghost use Rattle.sweep_plans.specs.declared.change.Change.{Change};
     ghost use Rattle.sweeps.specs.Covered.{FitsPlan, HasCovered, apart_in, range_of, table_of};
     ghost use Rattle.sweeps.specs.Outcomes.{Met};
     ghost use Rattle.sweeps.specs.Standing.{changes_at};
-    ghost use Rattle.sweeps.specs.Sweeps.{HasMet, MeetsMore, scenario_of, tells_output};
+    ghost use Rattle.sweeps.specs.Sweeps.{HasMet, MeetsMore, scenario_of, tells_output, unedited_at};
     ghost use Rattle.sweeps.specs.Tables.{rows_text, table_text};
 
     /// Returns a sweep of a program with an input and suppressions at a step, which has a table of a range of addresses. Executes the
@@ -73,7 +72,7 @@ impl<'a> Sweep<'a> {
     ) -> Result<Self, AllocError>
         requires short { length input.items ≤ longest_input }
         requires near { asked.step ≤ furthest_step }
-        ensures scenario { IfOk result (λ sweep. scenario_of sweep ≡ at_step (begun_within (limit_for asked.step) image.entry input.items suppressions.items) asked.step) }
+        ensures scenario { IfOk result (λ sweep. scenario_of sweep ≡ unedited_at image.entry input.items suppressions.items asked.step) }
         ensures output { IfOk result (λ sweep. tells_output sweep ≡ asked.with_output) }
         ensures met { IfOk result (λ sweep. (first : List ℕ) × HasMet sweep first [] × (out.new.items ≡ out.old.items ++ rows_text first [])) }
         ensures range { IfOk result (λ sweep. range_of sweep ≡ asked.range) }
