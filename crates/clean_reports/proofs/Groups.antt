@@ -37,7 +37,7 @@ faults p q Unaddressable Unaddressable e s = fills p q e
 faults p q _ _ e s = cc
 
 -- errors with one key are both uses or neither
-kinds : (k l : Kind) → same_kind k l ≡ true → is_use k ≡ is_use l
+pub kinds : (k l : Kind) → same_kind k l ≡ true → is_use k ≡ is_use l
 kinds (Read m) (Read n) e = refl
 kinds (Write m) (Write n) e = refl
 kinds Value Value e = refl
@@ -49,59 +49,68 @@ kinds Free Free e = refl
 kinds Jump Jump e = refl
 kinds _ _ e = cc
 
-keys : (d e : Event) → same_key d e ≡ true → is_use d.kind ≡ is_use e.kind
-unfolding same_key
-keys d e same = kinds d.kind e.kind (and_parts (same_kind d.kind e.kind) (same_trace d.trace e.trace) same).0
+-- what counts of errors, where errors with one key both count or neither does
+module _ (counts : Kind → Bool) (alike : (k l : Kind) → same_kind k l ≡ true → counts k ≡ counts l) where
+  abbrev NoneCounts : List Event → Type 0
+  NoneCounts [] = Unit {0}
+  NoneCounts (e ∷ es) = (counts e.kind ≡ false) × NoneCounts es
 
--- an error isn't a use where an earlier one of its key isn't
-seen : (ds : List Event) (e : Event) → NoUse ds → list_any (λ d. same_key d e) ds ≡ true → is_use e.kind ≡ false
-seen [] e none any = cc
-seen (d ∷ ds) e none any =
-    elim (or_cases (same_key d e) (list_any (λ d. same_key d e) ds) any) [
-      | inl here ↦ sym (keys d e here) ∙ none.0
-      | inr later ↦ seen ds e none.1 later
-    ]
+  abbrev first_of : List Event → Option Event
+  first_of es = find (λ e. counts e.kind) es
 
-joined : (xs ys : List Event) → NoUse xs → NoUse ys → NoUse (xs ++ ys)
-joined [] ys p q = q
-joined (x ∷ xs) ys p q = (p.0, joined xs ys p.1 q)
+  keys : (d e : Event) → same_key d e ≡ true → counts d.kind ≡ counts e.kind
+  unfolding same_key
+  keys d e same = alike d.kind e.kind (and_parts (same_kind d.kind e.kind) (same_trace d.trace e.trace) same).0
 
--- the first use among all errors is the first one among the first of each key
-first-of-firsts : (ds es : List Event) → NoUse ds → first_use (firsts_after ds es) ≡ first_use es
-unfolding firsts_after
-first-of-firsts ds [] before = refl
-first-of-firsts ds (e ∷ es) before =
-    go (is_use e.kind) (list_any (λ d. same_key d e) ds) refl refl (first-of-firsts ds es before)
-    (λ more. first-of-firsts (ds ++ e ∷ []) es (joined ds (e ∷ []) before more))
-  where
-    go : (u b : Bool) → is_use e.kind ≡ u → list_any (λ d. same_key d e) ds ≡ b
-        → first_use (firsts_after ds es) ≡ first_use es
-        → (NoUse (e ∷ []) → first_use (firsts_after (ds ++ e ∷ []) es) ≡ first_use es)
-        → first_use (cond b (firsts_after ds es) (e ∷ firsts_after (ds ++ e ∷ []) es)) ≡ cond u (Some e) (first_use es)
-    go true true used any same more = absurd (false≢true (sym (seen ds e before any) ∙ used))
-    go true false used any same more = ap (λ t. cond t (Some e) (first_use (firsts_after (ds ++ e ∷ []) es))) used
-    go false true used any same more = same
-    go false false used any same more =
-        ap (λ t. cond t (Some e) (first_use (firsts_after (ds ++ e ∷ []) es))) used ∙ more (used, tt)
+  -- an error doesn't count where an earlier one of its key doesn't
+  seen : (ds : List Event) (e : Event) → NoneCounts ds → list_any (λ d. same_key d e) ds ≡ true
+      → counts e.kind ≡ false
+  seen [] e none any = cc
+  seen (d ∷ ds) e none any =
+      elim (or_cases (same_key d e) (list_any (λ d. same_key d e) ds) any) [
+        | inl here ↦ sym (keys d e here) ∙ none.0
+        | inr later ↦ seen ds e none.1 later
+      ]
 
--- and so it is of their groups
-first-of-groups : (all es : List Event)
-    → find (λ g. is_use g.kind) (map (group_of all) es) ≡ option_map (group_of all) (first_use es)
-unfolding group_of
-first-of-groups all [] = refl
-first-of-groups all (e ∷ es) = go (is_use e.kind) (first-of-groups all es)
-  where
-    go : (u : Bool)
-        → find (λ g. is_use g.kind) (map (group_of all) es) ≡ option_map (group_of all) (first_use es)
-        → cond u (Some (group_of all e)) (find (λ g. is_use g.kind) (map (group_of all) es))
-        ≡ option_map (group_of all) (cond u (Some e) (first_use es))
-    go true rest = refl
-    go false rest = rest
+  joined : (xs ys : List Event) → NoneCounts xs → NoneCounts ys → NoneCounts (xs ++ ys)
+  joined [] ys p q = q
+  joined (x ∷ xs) ys p q = (p.0, joined xs ys p.1 q)
 
-pub first-group : (es : List Event)
-    → find (λ g. is_use g.kind) (grouped es) ≡ option_map (group_of es) (first_use es)
-unfolding grouped
-first-group es = first-of-groups es (firsts_after [] es) ∙ ap (option_map (group_of es)) (first-of-firsts [] es tt)
+  -- the first that counts among all errors is the first one among the first of each key
+  first-of-firsts : (ds es : List Event) → NoneCounts ds → first_of (firsts_after ds es) ≡ first_of es
+  unfolding firsts_after
+  first-of-firsts ds [] before = refl
+  first-of-firsts ds (e ∷ es) before =
+      go (counts e.kind) (list_any (λ d. same_key d e) ds) refl refl (first-of-firsts ds es before)
+      (λ more. first-of-firsts (ds ++ e ∷ []) es (joined ds (e ∷ []) before more))
+    where
+      go : (u b : Bool) → counts e.kind ≡ u → list_any (λ d. same_key d e) ds ≡ b
+          → first_of (firsts_after ds es) ≡ first_of es
+          → (NoneCounts (e ∷ []) → first_of (firsts_after (ds ++ e ∷ []) es) ≡ first_of es)
+          → first_of (cond b (firsts_after ds es) (e ∷ firsts_after (ds ++ e ∷ []) es)) ≡ cond u (Some e) (first_of es)
+      go true true used any same more = absurd (false≢true (sym (seen ds e before any) ∙ used))
+      go true false used any same more = ap (λ t. cond t (Some e) (first_of (firsts_after (ds ++ e ∷ []) es))) used
+      go false true used any same more = same
+      go false false used any same more =
+          ap (λ t. cond t (Some e) (first_of (firsts_after (ds ++ e ∷ []) es))) used ∙ more (used, tt)
+
+  -- and so it is of their groups
+  first-of-groups : (all es : List Event)
+      → find (λ g. counts g.kind) (map (group_of all) es) ≡ option_map (group_of all) (first_of es)
+  unfolding group_of
+  first-of-groups all [] = refl
+  first-of-groups all (e ∷ es) = go (counts e.kind) (first-of-groups all es)
+    where
+      go : (u : Bool)
+          → find (λ g. counts g.kind) (map (group_of all) es) ≡ option_map (group_of all) (first_of es)
+          → cond u (Some (group_of all e)) (find (λ g. counts g.kind) (map (group_of all) es))
+          ≡ option_map (group_of all) (cond u (Some e) (first_of es))
+      go true rest = refl
+      go false rest = rest
+
+  pub first-group : (es : List Event) → find (λ g. counts g.kind) (grouped es) ≡ option_map (group_of es) (first_of es)
+  unfolding grouped
+  first-group es = first-of-groups es (firsts_after [] es) ∙ ap (option_map (group_of es)) (first-of-firsts [] es tt)
 
 -- no error is a use where there is no first use
 no-first : (es : List Event) → first_use es ≡ None → NoUse es
@@ -122,7 +131,7 @@ pub none-is-use : (gs : List Group) (es : List Event) → gs ≡ grouped es → 
     → first ≡ find (λ g. is_use g.kind) gs → IsTrue (is_none first) ↔ NoUse es
 none-is-use gs es is first found =
     let same : first ≡ option_map (group_of es) (first_use es) =
-    found ∙ ap (find (λ g. is_use g.kind)) is ∙ first-group es in (
+    found ∙ ap (find (λ g. is_use g.kind)) is ∙ first-group is_use kinds es in (
       λ clean. no-first es (unmapped (first_use es) (ap is_none (sym same) ∙ clean)),
       λ none. ap is_none (same ∙ ap (option_map (group_of es)) (none-first es none)),
     )
@@ -133,29 +142,30 @@ none-is-use gs es is first found =
 
 -- a loop over groups --
 
-pub found : (gs : List Group) (i : ℕ) (g : Group) → slice_get gs i ≡ Some g → is_use g.kind ≡ true
-    → list_any (λ g. is_use g.kind) (take i gs) ≡ false → find (λ g. is_use g.kind) gs ≡ Some g
-found [] i g at used before = cc
-found (x ∷ xs) zero g at used before =
-    let same : x ≡ g = cc in
-    ap (λ (u : Bool). cond u (Some x) (find (λ g. is_use g.kind) xs)) (ap (λ (y : Group). is_use y.kind) same ∙ used)
-    ∙ ap Some same
-found (x ∷ xs) (suc i) g at used before =
-    let parts = or_parts (is_use x.kind) (list_any (λ g. is_use g.kind) (take i xs)) before in
-    ap (λ (u : Bool). cond u (Some x) (find (λ g. is_use g.kind) xs)) parts.0 ∙ found xs i g at used parts.1
+module _ (counts : Kind → Bool) where
+  pub found : (gs : List Group) (i : ℕ) (g : Group) → slice_get gs i ≡ Some g → counts g.kind ≡ true
+      → list_any (λ g. counts g.kind) (take i gs) ≡ false → find (λ g. counts g.kind) gs ≡ Some g
+  found [] i g at used before = cc
+  found (x ∷ xs) zero g at used before =
+      let same : x ≡ g = cc in
+      ap (λ (u : Bool). cond u (Some x) (find (λ g. counts g.kind) xs)) (ap (λ (y : Group). counts y.kind) same ∙ used)
+      ∙ ap Some same
+  found (x ∷ xs) (suc i) g at used before =
+      let parts = or_parts (counts x.kind) (list_any (λ g. counts g.kind) (take i xs)) before in
+      ap (λ (u : Bool). cond u (Some x) (find (λ g. counts g.kind) xs)) parts.0 ∙ found xs i g at used parts.1
 
-pub found-none : (gs : List Group) → list_any (λ g. is_use g.kind) gs ≡ false → find (λ g. is_use g.kind) gs ≡ None
-found-none [] none = refl
-found-none (x ∷ xs) none =
-    let parts = or_parts (is_use x.kind) (list_any (λ g. is_use g.kind) xs) none in
-    ap (λ (u : Bool). cond u (Some x) (find (λ g. is_use g.kind) xs)) parts.0 ∙ found-none xs parts.1
+  pub found-none : (gs : List Group) → list_any (λ g. counts g.kind) gs ≡ false → find (λ g. counts g.kind) gs ≡ None
+  found-none [] none = refl
+  found-none (x ∷ xs) none =
+      let parts = or_parts (counts x.kind) (list_any (λ g. counts g.kind) xs) none in
+      ap (λ (u : Bool). cond u (Some x) (find (λ g. counts g.kind) xs)) parts.0 ∙ found-none xs parts.1
 
-pub passed : (gs : List Group) (i : ℕ) (g : Group) → slice_get gs i ≡ Some g → is_use g.kind ≡ false
-    → list_any (λ g. is_use g.kind) (take i gs) ≡ false → list_any (λ g. is_use g.kind) (take (i + 1) gs) ≡ false
-passed gs i g at clean before =
-    list_any_more (λ g. is_use g.kind) gs i g (slice_get_within gs i g at)
-    ∙ or_from (list_any (λ g. is_use g.kind) (take i gs)) (is_use (get_or gs i g).kind) before
-    (ap (λ (x : Group). is_use x.kind) (get_or_from_slice_get gs i g g at) ∙ clean)
+  pub passed : (gs : List Group) (i : ℕ) (g : Group) → slice_get gs i ≡ Some g → counts g.kind ≡ false
+      → list_any (λ g. counts g.kind) (take i gs) ≡ false → list_any (λ g. counts g.kind) (take (i + 1) gs) ≡ false
+  passed gs i g at clean before =
+      list_any_more (λ g. counts g.kind) gs i g (slice_get_within gs i g at)
+      ∙ or_from (list_any (λ g. counts g.kind) (take i gs)) (counts (get_or gs i g).kind) before
+      (ap (λ (x : Group). counts x.kind) (get_or_from_slice_get gs i g g at) ∙ clean)
 
 pub past : (gs : List Group) (i : ℕ) → i < length gs → slice_get gs i ≡ None → ⊥
 past [] i h none = omega (arith, h)

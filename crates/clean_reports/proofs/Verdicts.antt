@@ -29,7 +29,7 @@ use Rattle.clean_reports.specs.Uses.{NoUse, first_use, is_use}
 use Rattle.clean_reports.specs.Verdicts.{IsCertified, IsFirstUse, NoneInTheWay, RaisesFirstUse}
 use Rattle.clean_reports.specs.declared.verdict.FirstUse.{FirstUse}
 use Rattle.clean_reports.proofs.Clean.{run-agrees}
-use Rattle.clean_reports.proofs.Groups.{first-group, none-is-use}
+use Rattle.clean_reports.proofs.Groups.{first-group, kinds, none-is-use}
 use Rattle.clean_reports.proofs.Halving.{marked-events}
 use Rattle.clean_reports.proofs.Reports.{reports-agree}
 use Rattle.clean_reports.proofs.Runs.{states-sym}
@@ -122,7 +122,8 @@ no-use gs es is none = (none-is-use gs es is None none).0 refl
 pub some-use : (es : List Event) (group : Group) → Some group ≡ find (λ g. is_use g.kind) (grouped es)
     → NoUse es → ⊥
 some-use es group is none =
-    let e : ◌≡◌ {A = Option Group} (Some group) (option_map (group_of es) (first_use es)) = is ∙ first-group es in
+    let e : ◌≡◌ {A = Option Group} (Some group) (option_map (group_of es) (first_use es)) =
+    is ∙ first-group is_use kinds es in
     go (first_use es) refl e
   where
     go : (o : Option Event) → first_use es ≡ o → ◌≡◌ {A = Option Group} (Some group) (option_map (group_of es) o) → ⊥
@@ -140,7 +141,8 @@ pub found-use : (start : State) (setup : Setup) (marks : List Alteration) (n : �
     → found.trace ≡ group.trace → IsFirstUse start setup marks n found
 unfolding group_of
 found-use start setup marks n step group is below raises found at kind same =
-    go (first_use (post start setup marks n).events) refl (is ∙ first-group (post start setup marks n).events)
+    go (first_use (post start setup marks n).events) refl
+    (is ∙ first-group is_use kinds (post start setup marks n).events)
   where
     go : (o : Option Event) → first_use (post start setup marks n).events ≡ o
         → ◌≡◌ {A = Option Group} (Some group) (option_map (group_of (post start setup marks n).events) o)

@@ -8,19 +8,19 @@ use Rattle.clean_reports.proofs.uses.first_use.Goals.{in-Some+else-is_use, in_de
 
 pub returns-then-is_use : goal.returns-then-is_use
 returns-then-is_use c =
-    sym (found _ c.loop-index.index c.in-Some.group (sym c.get.ensures ∙ c.in-Some.is)
+    sym (found is_use _ c.loop-index.index c.in-Some.group (sym c.get.ensures ∙ c.in-Some.is)
     (sym c.is_use.ensures ∙ c.if-is_use.true) c.loop-index.invariant)
 
 pub returns : goal.returns
 returns c =
-    sym (found-none (groups_of c.args.groups.now)
+    sym (found-none is_use (groups_of c.args.groups.now)
     (ap (list_any (λ g. is_use g.kind)) (sym (take_all c.loop-index.index (groups_of c.args.groups.now)
     (omega (arith, c.len-index-end.ensures)))) ∙ c.loop-index.invariant))
 
 pub loop-index-preserved : goal.loop-index-preserved
 loop-index-preserved c = elim c.match-get.branch [
   | in-Some+else-is_use w ↦
-      passed _ c.loop-index.index w.in-Some.group (sym c.get.ensures ∙ w.in-Some.is)
+      passed is_use _ c.loop-index.index w.in-Some.group (sym c.get.ensures ∙ w.in-Some.is)
       (sym w.is_use.ensures ∙ w.if-is_use.false) c.loop-index.invariant
   | in_default w ↦
       let within : c.loop-index.index < length (groups_of c.args.groups.now) =
