@@ -68,7 +68,7 @@ fn first_use_step(
 
 /// Returns whether a machine's run has ended: it exited or stopped, or it rests in a jump to itself.
 #[tactic(auto, unfolding(crate::specs::Verdicts::has_ended))]
-fn has_ended(machine: &Machine, setup: &Setup) -> bool
+pub fn has_ended(machine: &Machine, setup: &Setup) -> bool
     ensures { (s : State) → Shows machine.now s → result ≡ has_ended s setup.now }
 {
     !matches!(machine.status(), Status::Running) || machine.is_idle(setup)

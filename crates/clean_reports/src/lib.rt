@@ -9,6 +9,7 @@
 //! | [`certify`] | returns the [`Verdict`] on a trail's run up to a step: clean, or the first mark or the [`FirstUse`] that is in the way |
 //! | [`push_verdict`] | appends the line of a verdict |
 //! | [`is_use`], [`is_clean`] | return whether an error is a use; whether a machine's run so far has none |
+//! | [`has_ended`] | returns whether a machine's run has ended |
 //! | [`laws::clean_runs`], [`laws::clean_reports`], [`laws::power_on`] | do nothing; their contracts are the theorems on whole runs of a program |
 //! | [`laws::steps_agree`], [`laws::runs_agree`], [`laws::reports_agree`] | likewise, for a step, a run from any state, and a report |
 //! | [`laws::disturbed_runs_exist`], [`laws::programs_are_bytes`], [`laws::inputs_are_bytes`] | likewise: that there are disturbed runs, and that files and inputs are bytes |
@@ -38,7 +39,7 @@ mod marks;
 mod uses;
 mod verdict;
 
-pub use certifying::certify;
+pub use certifying::{certify, has_ended};
 pub use lines::push_verdict;
 pub use uses::{is_clean, is_use};
 pub use verdict::{FirstUse, Verdict};
