@@ -96,34 +96,36 @@ module _ (any : ℕ → Bool) (setup : Setup) (input : List ℕ) (count : length
         let e = step-stands setup bytes s t d opened pointer left none in
         let touched = touched-stands setup bytes s t d opened none in
         let x = differ-after any setup input count outside t in
-        let test = read-same s t d e touched in
-        (record {
-          memory = record {
-            shadow = λ a. subst (λ (k : Core). SharperShadow (cond (is_read any s setup a)
-                (faded ((exec s setup).core.shadow a)) ((exec s setup).core.shadow a)) (k.shadow a)) x.core
-                (fade-sharper (is_read any s setup a) _ _ (e.memory.shadow a));
-            each = λ a. fade-bytes (is_read any s setup a) _ _ _ _ (λ no. x.bytes a (sym (test a) ∙ no))
-                (e.memory.each a);
-            one = e.memory.one;
-            other = small-after any setup input count outside t d.memory.other fits e.memory.other;
-          };
-          registers = subst (λ (k : Core). RegistersStand (exec s setup).core.registers k.registers) x.core e.registers;
-          controls = subst (λ (k : Core). ControlsStand (exec s setup).core.controls k.controls) x.core e.controls;
-          pc = e.pc ∙ ap (λ (k : Core). k.pc) x.core;
-          status = e.status ∙ ap (λ (k : Core). k.status) x.core;
-          frames = e.frames ∙ ap (λ (k : Core). k.frames) x.core;
-          blocks = e.blocks ∙ ap (λ (k : Core). k.blocks) x.core;
-          isa = e.isa ∙ ap (λ (k : Core). k.isa) x.core;
-          stack = e.stack ∙ ap (λ (k : Core). k.stack) x.core;
-          limits = e.limits ∙ ap (λ (k : Core). k.limits) x.core;
-          reserved = e.reserved ∙ ap (λ (k : Core). k.reserved) x.core;
-          steps = e.steps ∙ ap (λ (k : Core). k.steps) x.core;
-          position = e.position ∙ x.position;
-          end_seen = e.end_seen ∙ x.end_seen;
-          output = e.output ∙ x.output;
-          heap_calls = e.heap_calls ∙ x.heap_calls;
-          events = e.events ∙ x.events;
-        }, touched ∙ touched-alike any setup input count outside t)
+        let test = read-same s t d e touched in (
+          record {
+            memory = record {
+              shadow = λ a. subst (λ (k : Core). SharperShadow (cond (is_read any s setup a)
+                  (faded ((exec s setup).core.shadow a)) ((exec s setup).core.shadow a)) (k.shadow a)) x.core
+                  (fade-sharper (is_read any s setup a) _ _ (e.memory.shadow a));
+              each = λ a. fade-bytes (is_read any s setup a) _ _ _ _ (λ no. x.bytes a (sym (test a) ∙ no))
+                  (e.memory.each a);
+              one = e.memory.one;
+              other = small-after any setup input count outside t d.memory.other fits e.memory.other;
+            };
+            registers = subst (λ (k : Core). RegistersStand (exec s setup).core.registers k.registers) x.core e.registers;
+            controls = subst (λ (k : Core). ControlsStand (exec s setup).core.controls k.controls) x.core e.controls;
+            pc = e.pc ∙ ap (λ (k : Core). k.pc) x.core;
+            status = e.status ∙ ap (λ (k : Core). k.status) x.core;
+            frames = e.frames ∙ ap (λ (k : Core). k.frames) x.core;
+            blocks = e.blocks ∙ ap (λ (k : Core). k.blocks) x.core;
+            isa = e.isa ∙ ap (λ (k : Core). k.isa) x.core;
+            stack = e.stack ∙ ap (λ (k : Core). k.stack) x.core;
+            limits = e.limits ∙ ap (λ (k : Core). k.limits) x.core;
+            reserved = e.reserved ∙ ap (λ (k : Core). k.reserved) x.core;
+            steps = e.steps ∙ ap (λ (k : Core). k.steps) x.core;
+            position = e.position ∙ x.position;
+            end_seen = e.end_seen ∙ x.end_seen;
+            output = e.output ∙ x.output;
+            heap_calls = e.heap_calls ∙ x.heap_calls;
+            events = e.events ∙ x.events;
+          },
+          touched ∙ touched-alike any setup input count outside t,
+        )
 
     module _ (start begun : State) (change other : Changes) (first : Stands start begun) where
       abbrev KeepsTo : ℕ → Type 0

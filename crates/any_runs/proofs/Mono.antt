@@ -395,7 +395,7 @@ unfolding Undef.undef_wide
 wide-sharper x y u v a b = (
   subst₂ (λ m n. Within 32 (Undef.undef_wide x y)
       (Undef.undef_wide (record { value = m; undef = u.undef }) (record { value = n; undef = v.undef })))
-    a.value b.value
+      a.value b.value
       (undef-wide x y u.undef v.undef a.undef b.undef),
   word_of_lt _,
 )
