@@ -107,7 +107,8 @@ module _ (any : ℕ → Bool) (setup : Setup) (input : List ℕ) (count : length
               one = e.memory.one;
               other = small-after any setup input count outside t d.memory.other fits e.memory.other;
             };
-            registers = subst (λ (k : Core). RegistersStand (exec s setup).core.registers k.registers) x.core e.registers;
+            registers = subst (λ (k : Core). RegistersStand (exec s setup).core.registers k.registers) x.core
+                e.registers;
             controls = subst (λ (k : Core). ControlsStand (exec s setup).core.controls k.controls) x.core e.controls;
             pc = e.pc ∙ ap (λ (k : Core). k.pc) x.core;
             status = e.status ∙ ap (λ (k : Core). k.status) x.core;
