@@ -1,7 +1,7 @@
 -- Steps with other bytes of the input.
 use Rattle.std.proofs.Common.{◌≡◌, ◌⊎◌, ℕ, ◌+◌, ◌-◌, ◌^◌, ◌<◌, ◌==◌, ◌&&◌, Bool, true, false, cond, refl}
-use Rattle.std.proofs.Common.{sym, ap, ◌∙◌, subst, inl, inr, arith, List, [], ◌++◌, length, drop, slice_index}
-use Rattle.std.proofs.Common.{Option, Some, None, nat_lt, lt-ltb}
+use Rattle.std.proofs.Common.{sym, ap, ◌∙◌, subst, inl, inr, List, [], ◌++◌, length, drop, slice_index}
+use Rattle.std.proofs.Common.{Option, Some, None, nat_lt}
 use Rattle.std.proofs.lemmas.Bool.{cases_eq, and_parts, ltb-true}
 use Rattle.std.proofs.lemmas.List.{get_or-take, get_or-drop}
 use Rattle.shadow_memory.specs.Ranges.{is_in, offset, written, changed_in}
@@ -162,8 +162,7 @@ unfolding is_given
 given-same any position count setup alike d start a none within =
     let i = offset start a in
     let few : i < count = ltb-true i count (and_parts (nat_lt a (2 ^ 32)) (nat_lt i count) within).1 in
-    let some : nat_lt 0 count ≡ true = lt-ltb 0 count (omega (arith, few)) in
-    let out : any (position + i) ≡ false = sym (λ j. within j && (some j && any (position + i))) ∙ none in
+    let out : any (position + i) ≡ false = sym (λ j. within j && any (position + i)) ∙ none in
     get_or-take count (drop position setup.input) i 0 few ∙ get_or-drop position setup.input i 0
     ∙ d.outside (position + i) out
     ∙ sym (get_or-drop position alike.input i 0) ∙ sym (get_or-take count (drop position alike.input) i 0 few)

@@ -1,5 +1,5 @@
 -- Bytes of the input that are any: after a step that reads them they are undefined.
-use Rattle.std.specs.Prelude.{◌≡◌, ℕ, zero, suc, ◌+◌, ◌<◌, ◌≤◌, ◌&&◌, nat_lt, Bool, true, false, if◌then◌else◌}
+use Rattle.std.specs.Prelude.{◌≡◌, ℕ, zero, suc, ◌+◌, ◌<◌, ◌≤◌, ◌&&◌, Bool, true, false, if◌then◌else◌}
 use Rattle.std.specs.Prelude.{List, [], length, slice_index, Option, Some, None}
 use Rattle.shadow_memory.specs.Ranges.{is_in, offset}
 use Rattle.shadow_memory.specs.Shadows.{Shadow}
@@ -32,8 +32,7 @@ faded s = if s.accessible then record { accessible = true; undef = 255 } else s
 unfoldable pub is_given : (ℕ → Bool) → ℕ → ℕ → Option Span → ℕ → Bool
 is_given any position count None a = false
 is_given any position count (Some span) a =
-    is_in span.start span.len a
-    && (nat_lt 0 count && any (position + offset span.start a))
+    is_in span.start count a && any (position + offset span.start a)
 
 -- by the step of a state
 abbrev pub is_read : (ℕ → Bool) → State → Setup → ℕ → Bool
