@@ -102,7 +102,7 @@ write-first c next written taken none = go (is_output (argument c 10)) (has_room
     go true false none = none
     go false d none = none
 
-none-bad : (c : Core) (start n : ℕ) → NoUse (buffer_errors c WriteBuffer true start n)
+pub none-bad : (c : Core) (start n : ℕ) → NoUse (buffer_errors c WriteBuffer true start n)
     → first_bad c.shadow start n true ≡ None
 unfolding buffer_event
 none-bad c start n none = go (first_bad c.shadow start n true) none

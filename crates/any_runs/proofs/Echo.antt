@@ -121,7 +121,7 @@ write-known c next written taken known fits opened =
     (sym parts.0 i) (sym parts.1 i) (argument c 11) (moved_len c) taken)
     (record { core = refl; raised = buffer-kept c (argument c 11) (moved_len c) opened; made = refl; output = refl })
 
-register-after : (c : Core) (n next : ℕ) → register (moved_to (answered c n) next) 2 ≡ register c 2
+pub register-after : (c : Core) (n next : ℕ) → register (moved_to (answered c n) next) 2 ≡ register c 2
 unfolding register set_register
 register-after c n next =
     get_or-set_other c.registers 10 2 (known n) (known 0) (λ e. absurd (omega (arith, e)))

@@ -230,7 +230,7 @@ pub record AfterWrite (x y : State) (len : ℕ) : Type 0 where
   pub events : kept y.events ≡ kept x.events ++ []
 
 -- the state after a row, and after the call of a number
-abbrev after-row : State → Setup → ℕ → Option Instruction → State
+abbrev pub after-row : State → Setup → ℕ → Option Instruction → State
 after-row x setup len row =
     let c = x.core in
     let terms = terms_of (calls_heap c row) (row_asks c row) x.position (length x.output) setup in
@@ -247,7 +247,7 @@ after-row x setup len row =
       events = x.events ++ effect.raised;
     }
 
-abbrev after-call : State → Setup → ℕ → ℕ → State
+abbrev pub after-call : State → Setup → ℕ → ℕ → State
 after-call x setup len k =
     let c = x.core in
     let terms = terms_of (is_heap (call_of k)) (call_asks c (call_of k)) x.position (length x.output) setup in
@@ -264,7 +264,7 @@ after-call x setup len k =
       events = x.events ++ effect.raised;
     }
 
-call-is : (x : State) (setup : Setup) (len : ℕ)
+pub call-is : (x : State) (setup : Setup) (len : ℕ)
     → after-row x setup len (Some CallRow) ≡ after-call x setup len (argument x.core 17)
 unfolding row_effect row_uses calls_heap row_asks call_at
 call-is x setup len = refl
@@ -337,7 +337,7 @@ write-both s t y z len d p q same small =
     }
 
 -- what a write touches
-write-touches : (x : State) (setup : Setup) (code : Code) → action_at x.core x.bytes setup.hooks ≡ Takes code
+pub write-touches : (x : State) (setup : Setup) (code : Code) → action_at x.core x.bytes setup.hooks ≡ Takes code
     → IsWrite x.core (row_of_code code)
     → touched_of x setup ≡ record {
       fetch = Some (span_at x.core.pc (len_of code));
@@ -399,7 +399,7 @@ action-kept c terms (CallsByName function) given taken =
 action-kept c terms Halts given taken = inr (unfetched-kept c)
 
 -- the errors of a write
-write-raised : (c : Core) (next written : ℕ) (taken : ℕ → ℕ) → appends c written ≡ true
+pub write-raised : (c : Core) (next written : ℕ) (taken : ℕ → ℕ) → appends c written ≡ true
     → (write_call c next written taken).raised
     ≡ test-errors c write-parameters
     ++ buffer_errors (after-tests c write-parameters) WriteBuffer true (argument c 11) (moved_len c)
@@ -422,7 +422,7 @@ write-full c next written taken none = go (is_output (argument c 10)) (has_room 
     go false q e = tests-kept c write-parameters
 
 -- the errors of a step that takes a write
-taken-raised : (c : Core) (code : Code) (terms : Terms) (given : List ℕ) (taken : ℕ → ℕ) → IsWrite c (row_of_code code)
+pub taken-raised : (c : Core) (code : Code) (terms : Terms) (given : List ℕ) (taken : ℕ → ℕ) → IsWrite c (row_of_code code)
     → (outcome c terms (Takes code) given taken).raised
     ≡ fetch_errors c (len_of code) ++ (write_call c (next_of c (len_of code)) terms.written taken).raised
 unfolding row_effect call_at call_effect

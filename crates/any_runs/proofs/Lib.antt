@@ -23,3 +23,4 @@ pub mod Echo
 pub mod Echoing
 pub mod EchoRuns
 pub mod Secrets
+pub mod Opening

@@ -15,6 +15,7 @@ use Rattle.shadow_memory.specs.Shadows.{first_inaccessible, is_bad, bad_at, firs
 use Rattle.shadow_memory.specs.declared.cells.RangeKind.{RangeKind}
 use Rattle.shadow_memory.specs.declared.cells.RangeKind.TheVariants.{NoAccess, Undefined, Defined}
 use Rattle.any_runs.specs.Sharper.{Within, SharperShadow, ShadowsSharper}
+use Rattle.clean_reports.proofs.Memory.{none-at}
 use Rattle.clean_reports.proofs.Bits.{words-agree, bytes-of}
 use Rattle.any_runs.proofs.Mono.{none-within, zero-bit}
 
@@ -75,18 +76,6 @@ module _ (f g : ℕ → Shadow) (s : ShadowsSharper f g) where
 
 -- a search that finds nothing, and one that finds nothing else --
 
-none-first : (p : ℕ → Bool) (i n : ℕ) → first_from p i n ≡ None → (k : ℕ) → k < n → p (i + k) ≡ false
-unfolding first_from
-none-first p i zero e k h = absurd (omega (arith, h))
-none-first p i (suc n) e k h = go (p i) refl (none-first p (suc i) n) e k h
-  where
-    go : (b : Bool) → p i ≡ b → (first_from p (suc i) n ≡ None → (k : ℕ) → k < n → p (suc i + k) ≡ false)
-        → cond b (Some i) (first_from p (suc i) n) ≡ None → (k : ℕ) → k < suc n → p (i + k) ≡ false
-    go true q rest e k h = cc
-    go false q rest e zero h = let same : i + 0 ≡ i = omega arith in ap p same ∙ q
-    go false q rest e (suc k) h =
-        let same : i + suc k ≡ suc i + k = omega arith in ap p same ∙ rest e k (omega (arith, h))
-
 first-none : (p : ℕ → Bool) (i n : ℕ) → ((k : ℕ) → k < n → p (i + k) ≡ false) → first_from p i n ≡ None
 unfolding first_from
 first-none p i zero each = refl
@@ -96,7 +85,7 @@ first-none p i (suc n) each =
     ∙ first-none p (suc i) n (λ k h.
     let same : suc i + k ≡ i + suc k = omega arith in ap p same ∙ each (suc k) (omega (arith, h)))
 
-no-bad : (shadows : ℕ → Shadow) (start : ℕ) (o : Option ℕ) → bad_at shadows start o ≡ None → o ≡ None
+pub no-bad : (shadows : ℕ → Shadow) (start : ℕ) (o : Option ℕ) → bad_at shadows start o ≡ None → o ≡ None
 no-bad shadows start None e = refl
 no-bad shadows start (Some i) e = cc
 
@@ -106,10 +95,7 @@ good-stays x y s e =
     let none = none-within 8 x.undef y.undef s.other s.undef (eqb-true x.undef 0 (not-false (x.undef == 0) parts.1)) in
     λ j. (ap not (sym s.accessible) ∙ parts.0) j || not (eq-eqb y.undef 0 none j)
 
-none-at : (p : ℕ → Bool) (n : ℕ) → first_from p 0 n ≡ None → (k : ℕ) → k < n → p k ≡ false
-none-at p n e k h = let same : 0 + k ≡ k = omega arith in subst (λ j. p j ≡ false) same (none-first p 0 n e k h)
-
-first-at : (p : ℕ → Bool) (n : ℕ) → ((k : ℕ) → k < n → p k ≡ false) → first_from p 0 n ≡ None
+pub first-at : (p : ℕ → Bool) (n : ℕ) → ((k : ℕ) → k < n → p k ≡ false) → first_from p 0 n ≡ None
 first-at p n each =
     first-none p 0 n (λ k h. let same : k ≡ 0 + k = omega arith in subst (λ j. p j ≡ false) same (each k h))
 

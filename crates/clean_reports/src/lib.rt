@@ -7,7 +7,7 @@
 //! | Call | What it does |
 //! |---|---|
 //! | [`certify`] | returns the [`Verdict`] on a trail's run up to a step: clean, or the first mark or the [`FirstUse`] that is in the way |
-//! | [`push_verdict`] | appends the line of a verdict |
+//! | [`push_verdict`], [`push_trace`] | append the line of a verdict; a trace as such a line has it |
 //! | [`is_use`], [`is_clean`] | return whether an error is a use; whether a machine's run so far has none |
 //! | [`has_ended`] | returns whether a machine's run has ended |
 //! | [`laws::clean_runs`], [`laws::clean_reports`], [`laws::power_on`] | do nothing; their contracts are the theorems on whole runs of a program |
@@ -40,6 +40,6 @@ mod uses;
 mod verdict;
 
 pub use certifying::{certify, has_ended};
-pub use lines::push_verdict;
+pub use lines::{push_trace, push_verdict};
 pub use uses::{is_clean, is_use};
 pub use verdict::{FirstUse, Verdict};

@@ -122,9 +122,9 @@ fn push_callers(out: &mut Vec<u8>, image: &Image, callers: &[u32]) -> Result<(),
     Ok(())
 }
 
-/// Appends a whole trace.
+/// Appends a whole trace, on one line.
 #[tactic(auto, unfolding(crate::specs::Lines::trace_text), using(std::proofs::Common::append_assoc))]
-fn push_trace(out: &mut Vec<u8>, image: &Image, addresses: &[u32]) -> Result<(), AllocError>
+pub fn push_trace(out: &mut Vec<u8>, image: &Image, addresses: &[u32]) -> Result<(), AllocError>
     ensures { OnOk result (out.new.items ≡ out.old.items ++ trace_text image.now addresses.now) }
 {
     match addresses {
