@@ -422,7 +422,8 @@ write-full c next written taken none = go (is_output (argument c 10)) (has_room 
     go false q e = tests-kept c write-parameters
 
 -- the errors of a step that takes a write
-pub taken-raised : (c : Core) (code : Code) (terms : Terms) (given : List ℕ) (taken : ℕ → ℕ) → IsWrite c (row_of_code code)
+pub taken-raised : (c : Core) (code : Code) (terms : Terms) (given : List ℕ) (taken : ℕ → ℕ)
+    → IsWrite c (row_of_code code)
     → (outcome c terms (Takes code) given taken).raised
     ≡ fetch_errors c (len_of code) ++ (write_call c (next_of c (len_of code)) terms.written taken).raised
 unfolding row_effect call_at call_effect

@@ -67,7 +67,8 @@ unfolding write_call appends parameters_of
 write-core c next written taken known fits =
     let parts = and_parts (is_output (argument c 10)) (has_room c written) fits in
     sym (λ i. (write-cases (sym (call-tested c write-parameters known) i) next
-    (sym (call-raises c write-parameters known) i) (sym parts.0 i) (sym parts.1 i) (argument c 11) (moved_len c) taken).core)
+    (sym (call-raises c write-parameters known) i) (sym parts.0 i) (sym parts.1 i) (argument c 11) (moved_len c)
+    taken).core)
 
 module _ (s : State) (setup : Setup) where
   abbrev c : Core
