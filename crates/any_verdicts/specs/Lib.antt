@@ -1,0 +1,3 @@
+pub mod Chosen
+pub mod Verdicts
+pub mod Lines
