@@ -16,6 +16,7 @@ use Rattle.command_line.specs.declared.order.SweepArgs.{SweepArgs}
 use Rattle.command_line.specs.declared.order.Task.{Task}
 use Rattle.command_line.specs.declared.order.Task.TheVariants.{Do, Sweep, Exec}
 use Rattle.command_line.specs.declared.order.Action.{Action}
+use Rattle.command_line.specs.declared.order.CertifyArgs.{CertifyArgs}
 use Rattle.command_line.specs.declared.order.Action.TheVariants.{Report, Session, Look, Tries, Certify}
 use Rattle.command_line.specs.declared.order.ExecArgs.{ExecArgs}
 
@@ -155,9 +156,15 @@ with_sweep = with_subcommand with_tries sweep_command.top
 
 -- `certify`, which takes no suppressions: a suppressed error counts as any other. Its `--step` has no default, as it
 -- matters whether a step was given
+abbrev pub certify_of_step : App
+certify_of_step =
+    with_rule (with_limits (input_command (codes "certify"))) (number_option (codes "step") 0 furthest_step)
+
+-- with the bytes that may be any
 abbrev pub certify_command : App
 certify_command =
-    with_rule (with_limits (input_command (codes "certify"))) (number_option (codes "step") 0 furthest_step)
+    with_rule (with_rule (with_rule certify_of_step (option (codes "any"))) (option (codes "any-memory")))
+    (option (codes "reveal"))
 
 -- with `certify`
 abbrev pub with_certify : App
@@ -269,11 +276,18 @@ pub record IsExecOf (rows : List Row) (asked : ExecArgs) : Type 0 where
   pub memory_limit : IsNumberOf (codes "memory-limit") rows asked.memory_limit
   pub end_line : IsFlagOf (codes "end-line") rows asked.end_line
 
+-- the arguments of `certify`, from what was found
+pub record IsCertifyOf (rows : List Row) (asked : CertifyArgs) : Type 0 where
+  pub step : IsNumberIn (codes "step") rows asked.step
+  pub any : text_of asked.any ≡ first_of (codes "any") rows
+  pub any_memory : text_of asked.any_memory ≡ first_of (codes "any-memory") rows
+  pub reveal : text_of asked.reveal ≡ first_of (codes "reveal") rows
+
 -- the action of a name, of what was found for its arguments
 abbrev pub IsActionOf : Text → List Row → Action → Type 0
 IsActionOf name rows (Report n) = (bytes_eq name (codes "run") ≡ true) × IsStepOf rows n
 IsActionOf name rows (Certify asked) =
-    (bytes_eq name (codes "certify") ≡ true) × IsNumberIn (codes "step") rows asked
+    (bytes_eq name (codes "certify") ≡ true) × IsCertifyOf rows asked
 IsActionOf name rows (Look asked) = (bytes_eq name (codes "look") ≡ true) × IsNumberIn (codes "limit") rows asked
 IsActionOf name rows (Tries asked) = (bytes_eq name (codes "tries") ≡ true) × IsNumberIn (codes "limit") rows asked
 IsActionOf name rows Session =

@@ -2,14 +2,14 @@
 ghost use Rattle.std.specs.Prelude.{◌≡◌, IfErr, IfOk, IfSome, IsSomeAnd, false, map, string_bytes, true};
 ghost use Rattle.clap.specs.Words.{FailsBy, app_of, fault_of, found_of, kind_of, rows_of, rule_of, subcommand_rows_of, takes};
 ghost use Rattle.clap.specs.declared.builder.command.Command.TheViews.{out-Command};
-ghost use Rattle.command_line.specs.Orders.{IsOrderFor, IsOrderOf, IsProfileOf, IsStepOf, IsSweepOf, IsTaskOf, certify_command, command_line, default_option, file_argument, heap_option, input_command, isa_option, look_command, option, output_flag, program_command, run_command, stack_option, step_option, sides_flag, sweep_command, sweep_of_bytes, sweep_of_flags, sweep_of_steps, sweep_of_words, with_certify, with_limits, with_look, with_profile, with_run, with_session, with_sweep, with_tries};
+ghost use Rattle.command_line.specs.Orders.{IsCertifyOf, IsOrderFor, IsOrderOf, IsProfileOf, IsStepOf, IsSweepOf, IsTaskOf, certify_command, certify_of_step, command_line, default_option, file_argument, heap_option, input_command, isa_option, look_command, option, output_flag, program_command, run_command, stack_option, step_option, sides_flag, sweep_command, sweep_of_bytes, sweep_of_flags, sweep_of_steps, sweep_of_words, with_certify, with_limits, with_look, with_profile, with_run, with_session, with_sweep, with_tries};
 
 use crate::exec::{default_number, exec_command, exec_of, number_in, number_option};
 use crate::help::{
     ABOUT, AFTER_CERTIFY, AFTER_LOOK, AFTER_RUN, AFTER_SESSION, AFTER_SWEEP, AFTER_TRIES, CERTIFY,
     LOOK, RUN, SESSION, SWEEP, TRIES,
 };
-use crate::order::{Action, Order, ProfileArgs, SweepArgs, Task};
+use crate::order::{Action, CertifyArgs, Order, ProfileArgs, SweepArgs, Task};
 use clap::error::ErrorKind;
 use clap::{Arg, ArgAction, ArgMatches, Command, Error, value_parser};
 use std::alloc::{AllocError, Global};
@@ -303,15 +303,29 @@ fn with_sweep<'a>(alloc: Global) -> Result<Command<'a>, AllocError>
     with_tries(alloc)?.subcommand(sweep)
 }
 
-/// The command `certify`.
-fn certify_command<'a>(alloc: Global) -> Result<Command<'a>, AllocError>
-    ensures shape { IfOk result (λ command. app_of command ≡ certify_command) }
+/// `certify` with its step.
+fn certify_of_step<'a>(alloc: Global) -> Result<Command<'a>, AllocError>
+    ensures shape { IfOk result (λ command. app_of command ≡ certify_of_step) }
     ensures globals { IfOk result (λ command. (out-Command command).has_globals ≡ false) }
 {
     let command = input_command(alloc, "certify", CERTIFY, AFTER_CERTIFY, INPUT)?;
     let command = with_limits(alloc, command)?;
     let step = "The step to certify the run up to, from 0 to 2147483647: 4194304 without it";
     command.arg(number_option(alloc, "step", 0, FURTHEST_STEP, step))
+}
+
+/// The command `certify`.
+fn certify_command<'a>(alloc: Global) -> Result<Command<'a>, AllocError>
+    ensures shape { IfOk result (λ command. app_of command ≡ certify_command) }
+    ensures globals { IfOk result (λ command. (out-Command command).has_globals ≡ false) }
+{
+    let any = "Bytes A to B of the input that may be any; A.. up to its last one; A alone";
+    let command = certify_of_step(alloc)?.arg(option(alloc, "any", "A..B", any))?;
+    let memory =
+        "Bytes of memory from A up to, but not including, B that may be any from step 0 on";
+    let command = command.arg(option(alloc, "any-memory", "A..B", memory))?;
+    let reveal = "The LEN bytes at ADDR may be known before STEP";
+    command.arg(option(alloc, "reveal", "STEP,ADDR,LEN", reveal))
 }
 
 /// The command line with `run`, `session`, `look`, `tries`, `sweep` and `certify`.
@@ -375,6 +389,18 @@ fn sweep_of<'a>(chosen: &ArgMatches<'a>) -> Option<SweepArgs<'a>>
     })
 }
 
+/// The arguments of `certify`, of what was found for them.
+fn certify_of<'a>(chosen: &ArgMatches<'a>) -> Option<CertifyArgs<'a>>
+    ensures { IfSome result (IsCertifyOf (rows_of (found_of chosen.now))) }
+{
+    Some(CertifyArgs {
+        step: number_in("step", chosen)?,
+        any: chosen.get_str("any"),
+        any_memory: chosen.get_str("any-memory"),
+        reveal: chosen.get_str("reveal"),
+    })
+}
+
 /// The command of a name, of what was found for its arguments.
 fn task_of<'a>(name: &str, chosen: &ArgMatches<'a>) -> Option<Task<'a>>
     ensures { IfSome result (IsTaskOf name.now (rows_of (found_of chosen.now))) }
@@ -388,7 +414,7 @@ fn task_of<'a>(name: &str, chosen: &ArgMatches<'a>) -> Option<Task<'a>>
     } else if name == "tries" {
         Some(Task::Do(Action::Tries(number_in("limit", chosen)?)))
     } else if name == "certify" {
-        Some(Task::Do(Action::Certify(number_in("step", chosen)?)))
+        Some(Task::Do(Action::Certify(certify_of(chosen)?)))
     } else if name == "exec" {
         Some(Task::Exec(exec_of(chosen)?))
     } else {

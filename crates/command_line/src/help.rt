@@ -26,7 +26,7 @@ pub(crate) const SWEEP: &str =
 
 /// What `certify` does.
 pub(crate) const CERTIFY: &str =
-    "Says whether what undefined or inaccessible memory holds can change the run";
+    "Says whether what undefined or inaccessible memory holds, or some bytes, can change the run";
 
 /// What `exec` does.
 pub(crate) const EXEC: &str =
@@ -297,11 +297,22 @@ with the first error that reads inaccessible bytes or uses undefined ones, as a 
 and its trace. Invalid writes, bad frees and jumps are no uses. Suppressions don't count here.
 Other inputs, later steps, devices and timing are not part of what the line says.
 
-Example:
+With --any or --any-memory, where the run is clean, the line says whether it is the same for every
+value of these bytes: the same instructions at the same steps, the same addresses, status and number
+of bytes of output, and the same errors but for writes of uninitialised bytes. Leaks, what is written
+and the time of an instruction are not part of it. Else the line is
+  not the same for any ..: ..
+with the first step that may depend on these bytes: a use of them, or a stack pointer that they change;
+or with a byte that was chosen and may not be accessed. A program may behave the same even so. What
+--reveal names is taken as known: the line is about those values that leave it the same, and defined.
+
+Examples:
   replaycheck certify program.elf --input bytes --step 5000
+  replaycheck certify program.elf --input key --any 0..31
 ",
-    "the run is clean; one that continues after the step only if --step was given",
-    "  5  the run isn't clean, or it continues after step 4194304 and --step wasn't given
+    "the run is clean, or the same; one that continues after the step only if --step was given",
+    "  5  the run isn't clean, or may not be the same, or it continues after step 4194304 and --step
+     wasn't given
 "
 );
 

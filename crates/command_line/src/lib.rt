@@ -21,4 +21,4 @@ mod order;
 
 pub use arguments::{FURTHEST_STEP, MOST_STEPS, read_order};
 pub use isa::{isa_name, isa_named};
-pub use order::{Action, ExecArgs, Order, ProfileArgs, SweepArgs, Task};
+pub use order::{Action, CertifyArgs, ExecArgs, Order, ProfileArgs, SweepArgs, Task};

@@ -34,7 +34,7 @@ pub struct ProfileArgs<'a> {
 #[derive(Clone, Copy)]
 pub enum Task<'a> {
     /// What is done with one run, or in a session with it.
-    Do(Action),
+    Do(Action<'a>),
     /// Every edit, one at a time.
     Sweep(SweepArgs<'a>),
     /// The run itself, with its output and its exit status.
@@ -43,7 +43,7 @@ pub enum Task<'a> {
 
 /// What is done with a program whose files were read.
 #[derive(Clone, Copy)]
-pub enum Action {
+pub enum Action<'a> {
     /// The report at a step is printed.
     Report(u32),
     /// A session is served.
@@ -52,8 +52,21 @@ pub enum Action {
     Look(Option<u32>),
     /// A session is served that can also be looked at, and in which inputs are tried, up to a greatest step if one was given.
     Tries(Option<u32>),
-    /// The verdict up to a step is printed, or up to the greatest one if none was given: whether the run is clean.
-    Certify(Option<u32>),
+    /// The verdict up to a step is printed: whether the run is clean, or the same for every value of some bytes.
+    Certify(CertifyArgs<'a>),
+}
+
+/// The arguments of a verdict, as they were given.
+#[derive(Clone, Copy)]
+pub struct CertifyArgs<'a> {
+    /// The step, if one was given; else it is the greatest one.
+    pub step: Option<u32>,
+    /// Which bytes of the input may be any.
+    pub any: Option<&'a str>,
+    /// Which bytes of memory may be any.
+    pub any_memory: Option<&'a str>,
+    /// What may be known of them.
+    pub reveal: Option<&'a str>,
 }
 
 /// The arguments that say which edits are tried, as they were given.

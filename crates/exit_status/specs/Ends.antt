@@ -75,6 +75,9 @@ complaint Sweep.Faults = codes "replaycheck: no range, list or part: --faults "
 complaint Sweep.CodeRange = codes "replaycheck: no range, list or part: --code-range "
 complaint Sweep.Pairs = codes "replaycheck: no range, list or part: --pairs "
 complaint Sweep.Part = codes "replaycheck: no range, list or part: --part "
+complaint Sweep.Any = codes "replaycheck: not A..B, positions of the input: --any "
+complaint Sweep.AnyMemory = codes "replaycheck: not A..B, addresses, A below B: --any-memory "
+complaint Sweep.Reveal = codes "replaycheck: not STEP,ADDR,LEN: --reveal "
 
 -- and of one that needs another
 abbrev pub lone_text : LoneOption → List ℕ
@@ -82,6 +85,7 @@ lone_text Alone.At = codes "replaycheck: --at needs --faults"
 lone_text Alone.Faults = codes "replaycheck: --faults needs --at"
 lone_text Alone.CodeRange = codes "replaycheck: --code-range needs --at"
 lone_text Alone.Pairs = codes "replaycheck: --pairs needs --at"
+lone_text Alone.Reveal = codes "replaycheck: --reveal needs --any or --any-memory"
 lone_text Alone.Sides = codes "replaycheck: --sides needs edits of bytes only, without --words and --at"
 
 -- the line on regions that overlap, with the texts of both

@@ -18,7 +18,7 @@ const OVERLAP: &str = "replaycheck: heap region and stack region overlap: --heap
 /// The rest of a line that is fixed.
 const NOTHING: &[u8] = b"";
 
-/// An option of a sweep whose text is read.
+/// An option of a sweep, or of a verdict for every value of some bytes, whose text is read.
 #[derive(Clone, Copy)]
 pub enum SweepOption {
     Bytes,
@@ -30,9 +30,12 @@ pub enum SweepOption {
     CodeRange,
     Pairs,
     Part,
+    Any,
+    AnyMemory,
+    Reveal,
 }
 
-/// An option of a sweep that was given without another one, which it needs.
+/// An option that was given without another one, which it needs.
 #[derive(Clone, Copy)]
 pub enum LoneOption {
     At,
@@ -41,6 +44,8 @@ pub enum LoneOption {
     Pairs,
     /// It goes with edits of bytes only.
     Sides,
+    /// It needs bytes that may be any.
+    Reveal,
 }
 
 impl SweepOption {
@@ -58,6 +63,9 @@ impl SweepOption {
             SweepOption::CodeRange => "replaycheck: no range, list or part: --code-range ",
             SweepOption::Pairs => "replaycheck: no range, list or part: --pairs ",
             SweepOption::Part => "replaycheck: no range, list or part: --part ",
+            SweepOption::Any => "replaycheck: not A..B, positions of the input: --any ",
+            SweepOption::AnyMemory => "replaycheck: not A..B, addresses, A below B: --any-memory ",
+            SweepOption::Reveal => "replaycheck: not STEP,ADDR,LEN: --reveal ",
         }
     }
 }
@@ -75,6 +83,7 @@ impl LoneOption {
             LoneOption::Sides => {
                 "replaycheck: --sides needs edits of bytes only, without --words and --at"
             }
+            LoneOption::Reveal => "replaycheck: --reveal needs --any or --any-memory",
         }
     }
 }

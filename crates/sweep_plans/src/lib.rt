@@ -3,6 +3,8 @@
 //! | Item | What it is |
 //! |---|---|
 //! | [`Request::of`] | reads the arguments of a sweep, or says which of them can't be read: a [`Request`], with [`Range`]s and a [`Part`] |
+//! | [`open_range`], [`closed_range`] | return the [`Range`] of a text, if it is one; and if it has an end |
+//! | [`bytes_of`] | returns the bytes that a range names in an input, or rejects them |
 //! | [`plan_of`] | returns the [`Plan`] of a request for a program and an input, or why its places are rejected |
 //! | [`Plan::places`], [`Plan::place`] | return the number of [`SweepPlace`]s, and one of them |
 //! | [`Plan::changes`] | returns the [`Change`]s at a place, given its value, or pc before its step and whether the instruction there has 16 bits: a [`Standing`] |
@@ -34,7 +36,7 @@ pub use change::{Change, Glitch};
 pub use glitches::byte_flips;
 pub use loaded::has_word;
 pub use plan::{ByteValues, FaultModels, Places, Plan, SweepPlace, WordValues};
-pub use planning::plan_of;
-pub use request::{Part, Range, Request};
+pub use planning::{bytes_of, plan_of};
+pub use request::{Part, Range, Request, closed_range, open_range};
 pub use standing::Standing;
 pub use steps::StepRequest;

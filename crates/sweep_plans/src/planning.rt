@@ -29,7 +29,7 @@ fn end_behind(last: Option<u32>, all: u64) -> u64
 }
 
 /// Returns the bytes to edit in an input of some length: those that are named, or all if neither words nor steps are.
-fn bytes_of<'a>(named: Option<Range>, has_others: bool, len: u32) -> Result<Places, End<'a>>
+pub fn bytes_of<'a>(named: Option<Range>, has_others: bool, len: u32) -> Result<Places, End<'a>>
     ensures ok { IfOk result (λ places. bytes_by named has_others len ≡ Some places) }
     ensures err { IfErr result (λ end. (end ≡ BytesRefused) × (bytes_by named has_others len ≡ None)) }
 {

@@ -97,14 +97,14 @@ fn range_in(mut parts: Parts<'_>) -> Option<Range>
 }
 
 /// Returns a range.
-pub(crate) fn open_range(text: &[u8]) -> Option<Range>
+pub fn open_range(text: &[u8]) -> Option<Range>
     ensures { result ≡ range_of text.now }
 {
     range_in(Parts::new(text, b'.'))
 }
 
 /// Returns a range that has an end.
-pub(crate) fn closed_range(text: &[u8]) -> Option<Range>
+pub fn closed_range(text: &[u8]) -> Option<Range>
     ensures { result ≡ closed_range_of text.now }
 {
     let range = open_range(text)?;
