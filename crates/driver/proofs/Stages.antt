@@ -23,10 +23,11 @@ use Rattle.program_files.specs.Files.{Untouched, most_judged, streams}
 use Rattle.program_files.specs.Profiles.{IsProfileNamed}
 use Rattle.command_line.specs.declared.order.ProfileArgs.{ProfileArgs}
 use Rattle.exit_status.specs.Ends.{end_of_serve}
-use Rattle.driver.specs.Certified.{Certifies}
+use Rattle.driver.specs.AnyCertified.{CertifiesBy}
 use Rattle.driver.specs.Once.{IsReportOnce}
 use Rattle.driver.specs.Sweeping.{SweepsImage, SweepsRequest}
 use Rattle.command_line.specs.declared.order.Action.{Action}
+use Rattle.command_line.specs.declared.order.CertifyArgs.{CertifyArgs}
 use Rattle.command_line.specs.declared.order.Action.TheVariants.{Report, Certify}
 use Rattle.exit_status.specs.declared.ends.End.{End}
 use Rattle.exit_status.specs.declared.ends.End.TheVariants.{Done, Image}
@@ -94,11 +95,11 @@ does-report action step image list input left held-old held-new end is reports =
     subst (λ (done : Action). Does done image list input (streams left held-old) (streams left held-new) end) (sym is)
     (Consumes-nil left, reports)
 
-pub does-certify : (action : Action) (asked : Option ℕ) (image : ProgramImage) (list : List Rule) (input : List ℕ)
-    (left held-old held-new : Option (List ℕ)) (end : End) → action ≡ Certify asked
-    → Certifies image input asked held-old held-new end
+pub does-certify : (action : Action) (args : CertifyArgs) (image : ProgramImage) (list : List Rule) (input : List ℕ)
+    (left held-old held-new : Option (List ℕ)) (end : End) → action ≡ Certify args
+    → CertifiesBy image input args held-old held-new end
     → Does action image list input (streams left held-old) (streams left held-new) end
-does-certify action asked image list input left held-old held-new end is certifies =
+does-certify action args image list input left held-old held-new end is certifies =
     subst (λ (done : Action). Does done image list input (streams left held-old) (streams left held-new) end) (sym is)
     (Consumes-nil left, certifies)
 

@@ -16,7 +16,7 @@ use Rattle.replay_session.specs.Turns.{opening}
 use Rattle.line_protocol.specs.declared.fault.ServeFault.TheVariants.{ReadFailed, WriteFailed}
 use Rattle.looks.specs.Views.{ViewsLines}
 use Rattle.tries.specs.Tries.{TriesLines, untried}
-use Rattle.driver.specs.Certified.{Certifies}
+use Rattle.driver.specs.AnyCertified.{CertifiesBy}
 use Rattle.driver.specs.Once.{IsReportOnce, WritesReport, StopsBy}
 use Rattle.command_line.specs.declared.order.Action.{Action}
 use Rattle.command_line.specs.declared.order.Action.TheVariants.{Report, Session, Look, Tries, Certify}
@@ -62,8 +62,8 @@ Does (Look asked) image list input old new end =
     Serves (ViewsLines (opened (limit_asked asked) image input list)) old new end
 Does (Tries asked) image list input old new end =
     Serves (TriesLines (untried (opened (limit_asked asked) image input list))) old new end
-Does (Certify asked) image list input old new end =
-    Consumes old.left new.left [] × Certifies image input asked old.held new.held end
+Does (Certify args) image list input old new end =
+    Consumes old.left new.left [] × CertifiesBy image input args old.held new.held end
 
 -- with the program and its suppressions: the input is read, and what the order asks for is done, or the input ends the
 -- program

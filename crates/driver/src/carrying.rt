@@ -13,7 +13,7 @@ ghost use Rattle.exit_status.specs.Ends.{end_of};
 ghost use Rattle.driver.specs.Once.{IsReportOnce};
 ghost use Rattle.scenario.specs.Limits.{furthest_step, longest_input};
 
-use crate::certifying::print_verdict;
+use crate::certifying::print_certified;
 use crate::reporting::run_once;
 use command_line::{Action, Order, SweepArgs, Task};
 use exit_status::End;
@@ -111,7 +111,7 @@ fn serve_tries<'a, R: Read, W: Write>(
 fn follow_order<'a, F: Files, R: Read, W: Write>(
     alloc: Global,
     order: &Order<'a>,
-    action: Action,
+    action: Action<'a>,
     files: &F,
     reader: &mut R,
     writer: &mut W,
@@ -133,7 +133,7 @@ fn follow_order<'a, F: Files, R: Read, W: Write>(
         Action::Tries(asked) => {
             serve_tries(alloc, image, input, suppressions, asked, reader, writer)
         }
-        Action::Certify(asked) => print_verdict(alloc, &image, input, asked, writer),
+        Action::Certify(args) => print_certified(alloc, &image, input, &args, writer),
     }
 }
 

@@ -26,6 +26,7 @@
 
 mod carrying;
 mod certifying;
+mod choosing;
 pub mod laws;
 mod reporting;
 

@@ -93,4 +93,4 @@ returns g c =
     c.in_ok-profile.ensures.ok c.in_ok-file.ensures.ok
     c.deref.ensures.value c.in_ok-image.ensures.image
     c.in_ok-suppressions.ensures.ok c.in_ok-input.ensures.ok
-    (does-certify _ c.in-Certify.asked _ _ _ _ _ _ _ c.in-Certify.is c.print_verdict.ensures)
+    (does-certify _ c.in-Certify.args _ _ _ _ _ _ _ c.in-Certify.is c.print_certified.ensures)
