@@ -90,6 +90,13 @@ LOAD a.o
  *fill*         0x00011044       0x3c ff
 OUTPUT(a.elf elf32-littleriscv)
 """
+OF_ARCHIVE = """LOAD lib/c.a
+.data           0x00011000       0x10
+ *(.data .data.* COMMON)
+ .data.f        0x00011000        0x8 lib/c.a(f.o)
+ COMMON         0x00011008        0x8 a.o
+OUTPUT(a.elf elf32-littleriscv)
+"""
 OF_CODE = "SECTIONS { .text : { *(.text .text.*) } }\n"
 OF_MAP = with_code([EBREAK], [Part(".a_section_of_data", DATA, b"\xff" * 0x80)],
                    [Name("a", DATA, 5, section=2), Name("long", DATA + 8, 8, section=2), Name("b", DATA + 0x40, 4, section=2)])
@@ -162,6 +169,10 @@ SECTIONS {
       .data.*)) }
 }
 """}),
+    Row("a script: common symbols, and a file of an archive", OF_MAP, ["--pad", "script", "--map", "map", "--bytes", "8"],
+        "SECTIONS { .data : { . = . + 8; lib/c.a:f.o(.data.f) . = . + 8; *(.data .data.* COMMON) } }\n",
+        ["1 sections of data", "not parted: common symbols, of 1 files: compile with -fno-common"],
+        texts={"map": OF_ARCHIVE, "script": "SECTIONS { .data : { *(.data .data.* COMMON) } }\n"}),
     Row("a script without one of the statements", OF_MAP, ["--pad", "script", "--map", "map"], OF_CODE,
         ["0 sections of data", "not parted: *(.data .data.*), which isn't in script"], texts={"map": MAP, "script": OF_CODE}),
     Row("no program", b"no program", ["file"], "", ["file: no ELF file: take the file that the linker writes"], 2),

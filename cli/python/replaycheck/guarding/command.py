@@ -135,6 +135,8 @@ def pad(options: argparse.Namespace) -> int:
     say(f"{made.count} sections of data are parted by {options.bytes} bytes each, {made.added} bytes in all")
     if made.whole_files:
         say(f"with all objects of a file in one section: {made.whole_files}; compile with -fdata-sections to part these too")
+    if made.commons:
+        say(f"not parted: common symbols, of {made.commons} files: compile with -fno-common")
     for pattern in made.missing:
         say(f"not parted: {pattern}, which isn't in {options.pad}")
     return 0

@@ -3,7 +3,7 @@ from __future__ import annotations
 
 import collections
 import re
-from dataclasses import dataclass
+from dataclasses import dataclass, field
 from typing import Dict, List, Tuple
 
 from replaycheck.endings import Fault
@@ -16,6 +16,7 @@ COMMENT = re.compile(r"/\*.*?\*/", re.S)
 # Sections of files: those with data, those with all data of a file, those with constants that the linker merges, and those with code.
 OF_DATA, OF_WHOLE_FILE = re.compile(r"\.s?(?:data|rodata|bss|noinit)(?:\.|$)"), re.compile(r"\.s?(?:data|rodata|bss|noinit)$")
 MERGED, OF_CODE = re.compile(r"\.(?:str|cst)\d"), re.compile(r"\.text(?:\.|$)")
+COMMON = "COMMON"  # where a map has symbols without a section of their own
 TEMPORARY = re.compile(r"/cc\w{6}(?:\.ltrans\d+\.ltrans)?\.o$")  # a file that gcc makes for one link
 MEMBER = re.compile(r"(.*)\((.*)\)$")
 IN_FILES, IN_SECTIONS = re.compile(r"[^\w./+-]"), re.compile(r"[^\w.$-]")  # characters that a script may not have in such a name
@@ -24,13 +25,14 @@ IN_FILES, IN_SECTIONS = re.compile(r"[^\w./+-]"), re.compile(r"[^\w.$-]")  # cha
 @dataclass
 class Padded:
     """The text of a script; how many bytes were added in all; how many sections of files have padding, and how many of these have all data
-    of a file; and the patterns whose statement isn't in the script."""
+    of a file; how many files have common symbols; and the patterns whose statement isn't in the script."""
 
-    text: str
-    added: int
-    count: int
-    whole_files: int
-    missing: List[str]
+    text: str = ""
+    added: int = 0
+    count: int = 0
+    whole_files: int = 0
+    commons: int = 0
+    missing: List[str] = field(default_factory=list)
 
 
 def data_of(pattern: Pattern) -> List[Piece]:
@@ -65,7 +67,7 @@ def padded(script: str, path: str, link: LinkMap, room: int) -> Padded:
     for pattern in link.patterns:
         waiting[pattern.files, pattern.sections].append(pattern)
     plain = COMMENT.sub(lambda found: re.sub(r"[^\n]", " ", found[0]), script)
-    made, parts, at, is_known = Padded("", 0, 0, 0, []), [], 0, False
+    made, parts, at, is_known = Padded(), [], 0, False
     for found in STATEMENT.finditer(plain):
         patterns = waiting.get((found[2], tuple(re.split(r"[\s,]+", found[3].strip()))))
         if not patterns:
@@ -83,6 +85,7 @@ def padded(script: str, path: str, link: LinkMap, room: int) -> Padded:
     if not is_known:
         raise Fault(f"{path}: none of its statements is in {link.path}: is that the map of a link with this script?")
     made.text = "".join(parts) + script[at:]
+    made.commons = sum(piece.section == COMMON and piece.size > 0 for pattern in link.patterns for piece in pattern.pieces)
     made.missing = [f"{pattern.files}({' '.join(pattern.sections)})" for patterns in waiting.values() for pattern in patterns
                     if pattern.output not in code and data_of(pattern)]
     return made
