@@ -5,7 +5,7 @@ import argparse
 import sys
 from typing import List, Tuple
 
-from replaycheck.endings import Fault, naming, write
+from replaycheck.endings import Fault, flush, naming, write
 from replaycheck.guest.code import without
 from replaycheck.guest.elf import Elf, refusals
 from replaycheck.options import FURTHEST_STEP, Parser, address, number
@@ -71,6 +71,7 @@ def guards(options: argparse.Namespace) -> int:
     if len(marks) > MOST_MARKS:
         raise Fault(f"{options.file}: {len(marks)} marks, where a session takes {MOST_MARKS}")
     write("".join(mark + "\n" for mark in marks))
+    flush()
     say_what(found)
     return 0
 
@@ -132,6 +133,7 @@ def pad(options: argparse.Namespace) -> int:
         script = file.read()
     made = padded(script, options.pad, read_map(options.map), options.bytes)
     write(made.text)
+    flush()
     say(f"{made.count} sections of data are parted by {options.bytes} bytes each, {made.added} bytes in all")
     if made.whole_files:
         say(f"with all objects of a file in one section: {made.whole_files}; compile with -fdata-sections to part these too")
