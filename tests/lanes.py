@@ -102,6 +102,7 @@ GATE = (
     GateCheck("tests/docs/test-manual PROGRAM", of_proved=MANY),
     GateCheck("tests/package/test-man PROGRAM", of_proved=MANY),
     GateCheck("tests/adopt/test-adopt PROGRAM", seconds=55, of_proved=LONG),
+    GateCheck("tests/guards/test-guards PROGRAM", of_proved=LONG),
     GateCheck("tests/origin/test-origin PROGRAM", of_proved=LONG),
     GateCheck("tests/coverage/test-coverage PROGRAM", of_proved=LONG),
     GateCheck("tests/search/test-search PROGRAM", of_proved=MANY),

@@ -134,6 +134,15 @@ station.c        75/85  88.2%   43/62 69.4%    8/8 100.0%
                 "gdb-multiarch -nx -batch -x replaycheck.gdb station.elf \\\n"
                 "-ex 'target remote | replaycheck gdb station.elf' \\\n-ex 'print $step' 2>/dev/null | grep '^\\$1'", "$1 = 0\n",
                 needs=("gdb-multiarch",))),
+    "guards": (
+        Example("The gap after an object, as a line of a session:", "replaycheck guards kinds.elf 2>said.txt",
+                "mark 0 0x20004 12 noaccess\n"),
+        Example("How many objects have one:", "head -n 1 said.txt | cut -d';' -f1",
+                "replaycheck guards: 1 of 3 objects have a closed byte after them\n"),
+        Example("A report with the marks:",
+                "{ replaycheck guards kinds.elf 2>said.txt\nprintf 'goto 2000\\nreport\\n'; } |\n"
+                "replaycheck session kinds.elf --input kinds.input |\ngrep '^ERROR'",
+                "ERROR SUMMARY: 0 errors from 0 contexts (suppressed: 0 from 0)\n")),
     "lines": (
         Example("The source line of an error that an edit leads to:",
                 f"printf 'goto 2000\\ninput 1 8\\nreport\\n' |\n{SESSION} |\nreplaycheck lines station.elf | grep -A 1 '^error'",
@@ -197,7 +206,7 @@ SEE_ALSO = {
     "run": ("session", "certify", "lines", "suppress"), "exec": ("run", "certify", "suppress"),
     "session": ("talk", "look", "compare"), "look": ("session", "tries", "when", "gdb"), "tries": ("look", "session", "explore"),
     "sweep": ("explore",), "certify": ("run", "origin"), "adopt": ("run", "word"), "compare": ("session", "lines"),
-    "coverage": ("run", "look", "explore"),
+    "coverage": ("run", "look", "explore"), "guards": ("session", "look"),
     "explore": ("sweep", "certify"), "gdb": ("look", "session"), "lines": ("run", "talk"), "origin": ("certify", "when", "look"),
     "page": ("session", "explore"), "search": ("explore", "coverage", "tries", "look"), "suppress": ("run",), "talk": ("session", "lines"),
     "when": ("session", "look"), "word": ("session", "lines"),

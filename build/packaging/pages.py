@@ -25,7 +25,7 @@ IN_RELEASE = (
     ("Type the commands in `examples/firmware`, with the launcher `replaycheck` on the path. In a checkout: "
      "```sh PATH=$PWD:$PATH cd examples/firmware ``` With the package, whose launcher is on the path already:",
      "`replaycheck` is installed. Copy its examples, and type the commands in the copy:"),
-    (" In a checkout the first command builds `replaycheck`, once: a first report comes in about 2 minutes, its proof in 12 to 40.", ""),
+    (" In a checkout the first command builds it, once: the report comes in about 2 minutes, its proof in 12 to 40.", ""),
     ("`./replaycheck` at the top of the repository builds the program first if it has to. If that build fails, it ends with 1 too, and "
      "says at which crate, and where its log is.", ""),
     ("| `--anew`, `--kept` | `page` | compiles the module again; uses only a kept one |", ""),

@@ -31,7 +31,7 @@ VALUES = {
     "--not-heap": "malloc", "--format": "json", "--log-format": "json", "--log-file": "log", "--log-fd": "2", "--strip-prefix": "/",
     "--demangle": "yes", "--from": "table", "--code": "main", "--seed": "1", "--sample": "1", "--jobs": "1", "--parts": "1",
     "--keep": "kept", "--sshlogin": ":", "--script": "slurm", "--goal": "exited", "--table": "out", "--svg": "out",
-    "--html": "out", "--lcov": "out", "--port": "0",
+    "--html": "out", "--lcov": "out", "--port": "0", "--map": "map", "--pad": "script", "--undefined": "main",
 }
 # What comes after the options of a tool, if it isn't a file only.
 OPERANDS = {"compare": ("FILE", "input 0 7"), "talk": ("FILE", "-"), "when": ("FILE", "x"), "word": ("nop",), "suppress": (), "page": ()}

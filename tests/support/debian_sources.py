@@ -6,8 +6,9 @@ import tarfile
 
 TOP = pathlib.Path(__file__).resolve().parents[2]
 FIRMWARE, PARTS, ROOM = TOP / "examples" / "firmware", TOP / "tests" / "libraries", TOP / "out" / "sources"
-KIT = ["riscv64-unknown-elf-gcc", "-mabi=ilp32", "--specs=picolibc.specs", "-nostartfiles", "-g", "-w", "-T", FIRMWARE / "firmware.ld",
-       "-I", FIRMWARE, "-I", PARTS, *(FIRMWARE / it for it in ("start.S", "system.c", "console.c", "heap_by_name.c"))]
+SCRIPT = FIRMWARE / "firmware.ld"
+KIT = ["riscv64-unknown-elf-gcc", "-mabi=ilp32", "--specs=picolibc.specs", "-nostartfiles", "-g", "-w", "-I", FIRMWARE, "-I", PARTS,
+       *(FIRMWARE / it for it in ("start.S", "system.c", "console.c", "heap_by_name.c"))]
 
 
 def fetch(names):
@@ -51,6 +52,6 @@ def apt_get(*words):
     return (done.stderr.strip() or f"apt-get ended with status {done.returncode}") if done.returncode else ""
 
 
-def build(out, sources, options):
-    """Builds a program of C files with the firmware kit."""
-    subprocess.run([*KIT, *options, *sources, "-o", out], check=True)
+def build(out, sources, options, script=SCRIPT):
+    """Builds a program of C files with the firmware kit, and with its linker script or another one."""
+    subprocess.run([*KIT, "-T", script, *options, *sources, "-o", out], check=True)

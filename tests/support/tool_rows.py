@@ -551,7 +551,7 @@ def launcher_rows():
     for words in (["run", "--error-exitcode=1", "--help"], ["run", "-h"], ["help", "run"]):
         yield Row(f"both helps of run, by {' '.join(words)}", words, 0, "*Usage: replaycheck* run *--errors-for-leak-kinds LIST*")
     for words in (["exec", "--help"], ["exec", "-q", "-h"], ["help", "exec"]):
-        yield Row(f"both helps of exec, by {' '.join(words)}", words, 0, "*Usage: replaycheck* exec *As Valgrind has them:*")
+        yield Row(f"both helps of exec, by {' '.join(words)}", words, 0, "*Usage: replaycheck* exec *Of two names of one option*")
     yield Row("help of help", ["help"], 0, "*Usage: replaycheck*  replaycheck word *those for test runners.\n*")
     yield Row("help of a command", ["help", "look"], 0, "*Usage: replaycheck look*")
     yield Row("help of no command", ["help", "walks"], 2, "", "*walks*")

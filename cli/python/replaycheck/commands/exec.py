@@ -23,18 +23,20 @@ For the log:
   -v, --verbose           also says what `certify` says of the run, and which
                           options of Valgrind change nothing
 
-As Valgrind has them:
+Of two names of one option use Valgrind's, which `run` has too:
+  --num-callers N         for --callers; more than 24 are taken for 24
+  --show-leak-kinds LIST  for --show
+  --errors-for-leak-kinds LIST
+                          for --count
+  --freelist-vol N        for --queue
+  --redzone-size N        for --redzone
+  --suppressions F        for --supp; may be given again and again
+
+Other options of Valgrind's:
   --demangle yes|no       names of C++ and Rust as they are in the source: yes
-  --num-callers N         as --callers; more than 24 are taken for 24
-  --show-leak-kinds LIST  as --show
   --show-reachable yes|no
                           yes lists all leaks
-  --errors-for-leak-kinds LIST
-                          as --count
   --leak-check HOW        no and summary list no leak, and count none
-  --freelist-vol N        as --queue
-  --redzone-size N        as --redzone
-  --suppressions F        as --supp; may be given again and again
   --tool memcheck         taken, as are others that ask for what is done anyway;
                           options that don't are rejected
 

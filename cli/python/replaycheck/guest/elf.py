@@ -65,6 +65,14 @@ class Elf:
         names = self.data[table.offset:table.offset + table.size] if table else b""
         return next((section for section in self.sections if names.startswith(wanted, section.name)), None)
 
+    def section_name(self, section):
+        """A section's name, with what can't be printed as `?`."""
+        at = half_at(self.data, SECTION_NAMES)
+        table = self.sections[at] if at < len(self.sections) else None
+        names = self.data[table.offset:table.offset + table.size] if table else b""
+        name = names[section.name:section.name + LONGEST_NAME].partition(b"\0")[0]
+        return "".join(chr(byte) if 0x21 <= byte <= 0x7E else "?" for byte in name)
+
     @functools.cached_property
     def strings(self):
         """The string table of the symbols."""
