@@ -8,11 +8,12 @@ import shlex
 import subprocess
 import tempfile
 
-from board_files import READ_RUN, board, function, segment
+from board_files import NO_TYPE, OBJECT, READ_RUN, board, function, segment
 from checkout import TOP
 from page_bench import expect, same
-from replaycheck.adopting.findings import Findings
-from replaycheck.adopting.regions import fitting
+from replaycheck.adopting.curing import Cured
+from replaycheck.adopting.findings import Findings, physical
+from replaycheck.adopting.regions import fitting, own_stack
 from replaycheck.guest.elf import Elf
 from replaycheck.guest.regions import USUAL_REGIONS, Regions
 
@@ -102,6 +103,88 @@ def commands_typed(bench):
             expect((path / "adopted.elf").is_file(), f"{label}: {command!r} wrote nothing: {ran.stdout}{ran.stderr}")
             done = subprocess.run([bench.program, "run", f"--isa={isa}", path / "adopted.elf"], capture_output=True, text=True)
             expect(done.stdout.startswith("step "), f"{label}: the program says {done.stderr!r} of the file")
+
+
+TAKEN = """(async () => {
+  const [{ Elf }, { ownStack, unloaded, loadedToo }] = await Promise.all([import('./debuginfo/elf.js'), import('./files/start-file.js')]);
+  const bytes = Uint8Array.from(atob('DATA'), (it) => it.charCodeAt(0)), elf = new Elf(bytes);
+  const own = ownStack(elf), segments = unloaded(elf, { isa: 'rv32im', heap: HEAP, stack: STACK });
+  const made = loadedToo(bytes, segments);
+  return [own && [own.name, own.top, ...own.region], segments.map((it) => it.physical), [...made.subarray(bytes.length)],
+    [...made.subarray(0, 52)]]; })()"""
+RAM, END = 0x30000000, 0x30020000
+
+
+def with_stack(*symbols, memory=0x20000, at=END, name="__stack"):
+    """A file whose linker script names the end of a stack."""
+    return board([segment(PLACE, bytes(16), flags=READ_RUN), segment(RAM, bytes(4), memory)],
+                 [function("_start", PLACE, 16), function(name, at, 0, NO_TYPE), *symbols], PLACE)
+
+
+def with_copies(*segments):
+    return board([segment(PLACE, bytes(16), flags=READ_RUN), *segments], [function("_start", PLACE, 16)], PLACE)
+
+
+# Files, whether their start file has a stack by a symbol, and how many segments of theirs are loaded at other addresses, too.
+TAKEN_FOR_GRANTED = [
+    ("a stack", with_stack(), True, 0), ("one of another name", with_stack(name="_estack"), True, 0),
+    ("a name that says nothing", with_stack(name="stack"), False, 0), ("a stack outside segments", with_stack(memory=4), True, 0),
+    ("an end that is no multiple of 16", with_stack(at=END - 20), True, 0), ("an end of 0", with_stack(at=0), False, 0),
+    ("a variable before it", with_stack(function("table", RAM + 0x100, 0x5000, OBJECT, 2)), True, 0),
+    ("one with too little space after it", with_stack(function("table", RAM + 0x100, 0x1F000, OBJECT, 2)), False, 0),
+    ("the stack as a variable", with_stack(function("area", RAM + 0x8000, 0x18000, OBJECT, 2)), True, 0),
+    ("a variable in its end", with_stack(function("table", END - 28, 16, OBJECT, 2), at=END - 20), False, 0),
+    ("copied bytes", with_copies(segment(RAM, b"data", physical=0x20000000)), False, 1),
+    ("two of them", with_copies(segment(RAM, b"data", physical=0x20000000), segment(RAM + 64, b"more", physical=0x20000004)), False, 2),
+    ("two at one place", with_copies(segment(RAM, b"data", physical=0x20000000), segment(RAM + 64, b"more", physical=0x20000002)),
+     False, 1),
+    ("copied from the heap", with_copies(segment(RAM, b"data", physical=USUAL_REGIONS.heap)), False, 0),
+    ("copied from the stack", with_copies(segment(RAM, b"data", physical=USUAL_REGIONS.stack[0])), False, 0),
+    ("copied from what is loaded", with_copies(segment(RAM, b"data", physical=PLACE)), False, 0),
+    ("copied from itself", with_copies(segment(RAM, b"data")), False, 0),
+    ("no bytes", with_copies(segment(RAM, b"", 64, 0x20000000)), False, 0),
+    ("beyond the last address", with_copies(segment(RAM, b"data", physical=0xFFFFFFFE)), False, 0),
+]
+
+
+def start_files(bench):
+    """What a start file takes for granted, its stack by a symbol and bytes that it copies, is what `adopt` finds, and the copy that loads
+    these bytes is the file that it writes; buttons open the file so."""
+    with bench.page() as page:
+        for label, data, has_stack, count in TAKEN_FOR_GRANTED:
+            found = Elf(data, USUAL_REGIONS)
+            own, (segments, _), cured = own_stack(found, []), physical(found), Cured(found)
+            same(f"{label}: a stack and copies by `adopt`", [own is not None, len(segments)], [has_stack, count])
+            cured.load_too([(it.offset, it.paddr, it.filesz, it.flags, it.align) for it in segments])
+            script = (TAKEN.replace("DATA", base64.b64encode(data).decode()).replace("HEAP", str(USUAL_REGIONS.heap))
+                      .replace("STACK", json.dumps(USUAL_REGIONS.stack)))
+            want = [own and [own.name, own.top, *own.region], [it.paddr for it in segments], [*cured.data[len(data):]], [*cured.data[:52]]]
+            same(label, page.run(script), want)
+        stack_and_copies(bench, page)
+
+
+START = "lui sp, 0x30020; addi sp, sp, -16; sw zero, 0(sp); lui a0, 0x20100; lw a1, 0(a0); li a0, 0; li a7, 93; ecall"
+
+
+def stack_and_copies(bench, page):
+    """The buttons of a file that has both."""
+    from adopt_rows import code
+    data = board([segment(PLACE, code(START), flags=READ_RUN), segment(0x20000000, b"data", physical=0x20100000)],
+                 [function("_start", PLACE, 32), function("__stack", END, 0, NO_TYPE)], PLACE)
+    bench.give(page, {"program": data}, name=NAME)
+    bench.settle(page)
+    offers = page.run("[...document.querySelectorAll('#offers li')].map((it) => it.textContent)")
+    same("what is offered", len(offers), 2)
+    expect("below 0x30020000 (__stack)" in offers[0] and "4 bytes for 0x20000000 to 0x20100000" in offers[1], offers)
+    same("errors before", page.run("replaycheck.shown.report.contexts"), 2)
+    page.click_on("#offers button")
+    page.until("replaycheck.opened?.target.stack[1] === 0x30020000 && replaycheck.shown && !replaycheck.isBusy", 20)
+    same("errors with the stack there", page.run("replaycheck.shown.report.contexts"), 1)
+    page.click_on("#offers button")
+    page.until("replaycheck.opened?.files.program.name === 'board.loaded.elf' && replaycheck.shown && !replaycheck.isBusy", 20)
+    same("errors with the bytes loaded", page.run("replaycheck.shown.report.contexts"), 0)
+    same("what is offered then", page.run("document.querySelectorAll('#offers li').length"), 0)
+    expect("is a copy of “board.elf”" in page.text("notice"), page.text("notice"))
 
 
 def region_files(bench):
