@@ -90,16 +90,16 @@ class App {
   constructor() {
     const edit = (scenario, series) => this.edit(scenario, series);
     const refuse = (text, how) => this.notice(text, how), make = (...edit) => this.make(...edit);
-    const drawn = () => this.linked?.mark();
     this.tabs = new Tabs({ opens: (name) => this.opensTab(name) });
-    this.source = new SourcePanel({ visit: (address) => this.code.visit(address), refuse, drawn });
+    this.source = new SourcePanel({ visit: (address) => this.code.visit(address), refuse, drawn: () => this.linked?.mark() });
     this.opening = new Opening({ open: (files, how) => this.open(files, how), refuse, source: this.source, tabs: this.tabs });
-    this.notes = new FileNotes({ opening: this.opening, lines: () => this.lines, tell: (text, it) => this.notice(text, 'good', it) });
+    this.notes = new FileNotes({ opening: this.opening, lines: () => this.lines, tell: (text, it) => this.notice(text, 'good', it),
+      patch: (all) => edit(all.reduce((now, { at, value, length }) => now.withPatch(at, value, length), this.scenario)) });
     this.bytes = new Bytes({ edit, tell: (at) => this.byteTold(at), moved: () => this.sweeps?.picture.draw() });
     new TypedInput({ use: (bytes) => this.edit(this.scenario.withInput(bytes)), refuse });
     const alter = (line) => this.edit(this.scenario.after(line));
     this.code = new Code({ edit, alter, refuse, shows: (address) => this.source.visit(address),
-      opens: () => this.tabs.open('code'), drawn });
+      opens: () => this.tabs.open('code'), drawn: () => this.linked?.mark() });
     this.machine = new Machine({ look: (step, lines) => this.opened.session.replies(this.shown.scenario, step, lines),
       search: (scenario, step, lines) => this.opened.search.replies(scenario, step, lines), again: () => this.showState(), alter, refuse,
       go: (step) => this.go(step), showPc: (pc, step) => this.showPlace(pc, step), visit: (address) => this.code.visit(address),

@@ -7,6 +7,7 @@ import { Scenario } from '../engine/scenario.js';
 import { Session } from '../engine/sessions.js';
 import { endOf } from '../run/steps.js';
 import { boardAdvice } from './boards.js';
+import { polledOffer } from './polled.js';
 import { offersFor } from './start-file.js';
 import { unseenHeap } from './unseen-heap.js';
 
@@ -67,7 +68,9 @@ export class Opened {
     this.follow = Math.min(this.target.furthest, 4 * this.last + BEYOND);
     this.heap = await unseenHeap(this.program, this.last);
     const { elf, target, files } = this, given = { elf, target, name: files.program.name, input: files.input?.name };
-    this.board = boardAdvice(given, await this.reportBefore(this.last));
+    const report = await this.reportBefore(this.last), polled = polledOffer(this, report);
+    this.board = boardAdvice(given, report);
+    if (polled) this.offers.push(polled);
     return this;
   }
 

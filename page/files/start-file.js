@@ -83,7 +83,7 @@ export function loadedToo(bytes, segments) {
 /**
  * What is offered for a file: of each what it is, a button's label, and what it changes: the target, or the segments that are loaded too.
  * @param {import('../debuginfo/elf.js').Elf} elf
- * @returns {{ text: string, label: string, change?: Object, segments?: Object[] }[]}
+ * @returns {{ text: string, label: string, change?: Object, segments?: Object[], edits?: Object[] }[]}
  */
 export function offersFor(elf, target) {
   const offers = [], own = ownStack(elf), segments = unloaded(elf, target), [begin, end] = target.stack;

@@ -13,13 +13,16 @@ export class FileNotes {
   opening;
   tell;
   lines;
+  patch;
   /** @type {?import('../files/opened.js').Opened} */ opened = null;
 
-  // `opening` opens files again; `tell` takes a sentence and what is offered after it; `lines` gives the scenario as lines.
-  constructor({ opening, tell, lines }) {
+  // `opening` opens files again; `tell` takes a sentence and what is offered after it; `lines` gives the scenario as lines;
+  // `patch` makes edits of code.
+  constructor({ opening, tell, lines, patch }) {
     this.opening = opening;
     this.tell = tell;
     this.lines = lines;
+    this.patch = patch;
     $('limit-more').addEventListener('click', () => opening.again({ furthest: this.further }));
   }
 
@@ -50,8 +53,12 @@ export class FileNotes {
     $('offers').hidden = !offers.length;
   }
 
-  // Does what is offered for a file: opens it again for another target, or a copy of it that loads more.
-  async take({ change = null, segments = [] }) {
+  // Does what is offered for a file: edits its code, opens it again for another target, or a copy of it that loads more.
+  async take({ change = null, segments = [], edits = null }) {
+    if (edits) {
+      this.patch(edits);
+      return;
+    }
     if (change) {
       await this.opening.again(change);
       return;

@@ -187,6 +187,42 @@ def stack_and_copies(bench, page):
     expect("is a copy of “board.elf”" in page.text("notice"), page.text("notice"))
 
 
+# Codes that poll a device, their flags and sets, what is offered, and the edits that it makes. The device is SiFive's UART.
+EXIT = "li a0, 0; li a7, 93; ecall"
+POLLING = [
+    ("a loop", f"lui a0, 0x10013; lw a1, 0(a0); beq a1, zero, .-4; {EXIT}", 0, "rv32im",
+     "No device answers 1 load, at 0x00010004: at 0x10013000 a board has one (SiFive's UART), and the run doesn’t end.",
+     ["patch 0x00010004 0xfff00593"]),
+    ("two loads of bytes", f"lui a0, 0x10013; lb a1, 4(a0); lbu a2, 0(a0); add a1, a1, a2; beq a1, zero, .-12; {EXIT}", 0, "rv32im",
+     "No device answers 2 loads, at 0x00010004 and 0x00010008: at ", ["patch 0x00010004 0xfff00593", "patch 0x00010008 0xfff00613"]),
+    ("one of 16 bits", f"lui a0, 0x10013; .word 0x0001410c; beq a1, zero, .-4; {EXIT}", 1, SHORT,
+     "No device answers 1 load, at 0x00010004: at ", ["patch16 0x00010004 0x55fd"]),
+    ("a store", f"lui a0, 0x10013; sw zero, 0(a0); {EXIT}", 0, "rv32im", None, []),
+    ("what is no device", f"lui a0, 0x60000; lw a1, 0(a0); {EXIT}", 0, "rv32im", None, []),
+    ("a load of nothing", f"lui a0, 0x10013; lw zero, 0(a0); {EXIT}", 0, "rv32im", None, []),
+]
+
+
+def polled_devices(bench):
+    """Of loads of a device that a run has errors at, the page says where they are, and a button has each give all ones, as edits."""
+    with bench.page() as page, tempfile.NamedTemporaryFile(suffix=".elf") as file:
+        for label, text, flags, isa, told, edits in POLLING:
+            data = file_of(text, flags)
+            page.run(f"replaycheck.opening.again({{ isa: '{isa}', furthest: 10000 }})")
+            bench.give(page, {"program": data}, name=NAME)
+            bench.settle(page)
+            offers = page.run("[...document.querySelectorAll('#offers li')].map((it) => it.textContent)")
+            same(f"{label}: whether anything is offered", len(offers), int(told is not None))
+            if told is None:
+                continue
+            expect(offers[0].startswith(told), f"{label}: it says {offers[0]!r}")
+            page.click_on("#offers button")
+            pathlib.Path(file.name).write_bytes(data)
+            bench.same_report(page, [file.name, f"--isa={isa}"], f"{label}: the report then")
+            same(f"{label}: the edits", page.run("replaycheck.scenario.lines"), edits)
+            same(f"{label}: how the run ends", page.run("replaycheck.shown.report.state"), "exited 0")
+
+
 def region_files(bench):
     """A file that meets the region of heap or stack: the options that the page names are those of `adopt`, unless it knows the start
     file's own stack; and the program takes the file with them."""
