@@ -155,11 +155,11 @@ def start_files(bench):
             found = Elf(data, USUAL_REGIONS)
             own, (segments, _), cured = own_stack(found, []), physical(found), Cured(found)
             same(f"{label}: a stack and copies by `adopt`", [own is not None, len(segments)], [has_stack, count])
-            cured.load_too([(it.offset, it.paddr, it.filesz, it.flags, it.align) for it in segments])
+            cured.load_too([(load.offset, load.paddr, load.filesz, load.flags, load.align) for load in segments])
             script = (TAKEN.replace("DATA", base64.b64encode(data).decode()).replace("HEAP", str(USUAL_REGIONS.heap))
                       .replace("STACK", json.dumps(USUAL_REGIONS.stack)))
-            want = [own and [own.name, own.top, *own.region], [it.paddr for it in segments], [*cured.data[len(data):]], [*cured.data[:52]]]
-            same(label, page.run(script), want)
+            stack = own and [own.name, own.top, *own.region]
+            same(label, page.run(script), [stack, [load.paddr for load in segments], [*cured.data[len(data):]], [*cured.data[:52]]])
         stack_and_copies(bench, page)
 
 

@@ -227,8 +227,8 @@ def rings(bench):
             page.run(f"replaycheck.use({json.dumps(chr(10).join(edits))})")
             bench.settle(page)
             same(f"{edits}: rings", page.run("replaycheck.sweeps.chosen.filter(([at]) => at < 41)"), wanted)
-            for it in ([1, 8], [37, 250]):
-                same(f"{edits}: whether {it} is ringed", page.run(f"{inked}({it})"), it in wanted)
+            for cell in ([1, 8], [37, 250]):
+                same(f"{edits}: whether {cell} is ringed", page.run(f"{inked}({cell})"), cell in wanted)
         page.run("document.getElementById('picture').scrollIntoView({ block: 'center' })")
         page.click(*place_of(page, 37, 250))
         bench.same_report(page, STATION, "a click on the recorded run's picture")
@@ -275,7 +275,7 @@ def picture_over_the_strip(bench):
         first = page.text("picture-told")
         page.press("ArrowRight")
         told = page.text("picture-told")
-        steps = [int(re.match(r"set (\d+) x1 0x00000000", it)[1]) for it in (first, told)]
+        steps = [int(re.match(r"set (\d+) x1 0x00000000", text)[1]) for text in (first, told)]
         same("the next cell by a key", steps[1] > steps[0], True)
         page.press("Enter")
         bench.same_report(page, words_of("boot"), "a cell by Enter")

@@ -36,7 +36,7 @@ def tabs_by_keys(bench):
         same("each tab and its panel", page.run("""[...document.querySelectorAll('#tabs [role=tab]')].map((it) => {
           const panel = document.getElementById(it.getAttribute('aria-controls'));
           return panel.getAttribute('role') === 'tabpanel' && panel.getAttribute('aria-labelledby') === it.id && it.id; })"""),
-             [f"{it}-tab" for it in NAMES])
+             [f"{name}-tab" for name in NAMES])
         same("complaints", page.complaints(), [])
 
 
@@ -92,8 +92,8 @@ def tabs_led_to(bench):
 
 
 # What can't be seen while nothing calls for it, each for a reason that is no matter of widths.
-NOT_ALWAYS = {"counted", "certified", "bug-step", "stop-report", "start-over", "limit-more", "picture-make", "asked-further", "asked-back",
-              "byte-wrote", "byte-since", "open-program", "open-input", "open-supp", "open-sources", "open-folder", "code-follows"}
+NOT_ALWAYS = {"lens", "picture", "counted", "certified", "bug-step", "stop-report", "start-over", "limit-more", "picture-make",
+              "asked-further", "asked-back", "byte-wrote", "byte-since"}
 
 
 def nothing_lost(bench):
@@ -110,7 +110,7 @@ def nothing_lost(bench):
                 for (const it of names) { const found = document.getElementById(it), { width, height } = found.getBoundingClientRect();
                   if (found.checkVisibility() && width && height) seen.add(it); } }
               return names.filter((it) => !seen.has(it)); })()""" % json.dumps(NAMES))
-            same(f"what can't be seen at {width}", [it for it in lost if it not in NOT_ALWAYS and it not in ("lens", "picture")], [])
+            same(f"what can't be seen at {width}", [name for name in lost if name not in NOT_ALWAYS], [])
 
 
 # ---- what is linked
@@ -144,7 +144,7 @@ def linked_rows(bench):
             same(f"{label}: code", code, [f"station.c:{line}"] if line else [])
             same(f"{label}: the picture", outcomes is not None, shows)
             told = page.run("(replaycheck.sweeps.picture.legend.pointed ?? []).map((it) => replaycheck.sweeps.picture.outcomes.told(it))")
-            expect(not shows or all("station.c:34" in it for it in told), f"{label}: it shows {told}")
+            expect(not shows or all("station.c:34" in text for text in told), f"{label}: it shows {told}")
         cell = "(() => { const { picture } = replaycheck.sweeps; picture.canvas.focus(); picture.here = { column: 1, row: 7 }; })()"
         page.run(cell)
         page.press("ArrowDown")
