@@ -1,4 +1,4 @@
-// Loads of devices in a run: where they are, and the edits that have each give all ones, so that a loop that waits for a bit ends.
+// Loads of devices in a run: where they are, and the edits that have each give all ones, so that a loop ends that waits until a bit is set.
 import { grouped, hexWord, listed, many } from '../common/numbers.js';
 import { DEVICES, OPCODES } from '../facts.js';
 import { HALF, WORD, lengthOf } from '../riscv/isa.js';
@@ -39,7 +39,8 @@ export function polledOffer({ elf, target, lineOf }, report) {
   if (!reads.length) return null;
   const edits = [...new Map(reads.map(({ edit }) => [edit.at, edit])).values()], places = [...new Set(reads.map((it) => it.place))];
   const where = places.length > MOST_PLACES ? `${grouped(places.length)} places` : listed(places, 'and');
-  const [{ address, name }] = reads, ends = report.state.startsWith('running') ? ', and the run doesn’t end' : '';
-  return { text: `No device answers ${many(edits.length, 'load')}, at ${where}: at ${hexWord(address)} a board has one (${name})${ends}. `
-    + 'A loop that waits for a bit of it ends if each of its loads gives all ones.', label: 'Answer with all ones', edits };
+  const [{ address, name }] = reads, isRunning = report.state.startsWith('running');
+  const far = isRunning ? `, and the run doesn’t end within ${many(report.step, 'step')}` : '';
+  return { text: `No device answers ${many(edits.length, 'load')}, at ${where}: at ${hexWord(address)} a board has one (${name})${far}. `
+    + 'A loop that waits until a bit of it is set ends if each of its loads gives all ones.', label: 'Answer with all ones', edits };
 }

@@ -88,14 +88,14 @@ export function loadedToo(bytes, segments) {
 export function offersFor(elf, target) {
   const offers = [], own = ownStack(elf), segments = unloaded(elf, target), [begin, end] = target.stack;
   if (own && !(begin < own.top && own.top <= end) && !meets(own.region, heapOf(target))) {
-    offers.push({ text: `The start file has its stack below ${hexWord(own.top)} (${own.name}). There is none for the page there: a push `
-      + 'outside any segment is an error, and uninitialised values go unseen.', label: `Put the stack at ${stackText(own.region)}`,
-      change: { stack: own.region } });
+    offers.push({ text: `The start file has its stack below ${hexWord(own.top)} (${own.name}), and the page has it elsewhere: a push `
+      + 'outside any segment is an error, and uninitialised values on that stack aren’t found.',
+      label: `Put the stack at ${stackText(own.region)}`, change: { stack: own.region } });
   }
   if (segments.length) {
     const told = segments.map((it) => `${many(it.inFile, 'byte')} for ${hexWord(it.address)} to ${hexWord(it.physical)}`);
-    offers.push({ text: `The linker script puts ${listed(told, 'and')}, from where the start file copies. Nothing is loaded there, so that `
-      + 'variables would be 0.', label: 'Load them there, too', segments });
+    offers.push({ text: `The linker script puts ${listed(told, 'and')}, from where a start file copies them. Nothing is loaded there, so `
+      + 'they would be 0.', label: 'Load them there, too', segments });
   }
   return offers;
 }

@@ -137,8 +137,8 @@ export class SweepPanel {
   get isStale() {
     const { of } = this;
     if (!of || this.isRecorded) return false;
-    const { scenario, step } = this.state(), isAtEnd = of.asked.kind === 'steps';
-    return (!isAtEnd && of.step !== step) || (of.scenario !== scenario && !isSameRun(of.scenario, scenario));
+    const { scenario, step } = this.state(), isOfSteps = of.asked.kind === 'steps';
+    return (!isOfSteps && of.step !== step) || (of.scenario !== scenario && !isSameRun(of.scenario, scenario));
   }
 
   // Which run the picture is of, where that isn't just the one that is shown, as the beginning of a sentence.
@@ -147,8 +147,8 @@ export class SweepPanel {
     if (!of) return '';
     const isOther = isStale || (this.isRecorded && !isSameRun(of.scenario, this.state().scenario));
     if (!isOther && !of.left.length) return '';
-    const edits = editsOf(of.scenario).length, isAtEnd = of.isEnd || of.asked.kind === 'steps';
-    const at = isAtEnd || of.step === this.state().step ? '' : ` at step ${grouped(of.step)}`;
+    const edits = editsOf(of.scenario).length;
+    const at = of.isEnd || of.step === this.state().step ? '' : ` at step ${grouped(of.step)}`;
     const run = isOther ? `${edits ? `the run with ${many(edits, 'edit')}` : 'the unedited run'}${at}` : 'this run';
     return `Of ${run}${of.left.length ? `, without ${of.left.join(', ')}` : ''}: `;
   }
@@ -232,7 +232,7 @@ export class SweepPanel {
     }
     const { files, left } = filesOf(scenario, program);
     const sweep = this.sweep = new Sweep(program, files, asked, this.idle, () => this.goesOn(sweep));
-    this.of = { asked, scenario, step, isEnd, left };
+    this.of = { asked, scenario, step, isEnd: isEnd || asked.kind === 'steps', left };  // faults at steps are compared at the end
     this.draws(sweep.swept);
     this.showOf();
     this.show(true);

@@ -191,7 +191,7 @@ def stack_and_copies(bench, page):
 EXIT = "li a0, 0; li a7, 93; ecall"
 POLLING = [
     ("a loop", f"lui a0, 0x10013; lw a1, 0(a0); beq a1, zero, .-4; {EXIT}", 0, "rv32im",
-     "No device answers 1 load, at 0x00010004: at 0x10013000 a board has one (SiFive's UART), and the run doesn’t end.",
+     "No device answers 1 load, at 0x00010004: at 0x10013000 a board has one (SiFive's UART), and the run doesn’t end within 10,000 steps.",
      ["patch 0x00010004 0xfff00593"]),
     ("two loads of bytes", f"lui a0, 0x10013; lb a1, 4(a0); lbu a2, 0(a0); add a1, a1, a2; beq a1, zero, .-12; {EXIT}", 0, "rv32im",
      "No device answers 2 loads, at 0x00010004 and 0x00010008: at ", ["patch 0x00010004 0xfff00593", "patch 0x00010008 0xfff00613"]),

@@ -145,9 +145,9 @@ def counts_on_the_way(bench):
         expect(page.run(COUNTED).startswith("Of the unedited run: "), f"after an edit it says {page.run(COUNTED)!r}")
         page.click_on("#sweep")
         page.until(f"{SWEPT} && !replaycheck.sweeps.isRecorded", 120)
-        page.click_on("#undo")
-        bench.settle(page)
-        expect(page.run(COUNTED).startswith("Of the run with 1 edit: "), f"after an undo it says {page.run(COUNTED)!r}")
+        told = page.run("(async () => { document.getElementById('undo').click(); await replaycheck.isBusy;"
+                        f" return {COUNTED}; }})()")
+        expect(told.startswith("Of the run with 1 edit: "), f"after an undo it says {told!r}")
         page.until("replaycheck.sweeps.isRecorded", 10)
         page.until(f"!{COUNTED}.startsWith('Of the')", 10)
         page.click_on("#sweep")

@@ -192,10 +192,10 @@ def picture_of_the_run(bench):
         told = page.run("replaycheck.byteTold(2)")
         expect(f"Of 255 other values, {alike} change" in told, f"it says {told!r}, and {alike} values change nothing")
         expect("of the run with 1 edit" in page.text("sweep-told"), f"it says {page.text('sweep-told')!r}")
-        page.run("replaycheck.go(500)")
-        bench.settle(page)
-        expect(page.run(stale), "the picture of another run isn't greyed")
-        expect("Of the run with 1 edit" in page.run("replaycheck.sweeps.otherRun"), "another step isn't another run")
+        is_stale, other = page.run(f"(async () => {{ replaycheck.go(500); await replaycheck.isBusy;"
+                                   f" return [{stale}, replaycheck.sweeps.otherRun]; }})()")
+        expect(is_stale, "the picture of another run isn't greyed")
+        expect("Of the run with 1 edit" in other, f"another step isn't another run: {other!r}")
         page.until("replaycheck.sweeps.isRecorded", 20)
         same("the recorded run's sentence again", page.run("replaycheck.byteTold(2)"),
              "byte 2: 0x68. Of the unedited run: None of 255 other values changes anything.")
@@ -261,6 +261,8 @@ def picture_over_the_strip(bench):
         page.run("""(() => { const it = replaycheck.opened.program.elf.functions.find((it) => it.name === 'verify');
           replaycheck.code.visit(it.address); })()""")
         page.set("sweep-what", "steps", "change")
+        page.run("replaycheck.steps.choose(1262)")
+        bench.settle(page)
         for fault, zoom in (("skip", 1), ("skip", 0.1), ("zero", 1)):
             page.set("sweep-values", fault)
             page.click_on("#sweep")
@@ -281,6 +283,8 @@ def picture_over_the_strip(bench):
         bench.same_report(page, words_of("boot"), "a cell by Enter")
         same("its edit", page.run("replaycheck.scenario.lines"), [f"set {steps[1]} x1 0x00000000"])
         same("its ring", page.run("replaycheck.sweeps.chosen"), [[steps[1], 0]])
+        page.until("location.hash.includes('set+')", 10)
+        same("whether the picture stays", page.run("[replaycheck.sweeps.isRecorded, replaycheck.sweeps.picture.isOfSteps]"), [True, True])
         page.set("sweep-what", "bytes", "change")
         page.set("sweep-values", "edges")
         page.click_on("#sweep")
