@@ -1,8 +1,7 @@
 // The page: holds the scenario and the step, asks sessions for reports, and has the parts of the page show them.
-import { $, $button, $input, element, say, speaks } from './common/dom.js';
+import { $, $button, $input, say, speaks } from './common/dom.js';
 import { grouped, hexByte, hexWord, many } from './common/numbers.js';
 import { Roving } from './common/roving.js';
-import { Elf } from './debuginfo/elf.js';
 import { inBatches } from './engine/batches.js';
 import { History } from './engine/history.js';
 import { parseMemory } from './engine/looks.js';
@@ -12,17 +11,19 @@ import { NoEdit } from './engine/scenario.js';
 import { meetsRegion, notLoaded, sentence } from './engine/sentences.js';
 import { Refused } from './engine/sessions.js';
 import { isSameTarget, targetIn, targetLines } from './engine/targets.js';
-import { ERROR_KINDS, LAST_STEP, LEAK_KINDS, MODULE_SUM } from './facts.js';
-import { regionAdvice } from './files/boards.js';
+import { ERROR_KINDS, LEAK_KINDS, MODULE_SUM } from './facts.js';
 import { Opened, isRunning } from './files/opened.js';
 import { Opening } from './files/opening.js';
 import { Bytes } from './panels/bytes.js';
 import { Code } from './panels/code.js';
 import { Edits } from './panels/edits.js';
+import { FileNotes } from './panels/file-notes.js';
+import { Linked } from './panels/linked.js';
 import { Machine } from './panels/machine.js';
 import { Output } from './panels/output.js';
 import { ReportPanel } from './panels/report-panel.js';
 import { SourcePanel } from './panels/source-panel.js';
+import { Tabs } from './panels/tabs.js';
 import { TypedInput } from './panels/typed-input.js';
 import { Stale, VariablesPanel } from './panels/variables-panel.js';
 import { Verdict } from './panels/verdict.js';
@@ -38,7 +39,7 @@ const WORKERS = Number(words.get('workers')) || navigator.hardwareConcurrency ||
 const SHORT_RUN = 100000;  // steps of a run whose edits are all made as it is opened
 const QUIET = 300;  // milliseconds after an edit, before landmarks are searched and the link is changed
 const LONG = 600;  // milliseconds after which work is told, with a button that stops it
-const PARTS = ['step', 'strip', 'input', 'report', 'edits', 'code', 'source', 'output', 'calls', 'variables', 'machine', 'blocks'];
+const PARTS = ['step', 'strip', 'input', 'edits', 'source', 'output', 'state'];
 // Parts that are one stop of the Tab key each, and what a row is in them.
 const ROVING = [['examples', 'nav'], ['landmarks', 'div'], ['legend-rows'], ['chips', 'li'], ['report', 'li, p'], ['code-rows'],
   ['source-rows'], ['output-lines', 'li'], ['calls', 'li'], ['variable-rows'], ['global-rows'], ['registers', 'li'], ['bits', '#bits'],
@@ -70,6 +71,9 @@ class App {
   /** @type {Steps} */ steps;
   /** @type {Strip} */ strip;
   /** @type {Edits} */ edits;
+  /** @type {Tabs} */ tabs;
+  /** @type {FileNotes} */ notes;
+  /** @type {Linked} */ linked;
   /** @type {Output} */ output;
   /** @type {WholeRun} */ whole;
   /** @type {SweepPanel} */ sweeps;
@@ -86,28 +90,32 @@ class App {
   constructor() {
     const edit = (scenario, series) => this.edit(scenario, series);
     const refuse = (text, how) => this.notice(text, how), make = (...edit) => this.make(...edit);
-    this.source = new SourcePanel({ visit: (address) => this.code.visit(address), refuse });
-    this.opening = new Opening({ open: (files, how) => this.open(files, how), refuse, source: this.source });
+    this.tabs = new Tabs({ opens: (name) => this.opensTab(name) });
+    this.source = new SourcePanel({ visit: (address) => this.code.visit(address), refuse, drawn: () => this.linked?.mark() });
+    this.opening = new Opening({ open: (files, how) => this.open(files, how), refuse, source: this.source, tabs: this.tabs });
+    this.notes = new FileNotes({ opening: this.opening, lines: () => this.lines, tell: (text, it) => this.notice(text, 'good', it),
+      patch: (all) => edit(all.reduce((now, { at, value, length }) => now.withPatch(at, value, length), this.scenario)) });
     this.bytes = new Bytes({ edit, tell: (at) => this.byteTold(at), moved: () => this.sweeps?.picture.draw() });
     new TypedInput({ use: (bytes) => this.edit(this.scenario.withInput(bytes)), refuse });
     const alter = (line) => this.edit(this.scenario.after(line));
-    this.code = new Code({ edit, alter, refuse, shows: (address) => this.source.visit(address) });
+    this.code = new Code({ edit, alter, refuse, shows: (address) => this.source.visit(address),
+      opens: () => this.tabs.open('code'), drawn: () => this.linked?.mark() });
     this.machine = new Machine({ look: (step, lines) => this.opened.session.replies(this.shown.scenario, step, lines),
       search: (scenario, step, lines) => this.opened.search.replies(scenario, step, lines), again: () => this.showState(), alter, refuse,
       go: (step) => this.go(step), showPc: (pc, step) => this.showPlace(pc, step), visit: (address) => this.code.visit(address),
       functionAt: (address) => this.opened.elf.functionAt(address), lineOf: (address) => this.opened.lineOf(address),
-      rests: () => this.showVariables() });
+      rests: () => this.showVariables(), opens: () => this.tabs.open('memory') });
     this.variables = new VariablesPanel({ show: (address) => this.machine.choose(address, address), fail: (fault) => this.unread(fault) });
     this.reports = new ReportPanel({ lineOf: (address) => this.opened.lineOf(address), visit: (address) => this.code.visit(address),
       suppress: (text) => this.edit(this.scenario.withSuppression(text)), kinds: { errors: ERROR_KINDS, leaks: LEAK_KINDS } });
     const showPicture = () => { $('picture').scrollIntoView({ block: 'center' }); $('picture').focus({ preventScroll: true }); };
     this.verdict = new Verdict({ lineOf: (address) => this.opened.lineOf(address), isa: () => this.opened.isa, go: (step) => this.go(step),
       certify: () => this.certifyLong(), showPicture });
-    this.steps = new Steps({ go: (step) => this.go(step), most: LAST_STEP });
+    this.steps = new Steps({ go: (step) => this.go(step) });
     this.whole = new WholeRun(this, words.has('still'));
     this.output = new Output({ go: (step) => this.steps.choose(step) });
     this.strip = new Strip({ choose: (step) => this.steps.choose(step), explain: (fault) => sentence(fault, LIMIT),
-      known: () => this.whole.showOutput() });
+      known: () => this.whole.showOutput(), drew: () => this.sweeps?.picture.followStrip() });
     this.edits = new Edits({ edit, clear: () => this.edit(this.opened.plain), use: (text) => this.use(text), refuse,
       tell: (text) => this.notice(text, 'good'),
       link: async () => new URL(await this.opening.link(this.lines), location.href).href,
@@ -118,7 +126,9 @@ class App {
       at: this.steps.shown, end: this.steps.last, follow: this.opened.follow });
     this.sweeps = new SweepPanel({ state, make, refuse, fail: (fault) => this.notice(sentence(fault, LIMIT)),
       told: () => this.showCounts(), makeWorker, workers: WORKERS, ends: (count) => this.bytes.ends(count),
-      pointed: (at) => this.bytes.point(at) });
+      pointed: (at) => this.bytes.point(at), links: (address) => this.linked?.pointed(address), axis: this.strip.drawing });
+    this.linked = new Linked({ placeAt: (address) => this.opened?.lines.placeAt(address), pathOf: () => this.source.path,
+      point: (isThere) => this.sweeps.picture.pointOut(isThere) });
     for (const it of ROVING) new Roving(...it);
     this.listen();
     say('sum', `The program’s module: SHA-256 ${MODULE_SUM}`);
@@ -182,17 +192,9 @@ class App {
     } catch (fault) {
       if (wanted !== this.wanted) return null;
       if (fault instanceof NotLoaded) this.unusable(fault.message);
-      else this.unusable(sentence(fault, LIMIT), meetsRegion(fault) ? this.elsewhere(files, how) : undefined);
+      else this.unusable(sentence(fault, LIMIT), meetsRegion(fault) ? this.notes.elsewhere(files, how) : undefined);
     }
     return null;
-  }
-
-  // What to say of files that meet the region of heap or stack, and what is offered: a button that opens them with these elsewhere, and
-  // the command for it.
-  elsewhere(files, how) {
-    const { bytes, name } = files.program, { text, target, label, more } = regionAdvice(new Elf(bytes), name, how.target);
-    const button = target && element('button', { onclick: () => this.opening.begin(files, { ...how, target }) }, label);
-    return { more: text, offered: [...(button ? [button, ' '] : []), more] };
   }
 
   unusable(text, { more, offered } = { more: '', offered: [] }) {
@@ -255,17 +257,7 @@ class App {
     $('start').hidden = are;
     $('main').inert = false;
     $('example-told').hidden = !are || !this.opening.example;
-    $('heap-told').hidden = !are || !this.opened.heap;
-    $('board-told').hidden = !are || !this.opened.board;
-  }
-
-  // Shows what stands between a board's file and a checked run: a sentence, the instruction sets that are offered, and a command.
-  showBoard() {
-    const { text, sets, command } = this.opened.board ?? { text: '', sets: [], command: '' };
-    say('board-text', text);
-    $('board-sets').replaceChildren(...sets.map((it) => element('button', { onclick: () => this.opening.again({ isa: it }) }, it)));
-    say('board-more', sets.length || !text.endsWith(':') ? 'This command says all that is in the way:' : '');
-    say('board-command', command);
+    this.notes.show(are ? this.opened : null);
   }
 
   async begin(scenario, lines = []) {
@@ -275,13 +267,11 @@ class App {
     this.left = 0;
     say('example-told', this.opening.example?.about ?? '');
     if (this.opening.example) $input('goal').value = this.opening.example.goal ?? '';
-    say('heap-told', opened.heap);
-    this.showBoard();
     this.showParts(true);
     const title = [files.program, files.input].filter(Boolean).map((it) => it.name).join(' with ');
     document.title = `${title} — replaycheck`;
     say('open-name', title);
-    this.steps.open(last, follow);
+    this.steps.open(last, follow, opened.target.furthest);
     this.strip.open(opened);
     this.source.open(opened, this.opening.ownSources);
     this.variables.open(opened.variables);
@@ -344,7 +334,7 @@ class App {
   showCounts() {
     speaks('byte-told', false);
     this.bytes.tellOf(this.bytes.here);
-    if (this.shown) this.verdict.count(this.sweeps.counted, this.sweeps.countedBefore(this.step));
+    if (this.shown) this.verdict.count(this.sweeps.counted, this.sweeps.countedBefore);
   }
 
   showTravel() {
@@ -382,9 +372,9 @@ class App {
     this.refresh();
   }
 
-  // Makes an edit of the picture: of an instruction by its length in bytes, of a step by its line.
+  // Makes an edit of the picture, over the run that it is of: of an instruction by its length in bytes, of a step by its line.
   make(kind, at, value, how) {
-    const { scenario } = this;
+    const scenario = this.sweeps.isRecorded ? this.opened.plain : this.scenario;
     if (kind === 'steps') this.edit(scenario.after(how));
     else this.edit(kind === 'bytes' ? scenario.withByte(at, value) : scenario.withPatch(at, value, how));
     if (kind === 'steps') return;
@@ -404,7 +394,7 @@ class App {
     try {
       for (const line of text.split('\n').map((it) => it.replace(/\r$/, ''))) {
         const goto = /^goto (\d+|0[xX][0-9a-fA-F]+)$/.exec(line);
-        if (goto && Number(goto[1]) > LAST_STEP) throw new Refused(line, BEYOND_STEPS);
+        if (goto && Number(goto[1]) > target.furthest) throw new Refused(line, BEYOND_STEPS);
         if (goto) step = Number(goto[1]);
         else if (!CHANGES_NOTHING.test(line)) scenario = scenario.after(line);
       }
@@ -559,12 +549,8 @@ class App {
     const { scenario, opened, turn } = this;
     if (opened.last <= SHORT_RUN) this.certify(opened.session);
     else this.verdict.offer();
-    const link = await this.opening.link(this.lines);
-    if (turn !== this.turn) return;
-    if (!this.opening.wanted) {
-      history.replaceState(null, '', link);
-      this.keep();
-    }
+    if (!await this.showLink()) return;
+    if (!this.opening.wanted) this.keep();
     if (opened.last <= SHORT_RUN && !words.has('still')) this.sweeps.follow();
     if (this.marked === scenario) return;
     this.marked = scenario;
@@ -579,6 +565,20 @@ class App {
     } catch (fault) {
       if (!isStale()) this.notice(sentence(fault, LIMIT));
     }
+  }
+
+  // Has the page's address lead to what is shown. Gives whether it is still open then.
+  async showLink() {
+    const { turn } = this, link = await this.opening.link(this.lines);
+    if (turn !== this.turn) return false;
+    if (!this.opening.wanted) history.replaceState(null, '', link);
+    return true;
+  }
+
+  // A tab is opened: what it has is drawn where it can be seen now.
+  opensTab(name) {
+    if (name === 'code') this.code.reveal();
+    if (this.shown) this.showLink();
   }
 
   // Keeps the scenario for the next visit, once something is open that no link or storage waits for.

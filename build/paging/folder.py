@@ -8,11 +8,11 @@ import re
 from checkout import TOP
 from replaycheck import allocators, file_heaps, replies
 from replaycheck.adopting import heap_names, outside
-from replaycheck.adopting.regions import HEAPS, MOST_STACK, STACK_ENDS
+from replaycheck.adopting.regions import HEAPS, MOST_STACK, NAMES, STACK_ENDS
 from replaycheck.endings import Fault
 from replaycheck.exploring import outcomes
 from replaycheck.guest import halves, regions, rv32
-from replaycheck.options import LAST_STEP
+from replaycheck.options import FURTHEST_STEP, LAST_STEP
 from replaycheck.programs import ISAS
 from replaycheck.recording.front import recorded
 from replaycheck.refusals import WORDS
@@ -55,13 +55,13 @@ def instructions():
 def facts(module):
     """What the page has in common with the tools."""
     return "".join(constant(name, value) for name, value in (
-        ("LAST_STEP", LAST_STEP), ("ISAS", ISAS), ("REFUSALS", WORDS), ("LEAK_KINDS", LEAK_KINDS),
+        ("LAST_STEP", LAST_STEP), ("FURTHEST_STEP", FURTHEST_STEP), ("ISAS", ISAS), ("REFUSALS", WORDS), ("LEAK_KINDS", LEAK_KINDS),
         ("ERROR_KINDS", [(pattern.pattern, name) for pattern, name in TEXTS]),
         ("BADNESS", outcomes.BADNESS), ("FRAMES_TOLD", outcomes.FRAMES_TOLD), ("RUNNING", outcomes.RUNNING),
         ("HEAP_NAMES", allocators.HEAP), ("OTHER_HEAPS", sorted(heap_names.OTHERS)),
         *((name, getattr(regions, name)) for name in REGION_RULES),
         ("USUAL_HEAP", regions.USUAL_REGIONS.heap), ("USUAL_STACK", regions.USUAL_REGIONS.stack),
-        ("HEAPS", HEAPS), ("MOST_STACK", MOST_STACK), ("STACK_ENDS", STACK_ENDS), ("DEVICES", outside.DEVICES),
+        ("HEAPS", HEAPS), ("MOST_STACK", MOST_STACK), ("STACK_ENDS", STACK_ENDS), ("STACK_NAMES", NAMES), ("DEVICES", outside.DEVICES),
         ("HEAP_CHOICES", file_heaps.choices()), ("BEFORE_BLOCKS", BEFORE_BLOCKS),
         *instructions(), *((name, getattr(replies, name)) for name in REPLY_RULES),
         ("MODULE_SUM", hashlib.sha256(module).hexdigest())))

@@ -43,6 +43,13 @@ export function element(name, attributes = {}, ...children) {
   return made;
 }
 
+// Has the browser save a text or bytes as a file.
+export function download(name, content, type = 'application/octet-stream') {
+  const address = URL.createObjectURL(new Blob([content], { type }));
+  element('a', { href: address, download: name }).click();
+  setTimeout(() => URL.revokeObjectURL(address), 1000);
+}
+
 // Sets a text where it differs, so that a screen reader hears what changed alone.
 export function say(id, text) {
   if ($(id).textContent !== text) $(id).textContent = text;

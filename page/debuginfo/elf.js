@@ -1,9 +1,10 @@
 // What the page shows of a program's file beside its reports: functions, words, sections. The program itself judges the file.
 const MAGIC = 0x464c457f;
 const HEADER = 52;
-const SYMBOL_TABLE = 2;
-const LABEL = 0, FUNCTION = 2;
-const LOADED = 1;
+const SYMBOL_TABLE = 2, SYMBOL = 16;  // the kind of a section, and the bytes of a symbol
+const LABEL = 0, OBJECT = 1, FUNCTION = 2;
+export const LOADED = 1;  // the kind of a segment that is loaded
+export const PROGRAM_HEADER = 32;  // the bytes of a program header
 const LONGEST_NAME = 4096, MOST_NAMED = 1 << 26;  // bytes of one name, and of all
 const decoder = new TextDecoder();
 
@@ -24,6 +25,7 @@ export class Elf {
   functions = [];
   functionNames = new Set();
   labelNames = new Set();
+  objects = [];
   left = MOST_NAMED;
   flags = 0;
   names;
@@ -60,8 +62,8 @@ export class Elf {
     for (let i = 0; i < segmentCount; i++) this.readSegment(segments + i * segmentSize);
     for (let i = 0; i < sectionCount; i++) {
       const at = sections + i * sectionSize;
-      const [name, kind, , address, begin, size, link] = [0, 1, 2, 3, 4, 5, 6].map((field) => this.word(at + 4 * field));
-      this.sections.push({ name, kind, address, begin, size, link });
+      const [name, kind, flags, address, begin, size, link] = [0, 1, 2, 3, 4, 5, 6].map((field) => this.word(at + 4 * field));
+      this.sections.push({ name, kind, flags, address, begin, size, link });
     }
     const strings = this.sections[names]?.begin ?? this.bytes.length;
     for (const it of this.sections) it.name = this.string(strings + it.name);
@@ -70,8 +72,8 @@ export class Elf {
   }
 
   readSegment(at) {
-    const [kind, offset, address, physical, inFile, size] = [0, 1, 2, 3, 4, 5].map((field) => this.word(at + 4 * field));
-    if (kind === LOADED) this.segments.push({ offset, address, physical, inFile, size });
+    const [kind, offset, address, physical, inFile, size, rights, align] = [0, 1, 2, 3, 4, 5, 6, 7].map((it) => this.word(at + 4 * it));
+    if (kind === LOADED) this.segments.push({ offset, address, physical, inFile, size, rights, align });
   }
 
   // Leaves out the stack's region where a segment has room for it: nothing is loaded there.
@@ -82,9 +84,10 @@ export class Elf {
   readSymbols(table) {
     const strings = this.sections[table.link]?.begin ?? this.bytes.length;
     const seen = new Set();
-    for (let at = table.begin; at + 16 <= Math.min(table.begin + table.size, this.bytes.length); at += 16) {
+    for (let at = table.begin; at + SYMBOL <= Math.min(table.begin + table.size, this.bytes.length); at += SYMBOL) {
       const [place, address, size] = [this.word(at), this.word(at + 4), this.word(at + 8)];
       const kind = this.bytes[at + 12] & 15, isDefined = place > 0 && this.half(at + 14) > 0;
+      if (isDefined && kind === OBJECT) this.objects.push({ address, size });
       if (!isDefined || (kind !== FUNCTION && kind !== LABEL)) continue;
       const name = this.string(strings + place);
       (kind === FUNCTION ? this.functionNames : this.labelNames).add(name);
@@ -92,6 +95,17 @@ export class Elf {
       seen.add(address);
       this.functions.push({ name, address, size });
     }
+  }
+
+  // The addresses of the symbols that have one of some names, the first of each name.
+  addressesOf(names) {
+    const table = this.sections.find((it) => it.kind === SYMBOL_TABLE), found = new Map();
+    const strings = this.sections[table?.link]?.begin ?? this.bytes.length, end = table ? table.begin + table.size : 0;
+    for (let at = table?.begin ?? 0; at + SYMBOL <= Math.min(end, this.bytes.length); at += SYMBOL) {
+      const name = this.half(at + 14) > 0 ? this.string(strings + this.word(at)) : '';
+      if (names.includes(name) && !found.has(name)) found.set(name, this.word(at + 4));
+    }
+    return found;
   }
 
   // The name of the function that begins at an address.

@@ -1,5 +1,5 @@
 // A run of the proved program: its command line, its files, its streams, and nothing else of the world.
-import { targetWords } from './targets.js';
+import { limitWords, targetWords } from './targets.js';
 
 const encoder = new TextEncoder();
 const decoder = new TextDecoder();
@@ -90,6 +90,9 @@ export class Run {
     return this.exports.memory.buffer.byteLength;
   }
 }
+
+// The words of a session, which has a last step.
+export const sessionWords = (files, target) => [...limitWords(target), ...fileWords(files, target)];
 
 // The words that name the files there are, and a target that isn't the usual one.
 export function fileWords(files, target) {

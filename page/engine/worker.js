@@ -1,5 +1,5 @@
 // What runs the proved program beside the page: a session that is asked lines, or a part of a sweep.
-import { Run, canWait, fileWords } from './program.js';
+import { Run, canWait, fileWords, sessionWords } from './program.js';
 import { Replies } from './replies.js';
 import { SweepTable } from './sweep-table.js';
 
@@ -37,7 +37,7 @@ class Waiting {
     this.replies = new Replies();
     const ask = () => this.lines.shift() ?? new Promise((wake) => { this.wake = wake; });
     const tell = (bytes) => this.told(decoder.decode(bytes));
-    const words = ['replaycheck', COMMAND, ...fileWords(files, target)];
+    const words = ['replaycheck', COMMAND, ...sessionWords(files, target)];
     this.run = new Run(module, { words, files, limit, ask, tell, waits: true });
     this.run.start().then((status) => this.end(new Fault(status, this.run.said)), (fault) => this.end(fault));
   }
@@ -92,7 +92,7 @@ class Again {
     let given = text([...this.before, ...lines]);
     const ask = () => [given, given = null][0];
     const tell = (bytes) => { written.push(...replies.add(decoder.decode(bytes))); };
-    const run = new Run(module, { words: ['replaycheck', COMMAND, ...fileWords(files, target)], files, limit, ask, tell });
+    const run = new Run(module, { words: ['replaycheck', COMMAND, ...sessionWords(files, target)], files, limit, ask, tell });
     const status = run.start();
     this.memory = run.memory;
     if (status) throw new Fault(status, run.said);
@@ -113,7 +113,7 @@ function look({ module, files, target, limit, lines }) {
   let given = text(lines);
   const ask = () => [given, given = null][0];
   const tell = (bytes) => { written.push(decoder.decode(bytes)); };
-  const run = new Run(module, { words: ['replaycheck', COMMAND, ...fileWords(files, target)], files, limit, ask, tell });
+  const run = new Run(module, { words: ['replaycheck', COMMAND, ...sessionWords(files, target)], files, limit, ask, tell });
   const status = run.start();
   if (status) throw new Fault(status, run.said);
   return { told: written.join('') };

@@ -4,15 +4,13 @@ import { hexWord } from '../common/numbers.js';
 import { hasRoom } from '../debuginfo/elf.js';
 import { stateOf } from '../engine/report.js';
 import { USUAL_TARGET, heapOf, isSameTarget, meets, regionsInWords, stackText, typedOptions } from '../engine/targets.js';
-import { DEVICES, FLOATING, HEAPS, ISAS, MOST_STACK, OPCODES, STACK_ENDS, WHOLE_WORDS } from '../facts.js';
+import { FLOATING, HEAPS, ISAS, MOST_STACK, OPCODES, STACK_ENDS, WHOLE_WORDS } from '../facts.js';
 import { hasAtomics, hasControls, hasHalves, nameOf } from '../riscv/isa.js';
+import { KNOWN_DEVICES, deviceAt } from './polled.js';
 
 const COMPRESSED = 1;  // of a file's flags
 const PLAIN = /^[\w+.][\w+.-]*$/;
 const RETURNS = [WHOLE_WORDS.mret, WHOLE_WORDS.sret];
-// What is known of devices: their addresses, and their names.
-const KNOWN_DEVICES = DEVICES.map(([first, size, name]) => ({ begin: Number(first), end: Number(first) + Number(size), name: `${name}` }));
-const NOTE = /^Address (0x[0-9a-f]{8}) is not stack'd/;
 
 // A file's name as a shell takes it.
 export const typed = (name) => (PLAIN.test(name) ? name : `'${name.replaceAll("'", "'\\''")}'`.replace(/^'-/, "'./-"));
@@ -46,12 +44,7 @@ function ofIllegal(elf, target, name, address) {
 
 // The device at whose address an error is, if there is one.
 function deviceOf(report) {
-  for (const { note } of report.groups) {
-    const address = Number(NOTE.exec(note ?? '')?.[1] ?? NaN);
-    const found = KNOWN_DEVICES.find(({ begin, end }) => begin <= address && address < end);
-    if (found) return { address, name: found.name };
-  }
-  return null;
+  return report.groups.map(deviceAt).find(Boolean) ?? null;
 }
 
 // What to say of a file whose run ended or stood as a report says, null if nothing is to be said: a sentence, the instruction sets

@@ -1,11 +1,16 @@
-// The scenario in the browser's storage, from one visit to the next: the names of files and the lines, and nothing of what files have.
-const KEY = 'replaycheck';
-
+// What is kept in the browser's storage from one visit to the next, a text by its key: the scenario, which has the names of files and the
+// lines, and nothing of what files have; and which tab is open.
 export class Kept {
+  key;
+
+  constructor(key) {
+    this.key = key;
+  }
+
   // The text that is kept, null if there is none, or no storage.
   get text() {
     try {
-      return localStorage.getItem(KEY);
+      return localStorage.getItem(this.key);
     } catch {
       return null;
     }
@@ -13,8 +18,8 @@ export class Kept {
 
   keep(text) {
     try {
-      if (text) localStorage.setItem(KEY, text);
-      else localStorage.removeItem(KEY);
+      if (text) localStorage.setItem(this.key, text);
+      else localStorage.removeItem(this.key);
     } catch {
       // Storage that is full or forbidden: the page's address has the scenario too.
     }

@@ -1,7 +1,7 @@
 // The files that are given: from the disk, dropped, from an example, or named by a link.
 import { $, element } from '../common/dom.js';
 import { listed, many, size } from '../common/numbers.js';
-import { USUAL_TARGET, regionsOf, targetBy, targetOf } from '../engine/targets.js';
+import { USUAL_TARGET, givenOf, targetBy, targetOf } from '../engine/targets.js';
 import { EXAMPLES, SOURCES } from '../examples.js';
 import { TargetPanel } from '../panels/target-panel.js';
 import { USUAL } from '../riscv/isa.js';
@@ -55,16 +55,18 @@ export class Opening {
   target = USUAL_TARGET;
   wanted = null;
   /** @type {?Object} */ waiting = null;
-  kept = new Kept();
+  kept = new Kept('replaycheck');
+  tabs;
   isForgotten = false;
   /** @type {TargetPanel} */ targetPanel;
 
   // `open` takes files by their roles, each with a name and bytes, and gives whether they were opened; `refuse` a sentence; `source` has
-  // the source files.
-  constructor({ open, refuse, source }) {
+  // the source files, `tabs` the tabs.
+  constructor({ open, refuse, source, tabs }) {
     this.open = open;
     this.refuse = refuse;
     this.source = source;
+    this.tabs = tabs;
     for (const role of ROLES) {
       $(`open-${role}`).addEventListener('change', (event) => this.chosen(role, event.target));
     }
@@ -156,7 +158,7 @@ export class Opening {
   async first() {
     const { text } = this.kept, name = new URLSearchParams(text ?? '').get('example');
     if (!text || (name !== null && !EXAMPLES.some((it) => it.name === name))) return this.choose(FIRST.name, FIRST.lines);
-    await this.follow(`#${text}`, 'You left off with');
+    await this.follow(`#${text}`, { about: 'You left off with', isVisit: true });
     $('kept-told').hidden = false;
     if (this.wanted) await this.showMeanwhile();
     return undefined;
@@ -172,6 +174,7 @@ export class Opening {
   // Throws away what is kept, and begins with the example where one wants to start over.
   forget(isAnew) {
     this.kept.keep(null);
+    this.tabs.kept.keep(null);
     this.isForgotten = true;
     $('kept-told').hidden = true;
     if (isAnew) this.choose(FIRST.name, FIRST.lines);
@@ -230,7 +233,7 @@ export class Opening {
 
   async link(lines) {
     for (const it of Object.values(this.example ? {} : this.files)) it.sum ??= await sumOf(it.bytes);
-    return packed(`#${this.wordsOf(lines, true)}`);
+    return packed(`#${this.wordsOf(lines, true)}${this.tabs.named ? `&tab=${this.tabs.named}` : ''}`);
   }
 
   // An edit is made: what a link waited for isn't wanted any more, and what is open is kept.
@@ -257,19 +260,20 @@ export class Opening {
       }
     }
     if (this.target.isa !== (this.example?.isa ?? USUAL)) words.set('isa', this.target.isa);
-    for (const [name, value] of Object.entries(regionsOf(this.target))) words.set(name, value);
+    for (const [name, value] of Object.entries(givenOf(this.target))) words.set(name, value);
     if (lines.length) words.set('lines', lines.join('\n'));
     return `${words}`;
   }
 
   // Opens what a link names, or asks for its files.
-  async follow(link, about = 'This link is about') {
+  async follow(link, { about = 'This link is about', isVisit = false } = {}) {
     const hash = await unpacked(link);
     if (hash === null) return this.refuse('This link is damaged: a part of it is missing, or something else is in it.');
     const words = new URLSearchParams(hash.slice(1));
     const lines = (words.get('lines') ?? '').split('\n').filter(Boolean);
     const example = words.get('example'), own = EXAMPLES.find((it) => it.name === example)?.isa;
     if (own && !words.has('isa')) words.set('isa', own);
+    if (!isVisit) this.tabs.open(words.get('tab'));
     const said = targetBy(words), { target } = said;
     if (!this.check(said)) return undefined;
     if (example) {

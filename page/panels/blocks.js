@@ -99,7 +99,7 @@ export class Blocks {
   }
 
   // Greys what is of another step until all blocks of this one are read.
-  wait(does) { $('blocks-part').classList.toggle('reading', does); }
+  wait(does) { $('blocks-panel').classList.toggle('reading', does); }
 
   summary() {
     const { blocks } = this;

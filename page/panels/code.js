@@ -15,6 +15,8 @@ export class Code {
   alter;
   refuse;
   shows;
+  opens;
+  drawn;
   isa = USUAL;
   shown = null;
   at = null;
@@ -29,12 +31,14 @@ export class Code {
   lengths;
 
   // `edit` takes the scenario after an edit, `alter` a line that alters the run at its step; `refuse` a sentence. `shows` is told the
-  // address whose function is shown.
-  constructor({ edit, alter, refuse, shows }) {
+  // address whose function is shown; `opens` has the tab of the code opened; `drawn` is told of rows that were made anew.
+  constructor({ edit, alter, refuse, shows, opens, drawn }) {
     this.edit = edit;
     this.alter = alter;
     this.refuse = refuse;
     this.shows = shows;
+    this.opens = opens;
+    this.drawn = drawn;
     $('function').addEventListener('change', () => this.visit(Number($select('function').value)));
   }
 
@@ -61,10 +65,18 @@ export class Code {
       if (scrolls) this.refuse(`The program has no code at ${hexWord(address)}.`);
       return;
     }
-    if (scrolls) $('code-part').scrollIntoView({ block: 'nearest' });
-    const row = [...this.rows.values()].find((it) => it.classList.contains('at'));
-    if (row) $('code').scrollTop = row.offsetTop - $('code').clientHeight / 2;
+    if (scrolls) {
+      this.opens();
+      $('code-panel').scrollIntoView({ block: 'nearest' });
+    }
+    this.reveal();
     this.shows(address);
+  }
+
+  // Has the row that is marked in view, or else the one where the run is.
+  reveal() {
+    const row = [...this.rows.values()].find((it) => it.classList.contains('at')) ?? this.rows.get(this.pc);
+    if (row) $('code').scrollTop = row.offsetTop - $('code').clientHeight / 2;
   }
 
   // Shows the function that has an address, if there is one, and marks the row at an address, or none.
@@ -146,6 +158,7 @@ export class Code {
     }
     $('code-rows').replaceChildren(...this.rows.values());
     focusHeld($('code-rows'), held);
+    this.drawn();
   }
 
   // Makes the row at an address anew, if it is shown.
@@ -156,6 +169,7 @@ export class Code {
     this.rows.set(address, made);
     row.replaceWith(made);
     focusHeld(made, held);
+    this.drawn();
   }
 
   row(address, length) {
@@ -165,10 +179,12 @@ export class Code {
     const text = length === HALF ? disassembledHalf(value, address) : disassembled(value, address, this.isa);
     const isNow = address === this.pc, isAt = address <= this.at && this.at < address + length;
     const names = [isAt && 'at', isPatched && 'patched', isNow && 'now'].filter(Boolean).join(' ');
-    return element('tr', { className: names },
+    const made = element('tr', { className: names },
       element('td', {}, ...this.edits(address, length, isPatched)), element('td', {}, `${isNow ? '▸ ' : ''}${hexWord(address)}`),
       element('td', {}, this.instruction(text)), element('td', { className: 'quiet' }, this.lineOf(address) ?? ''),
       element('td', { className: 'quiet' }, hexadecimal(value, 2 * length)));
+    made.dataset.address = `${address}`;
+    return made;
   }
 
   instruction(text) {

@@ -1,5 +1,5 @@
 // The edits that stand, as chips and as lines, and the forms that make some.
-import { $, $area, $button, $details, $input, $select, element, focused, say } from '../common/dom.js';
+import { $, $area, $button, $details, $input, $select, download, element, focused, say } from '../common/dom.js';
 import { many, numberOf } from '../common/numbers.js';
 import { OPTIONS, editsOf } from '../engine/scenario.js';
 
@@ -105,8 +105,6 @@ export class Edits {
   }
 
   save() {
-    const address = URL.createObjectURL(new Blob([$area('lines').value], { type: 'text/plain' }));
-    element('a', { href: address, download: 'scenario.session' }).click();
-    setTimeout(() => URL.revokeObjectURL(address), 1000);
+    download('scenario.session', $area('lines').value, 'text/plain');
   }
 }

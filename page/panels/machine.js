@@ -29,6 +29,7 @@ export class Machine {
   functionAt;
   lineOf;
   rests;
+  opens;
   chosen = null;
   at = 0;
   step = 0;
@@ -49,8 +50,8 @@ export class Machine {
   // `look` promises the replies to lines at a step of what is shown, and `search` those of another session; `again` has all shown anew;
   // `alter` takes a line that alters the run at its step, `refuse` a sentence, `go` a step; `showPc` has the code show where the run is,
   // and `visit` goes there; `functionAt` and `lineOf` tell the function and the source line of an address. `rests` is told that
-  // the step rests.
-  constructor({ look, search, again, alter, refuse, go, showPc, visit, functionAt, lineOf, rests }) {
+  // the step rests; `opens` has the tab of the memory opened.
+  constructor({ look, search, again, alter, refuse, go, showPc, visit, functionAt, lineOf, rests, opens }) {
     this.look = look;
     this.search = search;
     this.again = again;
@@ -59,6 +60,7 @@ export class Machine {
     this.functionAt = functionAt;
     this.lineOf = lineOf;
     this.rests = rests;
+    this.opens = opens;
     const ask = (what, place) => this.ask(what, place), show = (address) => this.choose(address, address);
     this.registers = new Registers({ alter, refuse, ask });
     this.memory = new Memory({ alter, refuse, ask, choose: (address) => this.choose(address) });
@@ -167,6 +169,7 @@ export class Machine {
     this.chosen = address;
     if (byte !== null) {
       this.memory.picked = byte;
+      this.opens();
       $('memory').scrollIntoView({ block: 'nearest' });
     }
     this.again();

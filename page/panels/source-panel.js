@@ -13,6 +13,8 @@ const MOST_MESSAGES = 8;  // errors and leaks that are said at one line
 export class SourcePanel {
   visitCode;
   refuse;
+  rowsDrawn;
+  path = null;
   given = new Map();
   opened = null;
   pc = null;
@@ -24,10 +26,11 @@ export class SourcePanel {
   begin;
   messages = [];
 
-  // `visit` has the code at an address shown; `refuse` takes a sentence.
-  constructor({ visit, refuse }) {
+  // `visit` has the code at an address shown; `refuse` takes a sentence; `drawn` is told of rows that were made anew.
+  constructor({ visit, refuse, drawn }) {
     this.visitCode = visit;
     this.refuse = refuse;
+    this.rowsDrawn = drawn;
     for (const id of ['open-sources', 'open-folder']) {
       const field = $input(id);
       field.addEventListener('change', async () => {
@@ -123,6 +126,7 @@ export class SourcePanel {
     const file = place && this.find(place.path);
     if (!file || place.line > file.lines.length) {
       this.drawn = null;
+      this.path = null;
       $('source-rows').replaceChildren();
       say('source-told', this.missing(place, file));
       return;
@@ -132,7 +136,9 @@ export class SourcePanel {
     if (this.drawn !== key) this.render(file, place.path, begin, end);
     this.drawn = key;
     this.begin = begin;
+    this.path = place.path;
     this.mark(place);
+    this.rowsDrawn();
     const unsure = file.isUnsure ? ', or another file of this name: give a folder' : '';
     say('source-told', `${nameIn(file.path)}${unsure}`);
   }
@@ -173,13 +179,17 @@ export class SourcePanel {
     const number = address === undefined ? String(line)
       : element('button', { onclick: () => this.visitCode(address), title: `the code of this line, at ${hexWord(address)}`,
         'aria-label': `line ${line}: show its code` }, String(line));
-    return element('tr', {}, element('td', { className: 'quiet number' }, number),
+    const made = element('tr', {}, element('td', { className: 'quiet number' }, number),
       element('td', { className: 'text' }, text.slice(0, LONGEST_LINE) || ' '));
+    made.dataset.line = `${line}`;
+    return made;
   }
 
-  message({ text, isError }) {
-    return element('tr', { className: 'message' }, element('td', { className: 'number' }),
+  message({ text, isError, line }) {
+    const made = element('tr', { className: 'message' }, element('td', { className: 'number' }),
       element('td', { className: `text ${isError ? 'bad' : 'lost'}` }, text));
+    made.dataset.line = `${line}`;
+    return made;
   }
 
   // Marks the line where the run is, and the one that is looked at, which comes into view.

@@ -1,13 +1,14 @@
-// The fields that choose an instruction set, and where heap and stack are.
+// The fields that choose an instruction set, where heap and stack are, and the last step of a run.
 import { $, $input, $select, element, say } from '../common/dom.js';
 import { hexWord } from '../common/numbers.js';
-import { USUAL_TARGET, regionsOf, stackText, targetOf } from '../engine/targets.js';
+import { USUAL_TARGET, givenOf, stackText, targetOf } from '../engine/targets.js';
 import { ISAS } from '../facts.js';
 
-const FIELDS = { heap: 'heap-region', stack: 'stack-region' };
+const FIELDS = { heap: 'heap-region', stack: 'stack-region', furthest: 'limit' };
+const NAMES = { heap: 'heap', stack: 'stack', furthest: 'steps up to' };
 
 export class TargetPanel {
-  regions = null;
+  given = null;
 
   // `choose` takes a part of a target, which isn't the one that is shown.
   constructor({ choose }) {
@@ -15,23 +16,24 @@ export class TargetPanel {
     $('isa').addEventListener('change', () => choose({ isa: $select('isa').value }));
     $input('heap-region').placeholder = hexWord(USUAL_TARGET.heap);
     $input('stack-region').placeholder = stackText(USUAL_TARGET.stack);
+    $input('limit').placeholder = `${USUAL_TARGET.furthest}`;
     $('regions-form').addEventListener('submit', (event) => {
       event.preventDefault();
-      const regions = this.read();
-      if (!regions) return;
-      if (JSON.stringify(regionsOf(regions)) === this.regions) this.fill(regionsOf(regions));
-      else choose(regions);
+      const given = this.read();
+      if (!given) return;
+      if (JSON.stringify(givenOf(given)) === this.given) this.fill(givenOf(given));
+      else choose(given);
     });
   }
 
-  // The regions that the fields say, null where one can't be used, which is said there.
+  // The regions and the last step that the fields say, null where one can't be used, which is said there.
   read() {
     const texts = Object.fromEntries(Object.entries(FIELDS).map(([name, id]) => [name, $input(id).value.trim()]));
-    const { target: { heap, stack }, wrong } = targetOf(texts);
+    const { target: { heap, stack, furthest }, wrong } = targetOf(texts);
     this.tell(wrong);
     const [first] = Object.keys(wrong);
     if (first) $(FIELDS[first]).focus();
-    return first ? null : { heap, stack };
+    return first ? null : { heap, stack, furthest };
   }
 
   // Says what is wrong in the fields.
@@ -41,18 +43,18 @@ export class TargetPanel {
     $('regions-wrong').hidden = !$('regions-wrong').textContent;
   }
 
-  // Shows the target of what is open. What one has typed stays until the regions are others.
+  // Shows the target of what is open. What one has typed stays until that is another one.
   show(target) {
     $select('isa').value = target.isa;
-    const regions = regionsOf(target), text = JSON.stringify(regions);
-    if (text !== this.regions) this.fill(regions);
-    this.regions = text;
+    const given = givenOf(target), text = JSON.stringify(given);
+    if (text !== this.given) this.fill(given);
+    this.given = text;
   }
 
-  fill(regions) {
-    const told = Object.entries(FIELDS).filter(([, id]) => regions[id]);
-    for (const id of Object.values(FIELDS)) $input(id).value = regions[id] ?? '';
-    say('regions-told', told.map(([name, id], at) => `${at ? ', ' : ': '}${name} ${regions[id]}`).join(''));
+  fill(given) {
+    const told = Object.entries(FIELDS).filter(([, id]) => given[id]);
+    for (const id of Object.values(FIELDS)) $input(id).value = given[id] ?? '';
+    say('regions-told', told.map(([name, id], at) => `${at ? ', ' : ': '}${NAMES[name]} ${given[id]}`).join(''));
     this.tell({});
   }
 }

@@ -24,7 +24,7 @@ function freshWords(fresh, lineOf) {
   const groups = fresh.map((it) => it.group), worst = worstOf(groups);
   if (!worst) return '';
   const told = `${worst.text}${placeOf(worst, lineOf)}`;
-  if (groups.length === 1) return `new: ${told}`;
+  if (groups.length === 1) return `${told} (new)`;
   const errors = groups.filter((it) => it.isError).length, leaks = groups.length - errors;
   const counts = [errors && many(errors, 'error'), leaks && many(leaks, 'leak')].filter(Boolean).join(' and ');
   return errors ? `${counts}, new, the worst: ${told}` : `${counts}, new`;
@@ -54,7 +54,7 @@ export class Verdict {
     this.before = before === now ? '' : `unedited: ${before}`;
     const worst = worstOf(end.groups.filter((it) => it.isError));
     const told = freshWords(fresh, this.lineOf) || (worst ? `${worst.text}${placeOf(worst, this.lineOf)}` : '');
-    say('verdict', [now, told].filter(Boolean).join(' · '));
+    say('verdict', [told, now].filter(Boolean).join(' · '));
     $('verdict').className = this.howGood(end);
     $('verdict').title = `answered in ${milliseconds(time)}`;
     this.sayAt(at ? `at step ${grouped(at.step)}: ${this.inShort(at)}` : '');

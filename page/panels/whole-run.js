@@ -112,7 +112,7 @@ export class WholeRun {
 
   // Has the line of the worst error in view, once, where nobody works in the code.
   visitBug({ trace }, shown) {
-    const { page } = this, frame = ownFrame(trace, page.opened.lineOf), isFree = !$('code-part').contains(document.activeElement);
+    const { page } = this, frame = ownFrame(trace, page.opened.lineOf), isFree = !$('code-panel').contains(document.activeElement);
     if (frame && isFree && this.visited !== shown) page.code.visit(frame.address, false);
     this.visited = shown;
   }
@@ -122,7 +122,7 @@ export class WholeRun {
     const { page } = this;
     if (this.bug) return;
     const group = page.reports.groups.find((it) => it.how === 'new')?.group, key = group?.key ?? '';
-    const isFree = !$('code-part').contains(document.activeElement);
+    const isFree = !$('code-panel').contains(document.activeElement);
     if (key && key !== this.lookedAt && isFree && group.trace.length) page.code.visit(group.trace[0].address, false);
     this.lookedAt = key;
   }

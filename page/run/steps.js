@@ -20,11 +20,11 @@ function signature(report) {
 
 // The first step at which a run has ended, or `most`. `isRunning` tells whether it runs at a step.
 export async function endOf(isRunning, most) {
-  let low = -1, high = LOOK_FIRST;
+  let low = -1, high = Math.min(LOOK_FIRST, most);
   while (high < most && await isRunning(high)) [low, high] = [high, Math.min(most, high * 4)];
   if (high === most && await isRunning(most)) return most;
   while (high - low > 1) {
-    const middle = (low + high) >> 1;
+    const middle = Math.floor((low + high) / 2);
     if (await isRunning(middle)) low = middle;
     else high = middle;
   }
@@ -70,7 +70,7 @@ export class Search {
       if (others.length) this.found({ step: high, kinds: others });
       return;
     }
-    const middle = (low + high) >> 1;
+    const middle = Math.floor((low + high) / 2);
     await this.between(low, middle);
     await this.between(middle, high);
   }
@@ -97,9 +97,8 @@ export class Steps {
   step;
 
   // `go` takes the step that is chosen; the last one stands for the end of the run, however it is edited.
-  constructor({ go, most }) {
+  constructor({ go }) {
     this.go = go;
-    this.most = most;
     $('step').addEventListener('input', () => this.choose(Number($input('step').value)));
     $('step-number').addEventListener('change', () => this.choose(Number($input('step-number').value)));
     $('step-back').addEventListener('click', () => this.choose(this.shown - 1));
@@ -108,8 +107,10 @@ export class Steps {
     $('landmark-on').addEventListener('click', () => this.jump((it) => it.step > this.shown, 0));
   }
 
-  open(last, follow) {
+  // Shows a run of so many steps. It is looked at up to `follow`, and steps are given up to `most`.
+  open(last, follow, most) {
     this.last = last;
+    this.most = most;
     this.follow = follow;
     this.goesOn = false;
     this.landmarks = [];

@@ -25,6 +25,7 @@ export class Strip {
   choose;
   explain;
   known;
+  drew;
   canvas = $canvas('strip');
   view = new View();
   sessions = [];
@@ -45,11 +46,13 @@ export class Strip {
   keyShown;
   timer;
 
-  // `choose` takes the step that is chosen; `explain` says a fault in words; `known` is called when all of a run was read.
-  constructor({ choose, explain, known }) {
+  // `choose` takes the step that is chosen; `explain` says a fault in words; `known` is called when all of a run was read,
+  // and `drew` when other steps may be in view.
+  constructor({ choose, explain, known, drew }) {
     this.choose = choose;
     this.explain = explain;
     this.known = known;
+    this.drew = drew;
     this.drawing = new StripDrawing(this.canvas);
     this.hands = new Hands(this.canvas, { pan: (x, y) => this.pan(x, y), zoom: (times, x) => this.zoom(times, this.stepAt(x)),
       point: (x, y) => this.point(x, y), choose: (x, y) => this.click(x, y), leave: () => this.tell(this.here) });
@@ -235,6 +238,7 @@ export class Strip {
     if (this.parting && this.parting.step !== null) drawing.line(this.parting.step, 'open', [5, 3]);
     if (runs.length) drawing.line(Math.min(this.step, view.last), 'pick', []);
     if (document.activeElement === canvas && this.here) this.ring();
+    this.drew();
   }
 
   ring() {

@@ -9,14 +9,17 @@ const MOST = 60, MOST_LISTED = 40;
 export class Legend {
   make;
   changed;
+  links;
   hidden = new Set();
   open = new Set();
   pointed = null;
   rows;
 
-  // `make` makes an edit: a kind, a place and a value; `changed` is called when outcomes are taken out, put back or pointed at.
-  constructor({ make, changed }) {
+  // `make` makes an edit: a kind, a place and a value; `changed` is called when outcomes are taken out, put back or pointed at; `links`
+  // takes the number of the outcome that is pointed at, null for none.
+  constructor({ make, changed, links }) {
     this.make = make;
+    this.links = links;
     this.changed = changed;
     const numberOf = (target) => (target instanceof Element ? target.closest('tr')?.dataset.number : undefined);
     for (const it of ['pointerover', 'focusin']) $('legend-rows').addEventListener(it, ({ target }) => this.pointAt(numberOf(target)));
@@ -34,6 +37,12 @@ export class Legend {
   // Has the picture show the outcomes of one row, or of all.
   pointAt(number = null) {
     const numbers = this.rows?.find((it) => `${it.numbers[0]}` === number)?.numbers ?? null;
+    this.links(numbers?.[0] ?? null);
+    this.pointOut(numbers);
+  }
+
+  // Has the picture show some outcomes, or all.
+  pointOut(numbers) {
     if (numbers === this.pointed) return;
     this.pointed = numbers;
     this.changed();

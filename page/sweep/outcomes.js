@@ -18,7 +18,7 @@ function partOf(text, trace, lineOf) {
   const told = line ? key.replace(frames[0].name, () => `${frames[0].name} (${line})`) : key;
   const own = frames.find((it) => !HEAP_NAMES.includes(it.name)) ?? frames[0], at = lineOf(own.address);
   const name = own.name === '???' ? hexWord(own.address) : own.name;
-  return { text: key, told, short: `${text} in ${name}${at ? ` (${at})` : ''}` };
+  return { text: key, told, short: `${text} in ${name}${at ? ` (${at})` : ''}`, address: own.address };
 }
 
 const foundIn = (text) => BADNESS.find(([begin]) => text.startsWith(begin));
@@ -55,6 +55,9 @@ class Outcome {
     this.runsOn = this.state.startsWith('running') && !unedited.state.startsWith('running');
     this.bad = this.fresh.length ? badnessOf(this.fresh[0].text) : this === unedited ? -1 : this.runsOn ? RUNNING : 0;
   }
+
+  // The address of the worst that is new, null where there is none.
+  get address() { return this.fresh.find((it) => it.address !== undefined)?.address ?? null; }
 
   get isNew() { return this.fresh.length > 0; }
   get isStop() { return this.fresh.some((it) => it.text === this.state); }

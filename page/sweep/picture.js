@@ -1,9 +1,9 @@
 // The picture of a sweep: a column for each place, or for several where they are many, a row for each value, a colour for each kind of
-// outcome. Its columns are below the bytes, if these are in one row.
+// outcome. Its columns are below the bytes, if these are in one row; those of steps are above the strip, where their steps are.
 import { $, $canvas, isTouch, say, speaksAt } from '../common/dom.js';
 import { hexByte, hexWord, hexadecimal, many } from '../common/numbers.js';
 import { rowAt, rowNames, rowsOf } from './alterations.js';
-import { hatch, inkOn } from './colours.js';
+import { colourOf, hatch, inkOn } from './colours.js';
 import { upTo } from './counting.js';
 import { Legend } from './legend.js';
 import { Lens } from './lens.js';
@@ -11,6 +11,9 @@ import { Outcomes } from './outcomes.js';
 import { indexOf, lengthAt, lineOf as lineOfEdit, placeAt, placesOf, valuesOf } from './sweeping.js';
 
 const MOST_COLUMNS = 1000, LEAST_MARK = 3;
+const MOST_CELLS = 250000;  // of a picture of steps, whose columns are as wide as the strip has them
+const LOW = 26, TALL = 130;  // pixels of such a picture of one row, and of several
+const REACH = 4;  // pixels from a pointer to a cell of it
 const EDGES = [0, 1, 0x7f, 0x80, 0xff];
 const EDGE_NAMES = ['0', '1', '0x7f', '0x80', '0xff', '+1', '−1'];
 const DRAW_EVERY = 150;  // milliseconds
@@ -18,6 +21,7 @@ const MOST_TOLD = 3;
 const LEFT = 46, BELOW = 18;  // pixels beside and below the cells, for what the axes say
 const FAINT = 0.18;  // how much is left of an outcome's colour while one points at another one
 const LEAST_LABEL = 11;  // pixels of a cell that has room for a number
+const RING = 9;  // pixels of a ring at least
 const LEAST_APART = 90;  // pixels between two places that are named
 const DARK = matchMedia('(prefers-color-scheme: dark)');
 
@@ -28,6 +32,10 @@ export class Picture {
   otherRun;
   ends;
   pointed;
+  links;
+  chosen;
+  drawing = null;
+  axis;
   canvas = $canvas('picture');
   /** @type {Legend} */ legend;
   /** @type {Lens} */ lens;
@@ -44,15 +52,20 @@ export class Picture {
   looks;
   hatches;
 
-  // `make` makes an edit: a kind, a place and a value; `otherRun` tells which run the picture is of, where another one is shown; `ends`
-  // gives where the bytes begin and end, in pixels from the left, if there is this number of them and they are in one row; `pointed` takes
-  // the byte that one points at.
-  constructor({ make, otherRun, ends, pointed }) {
+  // `make` makes an edit: a kind, a place and a value; `otherRun` tells which run the picture is of, where another one is shown; `chosen`
+  // gives the edits that stand, of each its place and its value, which are ringed; `ends` gives where the bytes begin and end, in pixels
+  // from the left, if there is this number of them and they are in one row; `pointed` takes the byte that one points at, and `links` the
+  // address of the worst new error of the outcome that one points at, null for none. `axis` tells where the strip has a step, in pixels
+  // from the left, and which step is there.
+  constructor({ make, otherRun, chosen, ends, pointed, links, axis }) {
     this.make = make;
     this.otherRun = otherRun;
     this.ends = ends;
     this.pointed = pointed;
-    this.legend = new Legend({ make, changed: () => this.draw() });
+    this.links = links;
+    this.chosen = chosen;
+    this.axis = axis;
+    this.legend = new Legend({ make, changed: () => this.draw(), links: (number) => this.link(number) });
     this.canvas.addEventListener('pointermove', (event) => this.point(event));
     this.canvas.addEventListener('click', (event) => {
       this.point(event);
@@ -61,7 +74,7 @@ export class Picture {
     this.lens = new Lens(this);
     $('picture-make').addEventListener('click', () => this.choose());
     this.canvas.addEventListener('keydown', (event) => this.key(event));
-    for (const it of ['pointerleave', 'blur']) this.canvas.addEventListener(it, () => this.pointed(null));
+    for (const it of ['pointerleave', 'blur']) this.canvas.addEventListener(it, () => { this.pointed(null); this.link(null); });
     for (const it of ['focus', 'blur']) this.canvas.addEventListener(it, () => this.draw());
     speaksAt('picture-told', this.canvas);
     new ResizeObserver(() => this.draw()).observe(this.canvas);
@@ -89,12 +102,23 @@ export class Picture {
     this.before = before;
     this.count = count;
     this.rows = rows;
-    this.columns = Math.min(count, MOST_COLUMNS);
+    this.columns = Math.min(count, kind === 'steps' ? Math.floor(MOST_CELLS / rows) : MOST_COLUMNS);
     this.taken = new Map();
     this.outcomes = new Outcomes(swept, lineOf, goal);
     this.empty();
     $('picture-parts').hidden = false;
+    this.settle();
   }
+
+  // Puts the picture where its columns belong.
+  settle() {
+    const home = $(this.isOfSteps ? 'strip-picture' : 'picture-home');
+    if ($('picture-parts').parentElement !== home) home.append($('picture-parts'));
+    this.canvas.style.height = this.isOfSteps ? `${this.rows > 1 ? TALL : LOW}px` : '';
+  }
+
+  // The strip shows other steps.
+  followStrip() { if (this.swept && this.isOfSteps) this.redraw(); }
 
   empty() {
     this.taken.clear();
@@ -155,6 +179,14 @@ export class Picture {
     this.tell();
   }
 
+  // Draws it once before the next picture of the screen.
+  redraw() {
+    this.drawing ??= requestAnimationFrame(() => {
+      this.drawing = null;
+      this.draw();
+    });
+  }
+
   draw() {
     const scale = devicePixelRatio || 1, box = this.canvas.getBoundingClientRect();
     this.canvas.width = Math.max(1, Math.round(box.width * scale));
@@ -171,20 +203,24 @@ export class Picture {
     for (const [cell, index] of fresh) this.fill(on, cell, index, LEAST_MARK * scale);
     on.globalAlpha = 1;
     this.axes(on, scale);
+    this.rings(on, scale);
     this.outline(on, scale);
     this.lens.draw();
   }
 
   // Where the cells are, in pixels of the canvas: below the bytes, if these are in one row and each has a column.
   get field() {
-    const scale = devicePixelRatio || 1, isWhole = this.isOfBytes && this.columns === this.count;
+    const scale = devicePixelRatio || 1;
+    if (this.isOfSteps) return { left: 0, wide: this.canvas.width, tall: this.canvas.height };
+    const isWhole = this.isOfBytes && this.columns === this.count;
     const [left, right] = (isWhole && this.ends(this.count)) || [LEFT, this.canvas.width / scale];
     return { left: left * scale, wide: (right - left) * scale, tall: this.canvas.height - BELOW * scale };
   }
 
   box(index) {
     const { left, wide, tall } = this.field, column = Math.floor(index / this.rows), row = index % this.rows;
-    const [x, right] = [column, column + 1].map((it) => left + it * wide / this.columns);
+    const scale = devicePixelRatio || 1, ofStep = (it) => this.axis.x(this.firstOf(it)) * scale;
+    const [x, right] = [column, column + 1].map(this.isOfSteps ? ofStep : (it) => left + it * wide / this.columns);
     const [y, below] = [row, row + 1].map((it) => it * tall / this.rows);
     return [x, y, right - x, below - y];
   }
@@ -195,19 +231,35 @@ export class Picture {
     on.font = `${11 * scale}px sans-serif`;
     on.fillStyle = getComputedStyle(this.canvas).color;
     on.textBaseline = 'middle';
+    if (this.isOfSteps) {
+      this.inside(on, scale);
+      return;
+    }
     on.textAlign = 'right';
     for (const [row, name] of this.rowNames()) {
       const y = (Number(row) + .5) * tall / this.rows;
       on.fillText(`${name}`, left - 5 * scale, Math.max(7 * scale, Math.min(tall - 5 * scale, y)), left - 6 * scale);
     }
-    const axis = this.isOfBytes ? 'byte' : this.isOfSteps ? 'step' : '';
-    if (axis) on.fillText(axis, left - 5 * scale, tall + (BELOW + 2) * scale / 2, left - 6 * scale);
+    if (this.isOfBytes) on.fillText('byte', left - 5 * scale, tall + (BELOW + 2) * scale / 2, left - 6 * scale);
     on.textAlign = 'center';
     const each = Math.max(1, Math.ceil(LEAST_APART * scale * this.columns / wide));
     for (let column = 0; column < this.columns; column += each) {
       const x = Math.max(left + 12 * scale, left + (column + .5) * wide / this.columns), at = this.firstOf(column);
-      const name = this.isOfBytes || this.isOfSteps ? `${at}` : hexWord(at);
+      const name = this.isOfBytes ? `${at}` : hexWord(at);
       on.fillText(name, Math.min(x, this.canvas.width - 30 * scale), tall + (BELOW + 2) * scale / 2);
+    }
+  }
+
+  // The names of some values, over the cells at the left.
+  inside(on, scale) {
+    on.textAlign = 'left';
+    for (const [row, name] of this.rowNames()) {
+      const y = Math.max(8 * scale, Math.min(this.canvas.height - 7 * scale, (Number(row) + .5) * this.canvas.height / this.rows));
+      const ink = on.fillStyle, { width } = on.measureText(`${name}`);
+      on.fillStyle = colourOf('unedited', DARK.matches);
+      on.fillRect(0, y - 7 * scale, width + 6 * scale, 14 * scale);
+      on.fillStyle = ink;
+      on.fillText(`${name}`, 3 * scale, y);
     }
   }
 
@@ -227,6 +279,7 @@ export class Picture {
 
   fill(on, cell, index, least) {
     let [x, y, wide, tall] = this.box(index);
+    if (x + wide < 0 || x > this.canvas.width) return;
     if (wide < least) [x, wide] = [x - (least - wide) / 2, least];
     if (tall < least) [y, tall] = [y - (least - tall) / 2, least];
     const look = this.looks[cell.number], { pointed } = this.legend;
@@ -249,6 +302,20 @@ export class Picture {
     on.fillRect(x + (wide - size) / 2, y + (tall - size) / 2, size, size);
     Object.assign(on, { font: `${size * .9}px sans-serif`, fillStyle: inkOn(colour), textAlign: 'center', textBaseline: 'middle' });
     on.fillText(label, x + wide / 2, y + tall / 2);
+  }
+
+  // A ring around the cell of each edit that stands.
+  rings(on, scale) {
+    const [ink, ground] = DARK.matches ? ['#ffffff', '#000000'] : ['#000000', '#ffffff'];
+    for (const [at, value] of this.chosen()) {
+      const index = this.columnOf(at) * this.rows + this.rowOf(at, value), cell = this.cells[index];
+      if (cell?.at !== at || cell.value !== value) continue;
+      const [x, y, wide, tall] = this.box(index), [w, t] = [wide, tall].map((it) => Math.max(it, RING * scale));
+      for (const { colour, thick } of [{ colour: ground, thick: 4 }, { colour: ink, thick: 2 }]) {
+        Object.assign(on, { strokeStyle: colour, lineWidth: thick * scale });
+        on.strokeRect(x + (wide - w) / 2, Math.max(scale, y + (tall - t) / 2), w, t);
+      }
+    }
   }
 
   outline(on, scale) {
@@ -320,16 +387,50 @@ export class Picture {
     if (!this.swept) return;
     const box = this.canvas.getBoundingClientRect(), scale = devicePixelRatio || 1, { left, wide, tall } = this.field;
     const part = (at, whole, count) => within(Math.floor(at * scale / whole * count), count);
-    const column = part(event.clientX - box.left - left / scale, wide, this.columns);
-    this.here = { column, row: part(event.clientY - box.top, tall, this.rows) };
+    const row = part(event.clientY - box.top, tall, this.rows), x = event.clientX - box.left;
+    const column = this.isOfSteps ? this.columnNear(x, row) : part(x - left / scale, wide, this.columns);
+    this.here = { column, row };
     this.snap();
     this.tell();
     this.showByte();
   }
 
+  // The column of a picture of steps at a place of the strip, or a near one that has a cell in a row.
+  columnNear(x, row) {
+    const { first, last } = this.swept.asked, at = (pixel) => Math.max(first, Math.min(last, Math.floor(this.axis.step(pixel))));
+    const [from, here, to] = [x - REACH, x, x + REACH].map((pixel) => this.columnOf(at(pixel)));
+    const hasCell = (column) => column >= from && column <= to && this.cells[column * this.rows + row];
+    for (let far = 0; far <= to - from; far++) {
+      if (hasCell(here - far)) return here - far;
+      if (hasCell(here + far)) return here + far;
+    }
+    return here;
+  }
+
+  // The next column to a side; of a picture of steps the next one that has a cell.
+  beside(column, row, by) {
+    let next = within(column + by, this.columns);
+    if (!this.isOfSteps || Math.abs(by) !== 1) return next;
+    while (!this.cells[next * this.rows + row] && next > 0 && next < this.columns - 1) next += by;
+    return this.cells[next * this.rows + row] ? next : column;
+  }
+
   // Shows the byte that one points at.
   showByte() {
     if (this.isOfBytes) this.pointed(this.firstOf(this.here.column));
+    this.link(this.cell ? this.cell.number : null);
+  }
+
+  // Marks where the worst new error of an outcome is, by its number.
+  link(number) { this.links(number === null || !this.swept ? null : this.outcomes.at(number).address); }
+
+  // Shows no other outcomes than those whose worst new error is at an address of which a test is true; all without one.
+  pointOut(isThere) {
+    const { outcomes, swept } = this, found = isThere && swept ? outcomes.numbers.filter((it) => {
+      const { address } = outcomes.at(it);
+      return address !== null && isThere(address);
+    }) : [];
+    this.legend.pointOut(found.length ? found : null);
   }
 
   // A new outcome is drawn larger than its cell, and so it is met beside it.
@@ -352,7 +453,8 @@ export class Picture {
     if (event.key === 'Enter' || event.key === ' ') this.choose();
     else if (event.key in moves) {
       const [x, y] = moves[event.key];
-      this.here = { column: within(this.here.column + x, this.columns), row: within(this.here.row + y, this.rows) };
+      const row = within(this.here.row + y, this.rows);
+      this.here = { column: this.beside(this.here.column, row, x), row };
       this.draw();
       this.tell();
       this.showByte();

@@ -3,6 +3,7 @@ import { $, $button, $input, $progress, $select, element, say } from '../common/
 import { grouped, hexWord, many, milliseconds, size } from '../common/numbers.js';
 import { editsOf } from '../engine/scenario.js';
 import { HALF } from '../riscv/isa.js';
+import { alterationIn, alterationLine } from './alterations.js';
 import { counted, upTo } from './counting.js';
 import { Outcomes } from './outcomes.js';
 import { Picture } from './picture.js';
@@ -54,15 +55,14 @@ export class SweepPanel {
   of = null;
   ended = null;
   /** @type {Idle} */ idle;
-  plain = null;
-  /** @type {?Sweep} */ counting = null;
+  /** @type {?Object} */ recorded = null;
   /** @type {Picture} */ picture;
   most;
 
   // `state` gives what is swept: the program, the scenario, the step and the function that is shown, and how instructions lie in
-  // a range; `make` makes an edit; `refuse` takes a sentence, `fail` a fault; `told` is called when more is known of the edits; `ends`
-  // and `pointed` are the picture's.
-  constructor({ state, make, refuse, fail, told, makeWorker, workers, ends, pointed }) {
+  // a range; `make` makes an edit; `refuse` takes a sentence, `fail` a fault; `told` is called when more is known of the edits; `ends`,
+  // `pointed`, `links` and `axis` are the picture's.
+  constructor({ state, make, refuse, fail, told, makeWorker, workers, ends, pointed, links, axis }) {
     this.state = state;
     this.refuse = refuse;
     this.fail = fail;
@@ -71,9 +71,12 @@ export class SweepPanel {
     this.idle = new Idle(makeWorker);
     const makeEdit = (kind, at, value) => make(kind, at, value, kind === 'steps' ? lineOf(this.of.asked, at, value)
       : lengthAt(this.of.asked, at));
-    this.picture = new Picture({ make: makeEdit, otherRun: () => this.otherRun, ends, pointed });
+    this.picture = new Picture({ make: makeEdit, otherRun: () => this.otherRun, chosen: () => this.chosen, ends, pointed, links, axis });
     $('goal').addEventListener('input', () => this.showGoal());
-    $('sweep').addEventListener('click', () => this.begin());
+    $('sweep').addEventListener('click', () => {
+      this.begin();
+      if (this.of?.asked.kind === 'steps') $('strip-part').scrollIntoView({ block: 'nearest' });
+    });
     $('stop').addEventListener('click', () => this.sweep?.stop());
     $('sweep-what').addEventListener('change', () => this.offer());
     this.offer();
@@ -87,12 +90,11 @@ export class SweepPanel {
 
   // Another program is opened.
   close() {
-    for (const it of [this.sweep, this.counting]) it?.stop();
+    this.sweep?.stop();
     this.sweep = null;
     this.of = null;
     this.ended = null;
-    this.plain = null;
-    this.counting = null;
+    this.recorded = null;
     this.show(false);
     this.picture.clear();
     this.showOf();
@@ -125,27 +127,47 @@ export class SweepPanel {
 
   // ---- of which run the picture is
 
-  // Whether the picture is of another run than the one that is shown, or of another step of it.
+  // Whether the picture is of the recorded run up to its end. It is the picture of each edited run, too: the edits that stand are ringed.
+  get isRecorded() {
+    const { of } = this;
+    return Boolean(of) && of.isEnd && !of.left.length && isSameRun(of.scenario, this.state().plain);
+  }
+
+  // Whether the picture is of another run than the recorded one and the one that is shown, or of another step.
   get isStale() {
     const { of } = this;
-    if (!of) return false;
-    const { scenario, step } = this.state(), isAtEnd = of.asked.kind === 'steps';
-    return (!isAtEnd && of.step !== step) || (of.scenario !== scenario && !isSameRun(of.scenario, scenario));
+    if (!of || this.isRecorded) return false;
+    const { scenario, step } = this.state(), isOfSteps = of.asked.kind === 'steps';
+    return (!isOfSteps && of.step !== step) || (of.scenario !== scenario && !isSameRun(of.scenario, scenario));
   }
 
   // Which run the picture is of, where that isn't just the one that is shown, as the beginning of a sentence.
   get otherRun() {
     const { of, isStale } = this;
-    if (!isStale && !of?.left.length) return '';
-    const edits = editsOf(of.scenario).length, isAtEnd = of.isEnd || of.asked.kind === 'steps';
-    const at = isAtEnd || of.step === this.state().step ? '' : ` at step ${grouped(of.step)}`;
-    const run = isStale ? `${edits ? `the run with ${many(edits, 'edit')}` : 'the unedited run'}${at}` : 'this run';
+    if (!of) return '';
+    const isOther = isStale || (this.isRecorded && !isSameRun(of.scenario, this.state().scenario));
+    if (!isOther && !of.left.length) return '';
+    const edits = editsOf(of.scenario).length;
+    const at = of.isEnd || of.step === this.state().step ? '' : ` at step ${grouped(of.step)}`;
+    const run = isOther ? `${edits ? `the run with ${many(edits, 'edit')}` : 'the unedited run'}${at}` : 'this run';
     return `Of ${run}${of.left.length ? `, without ${of.left.join(', ')}` : ''}: `;
+  }
+
+  // The edits that stand as those of the recorded run's picture: of each its place and its value.
+  get chosen() {
+    const { scenario } = this.state();
+    if (!this.isRecorded) return [];
+    const { kind, values } = this.of.asked;
+    if (kind === 'bytes') return [...scenario.changes];
+    if (kind === 'words') return [...scenario.patches].map(([at, { value }]) => [at, value]);
+    const found = scenario.marks.flatMap(({ line }) => (line ? [{ line, edit: alterationIn(line.split(' ')) }] : []));
+    return found.filter(({ line, edit }) => edit && alterationLine(values, ...edit) === line).map(({ edit }) => edit);
   }
 
   // Greys the picture of another run.
   showOf() {
-    $('picture-parts').classList.toggle('stale', this.isStale);
+    for (const it of ['picture-parts', 'legend']) $(it).classList.toggle('stale', this.isStale);
+    this.picture.redraw();
     this.picture.tell();
   }
 
@@ -158,36 +180,27 @@ export class SweepPanel {
     return said && this.otherRun + said;
   }
 
-  // Tries all edits of the run that is shown, if these are few: those that were tried last, or those of the input. Then those of the
-  // unedited run, which are only counted.
+  // Tries all edits of the recorded run's input, if these are few. What was tried of another run stays until that is no more shown.
   async follow() {
-    const asked = this.askedNow;
-    if (!asked || mostEditsOf(asked) > AT_ONCE) return;
-    if (!this.of || this.isStale) await this.begin(asked);
-    const { ended, picture: { swept } } = this;
-    if (ended?.swept === swept && swept.isWhole && !this.isStale) await this.countPlain();
-  }
-
-  // Counts what the same edits of the unedited run do.
-  async countPlain() {
-    const { program, plain, lineOf, scenario, step } = this.state(), { asked } = this.of;
-    if (this.counting || this.plain?.step === step || asked.kind !== 'bytes' || !plain.length || scenario.base !== plain.base) return;
-    const { files } = filesOf(plain, program), every = bytesAsked(asked, asked.part, plain.length);
-    if (!every) return;
-    const sweep = this.counting = new Sweep(program, files, every, this.idle, () => {});
-    try {
-      await sweep.run(this.workers);
-    } catch (fault) {
-      if (sweep === this.counting) this.fail(fault);
+    if (this.of && !this.isStale) return;
+    if (this.recorded) {
+      this.restore();
+      return;
     }
-    if (sweep !== this.counting) return;
-    this.counting = null;
-    if (sweep.swept.isWhole) this.keepPlain(sweep.swept, lineOf, step);
+    const { plain, follow } = this.state(), asked = bytesAsked({ kind: 'bytes', values: 'all', step: follow }, '', plain.length);
+    if (plain.length && mostEditsOf(asked) <= AT_ONCE) await this.begin(asked, { scenario: plain, step: follow, isEnd: true });
   }
 
-  // Keeps what the sentence about the unedited run is made of.
-  keepPlain({ asked, edits, isWhole, outcomes, tallies }, lineOf, step) {
-    this.plain = { step, lineOf, swept: { asked, edits, isWhole, outcomes, tallies } };
+  // Shows the picture of the recorded run again.
+  restore() {
+    this.sweep?.stop();
+    this.sweep = null;
+    this.show(false);
+    Object.assign(this, this.recorded);
+    this.draws(this.ended.swept);
+    this.picture.more(true);
+    this.showOf();
+    this.tellEnd();
     this.told();
   }
 
@@ -199,27 +212,17 @@ export class SweepPanel {
     return this.otherRun + counted(swept, outcomes, { isGoing: this.isGoing });
   }
 
-  countedBefore(step) {
-    if (this.plain?.step !== step) return '';
-    const { swept, lineOf } = this.plain;
-    return counted(swept, new Outcomes(swept, lineOf, $input('goal').value), { isGoing: false });
+  // The same of the recorded run, where the picture is of another one.
+  get countedBefore() {
+    if (!this.recorded || this.isRecorded) return '';
+    const { swept } = this.recorded.ended;
+    return counted(swept, new Outcomes(swept, this.state().lineOf, $input('goal').value), { isGoing: false });
   }
 
-  get askedNow() {
-    if (!this.of) return this.asked?.kind === 'bytes' ? this.asked : null;
-    const { scenario, step } = this.state(), { asked } = this.of;
-    if (asked.kind === 'steps') return null;
-    if (asked.kind === 'words') {
-      const places = asked.code && placesIn(this.state().instructionsIn(asked.first, asked.last));
-      return { ...asked, step, ...places };
-    }
-    return scenario.length ? bytesAsked({ ...asked, step }, asked.part, scenario.length) : null;
-  }
-
-  async begin(asked = this.asked) {
-    const { program, scenario, lineOf, step, isEnd } = this.state();
-    for (const it of [this.sweep, this.counting]) it?.stop();
-    this.counting = null;
+  // Tries the edits of a run up to a step, of the one that is shown where no other one is given.
+  async begin(asked = this.asked, on = this.state()) {
+    const { program } = this.state(), { scenario, step, isEnd } = on;
+    this.sweep?.stop();
     if (!asked && $select('sweep-what').value === 'bytes' && scenario.length) return this.refuse(RANGE_WANTED);
     if (!asked) return this.refuse('There is nothing to sweep: no input, no function, or a step at which the run has ended.');
     this.most = mostEditsOf(asked);
@@ -229,9 +232,8 @@ export class SweepPanel {
     }
     const { files, left } = filesOf(scenario, program);
     const sweep = this.sweep = new Sweep(program, files, asked, this.idle, () => this.goesOn(sweep));
-    const word = (at) => scenario.valueAt(at, lengthAt(asked, at), program.loaded) ?? 0;
-    this.of = { asked, scenario, step, isEnd, left };
-    this.picture.begin(sweep.swept, asked.kind === 'bytes' ? (at) => scenario.byte(at) : word, lineOf, $input('goal').value);
+    this.of = { asked, scenario, step, isEnd: isEnd || asked.kind === 'steps', left };  // faults at steps are compared at the end
+    this.draws(sweep.swept);
     this.showOf();
     this.show(true);
     this.told();
@@ -243,6 +245,13 @@ export class SweepPanel {
     }
     if (sweep === this.sweep) this.show(false);
     return undefined;
+  }
+
+  // Begins the picture of a sweep of the run that it is of.
+  draws(swept) {
+    const { program, lineOf } = this.state(), { asked, scenario } = this.of;
+    const word = (at) => scenario.valueAt(at, lengthAt(asked, at), program.loaded) ?? 0;
+    this.picture.begin(swept, asked.kind === 'bytes' ? (at) => scenario.byte(at) : word, lineOf, $input('goal').value);
   }
 
   goesOn(sweep) {
@@ -259,8 +268,8 @@ export class SweepPanel {
   end({ swept, memory }) {
     this.picture.more(true);
     this.ended = { swept, memory };
-    const { scenario, step } = this.of, { outcomes } = this.picture;
-    if (swept.isWhole && swept.asked.kind === 'bytes' && !editsOf(scenario).length) this.keepPlain(swept, outcomes.lineOf, step);
+    const { of, ended } = this, { kind, values, part } = of.asked;
+    if (swept.isWhole && this.isRecorded && kind === 'bytes' && values === 'all' && !part) this.recorded = { of, ended };
     this.tellEnd();
     this.told();
   }

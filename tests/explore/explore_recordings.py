@@ -156,6 +156,32 @@ def test_reports(tests):
                 tests.check(f"--html: {label}, `run` with {lines[at]}", ran(tests, words, lines[at]) != came[0])
 
 
+# The examples of the page, each with what is edited, and how many edits its recording has.
+RECORDED = [
+    ("station", ["station.elf", "--input=station.input"], 10455), ("packet", ["packet.elf", "--input=packet.input"], 2040),
+    ("kinds", ["kinds.elf", "--input=kinds.input"], 255), ("boot", ["boot.elf", "--input=boot.input"], 4845),
+    ("boot for rv32imc", ["boot-short.elf", "--isa=rv32imc", "--input=boot.input"], 4845),
+    ("use-after-free", ["use-after-free.elf", "--code=main", "--words-values=flips"], None)]
+CELLS = 500  # of the edits of each of them, by chance
+
+
+def test_examples(tests):
+    """Of the recording of each example the reports of hundreds of cells are those that `run` prints, or a session where it edits code."""
+    for name in ("kinds.elf", "kinds.input"):
+        shutil.copy(EXAMPLES / "firmware" / name, tests.room)
+    shutil.copy(EXAMPLES / "use-after-free.elf", tests.room)
+    chance = random.Random(9)
+    for label, words, count in RECORDED:
+        words = [*words, "--step=10000"]
+        page, _ = written(tests, words)
+        lines, reports = list(page.lines()), page.reports()
+        tests.check(f"{label}: its edits", "" if len(lines) == (count or len(lines)) > 100 else len(lines))
+        options = [it for it in words if not it.startswith(("--code", "--words-values"))]
+        for at in sorted(chance.sample(range(len(lines)), min(CELLS, len(lines)))):
+            wanted = ran(tests, options, lines[at]) if lines[at].startswith("input ") else asked(tests, options, [lines[at]])[0]
+            tests.check(f"{label}: {lines[at]}", "" if reports[at + 1] == wanted else (reports[at + 1], wanted))
+
+
 def test_page(tests):
     """What is in the page without a script: the headline, the errors by their places, and a link to each cell."""
     words = [*STATION, "--bytes=0..1", "--values=0,3,8", "--step=1600"]

@@ -94,8 +94,15 @@ class Bench:
         return table_in(ran.stdout)[1]
 
     def page(self, words="?still", **shape):
-        """A page with nothing open, or with what a link says."""
-        return self.browser.page(self.address + (words if "#" in words else f"{words or '?'}&empty"), **shape)
+        """A page with nothing open and the first tab, or with what a link says."""
+        page = self.browser.page(self.address + (words if "#" in words else f"{words or '?'}&empty"), **shape)
+        if "#" not in words:
+            self.tab(page, "report")
+        return page
+
+    def tab(self, page, name):
+        """Opens a tab by its name."""
+        page.run(f"replaycheck.tabs.open({json.dumps(name)})")
 
     def open(self, example="station", words="?still", **shape):
         """A page with an example, which sweeps nothing by itself where the words of its address don't say otherwise."""

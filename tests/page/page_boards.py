@@ -8,11 +8,12 @@ import shlex
 import subprocess
 import tempfile
 
-from board_files import READ_RUN, board, function, segment
+from board_files import NO_TYPE, OBJECT, READ_RUN, board, function, segment
 from checkout import TOP
 from page_bench import expect, same
-from replaycheck.adopting.findings import Findings
-from replaycheck.adopting.regions import fitting
+from replaycheck.adopting.curing import Cured
+from replaycheck.adopting.findings import Findings, physical
+from replaycheck.adopting.regions import fitting, own_stack
 from replaycheck.guest.elf import Elf
 from replaycheck.guest.regions import USUAL_REGIONS, Regions
 
@@ -102,6 +103,124 @@ def commands_typed(bench):
             expect((path / "adopted.elf").is_file(), f"{label}: {command!r} wrote nothing: {ran.stdout}{ran.stderr}")
             done = subprocess.run([bench.program, "run", f"--isa={isa}", path / "adopted.elf"], capture_output=True, text=True)
             expect(done.stdout.startswith("step "), f"{label}: the program says {done.stderr!r} of the file")
+
+
+TAKEN = """(async () => {
+  const [{ Elf }, { ownStack, unloaded, loadedToo }] = await Promise.all([import('./debuginfo/elf.js'), import('./files/start-file.js')]);
+  const bytes = Uint8Array.from(atob('DATA'), (it) => it.charCodeAt(0)), elf = new Elf(bytes);
+  const own = ownStack(elf), segments = unloaded(elf, { isa: 'rv32im', heap: HEAP, stack: STACK });
+  const made = loadedToo(bytes, segments);
+  return [own && [own.name, own.top, ...own.region], segments.map((it) => it.physical), [...made.subarray(bytes.length)],
+    [...made.subarray(0, 52)]]; })()"""
+RAM, END = 0x30000000, 0x30020000
+
+
+def with_stack(*symbols, memory=0x20000, at=END, name="__stack"):
+    """A file whose linker script names the end of a stack."""
+    return board([segment(PLACE, bytes(16), flags=READ_RUN), segment(RAM, bytes(4), memory)],
+                 [function("_start", PLACE, 16), function(name, at, 0, NO_TYPE), *symbols], PLACE)
+
+
+def with_copies(*segments):
+    return board([segment(PLACE, bytes(16), flags=READ_RUN), *segments], [function("_start", PLACE, 16)], PLACE)
+
+
+# Files, whether their start file has a stack by a symbol, and how many segments of theirs are loaded at other addresses, too.
+TAKEN_FOR_GRANTED = [
+    ("a stack", with_stack(), True, 0), ("one of another name", with_stack(name="_estack"), True, 0),
+    ("a name that says nothing", with_stack(name="stack"), False, 0), ("a stack outside segments", with_stack(memory=4), True, 0),
+    ("an end that is no multiple of 16", with_stack(at=END - 20), True, 0), ("an end of 0", with_stack(at=0), False, 0),
+    ("a variable before it", with_stack(function("table", RAM + 0x100, 0x5000, OBJECT, 2)), True, 0),
+    ("one with too little space after it", with_stack(function("table", RAM + 0x100, 0x1F000, OBJECT, 2)), False, 0),
+    ("the stack as a variable", with_stack(function("area", RAM + 0x8000, 0x18000, OBJECT, 2)), True, 0),
+    ("a variable in its end", with_stack(function("table", END - 28, 16, OBJECT, 2), at=END - 20), False, 0),
+    ("copied bytes", with_copies(segment(RAM, b"data", physical=0x20000000)), False, 1),
+    ("two of them", with_copies(segment(RAM, b"data", physical=0x20000000), segment(RAM + 64, b"more", physical=0x20000004)), False, 2),
+    ("two at one place", with_copies(segment(RAM, b"data", physical=0x20000000), segment(RAM + 64, b"more", physical=0x20000002)),
+     False, 1),
+    ("copied from the heap", with_copies(segment(RAM, b"data", physical=USUAL_REGIONS.heap)), False, 0),
+    ("copied from the stack", with_copies(segment(RAM, b"data", physical=USUAL_REGIONS.stack[0])), False, 0),
+    ("copied from what is loaded", with_copies(segment(RAM, b"data", physical=PLACE)), False, 0),
+    ("copied from itself", with_copies(segment(RAM, b"data")), False, 0),
+    ("no bytes", with_copies(segment(RAM, b"", 64, 0x20000000)), False, 0),
+    ("beyond the last address", with_copies(segment(RAM, b"data", physical=0xFFFFFFFE)), False, 0),
+]
+
+
+def start_files(bench):
+    """What a start file takes for granted, its stack by a symbol and bytes that it copies, is what `adopt` finds, and the copy that loads
+    these bytes is the file that it writes; buttons open the file so."""
+    with bench.page() as page:
+        for label, data, has_stack, count in TAKEN_FOR_GRANTED:
+            found = Elf(data, USUAL_REGIONS)
+            own, (segments, _), cured = own_stack(found, []), physical(found), Cured(found)
+            same(f"{label}: a stack and copies by `adopt`", [own is not None, len(segments)], [has_stack, count])
+            cured.load_too([(load.offset, load.paddr, load.filesz, load.flags, load.align) for load in segments])
+            script = (TAKEN.replace("DATA", base64.b64encode(data).decode()).replace("HEAP", str(USUAL_REGIONS.heap))
+                      .replace("STACK", json.dumps(USUAL_REGIONS.stack)))
+            stack = own and [own.name, own.top, *own.region]
+            same(label, page.run(script), [stack, [load.paddr for load in segments], [*cured.data[len(data):]], [*cured.data[:52]]])
+        stack_and_copies(bench, page)
+
+
+START = "lui sp, 0x30020; addi sp, sp, -16; sw zero, 0(sp); lui a0, 0x20100; lw a1, 0(a0); li a0, 0; li a7, 93; ecall"
+
+
+def stack_and_copies(bench, page):
+    """The buttons of a file that has both."""
+    from adopt_rows import code
+    data = board([segment(PLACE, code(START), flags=READ_RUN), segment(0x20000000, b"data", physical=0x20100000)],
+                 [function("_start", PLACE, 32), function("__stack", END, 0, NO_TYPE)], PLACE)
+    bench.give(page, {"program": data}, name=NAME)
+    bench.settle(page)
+    offers = page.run("[...document.querySelectorAll('#offers li')].map((it) => it.textContent)")
+    same("what is offered", len(offers), 2)
+    expect("below 0x30020000 (__stack)" in offers[0] and "4 bytes for 0x20000000 to 0x20100000" in offers[1], offers)
+    same("errors before", page.run("replaycheck.shown.report.contexts"), 2)
+    page.click_on("#offers button")
+    page.until("replaycheck.opened?.target.stack[1] === 0x30020000 && replaycheck.shown && !replaycheck.isBusy", 20)
+    same("errors with the stack there", page.run("replaycheck.shown.report.contexts"), 1)
+    page.click_on("#offers button")
+    page.until("replaycheck.opened?.files.program.name === 'board.loaded.elf' && replaycheck.shown && !replaycheck.isBusy", 20)
+    same("errors with the bytes loaded", page.run("replaycheck.shown.report.contexts"), 0)
+    same("what is offered then", page.run("document.querySelectorAll('#offers li').length"), 0)
+    expect("is a copy of “board.elf”" in page.text("notice"), page.text("notice"))
+
+
+# Codes that poll a device, their flags and sets, what is offered, and the edits that it makes. The device is SiFive's UART.
+EXIT = "li a0, 0; li a7, 93; ecall"
+POLLING = [
+    ("a loop", f"lui a0, 0x10013; lw a1, 0(a0); beq a1, zero, .-4; {EXIT}", 0, "rv32im",
+     "No device answers 1 load, at 0x00010004: at 0x10013000 a board has one (SiFive's UART), and the run doesn’t end within 10,000 steps.",
+     ["patch 0x00010004 0xfff00593"]),
+    ("two loads of bytes", f"lui a0, 0x10013; lb a1, 4(a0); lbu a2, 0(a0); add a1, a1, a2; beq a1, zero, .-12; {EXIT}", 0, "rv32im",
+     "No device answers 2 loads, at 0x00010004 and 0x00010008: at ", ["patch 0x00010004 0xfff00593", "patch 0x00010008 0xfff00613"]),
+    ("one of 16 bits", f"lui a0, 0x10013; .word 0x0001410c; beq a1, zero, .-4; {EXIT}", 1, SHORT,
+     "No device answers 1 load, at 0x00010004: at ", ["patch16 0x00010004 0x55fd"]),
+    ("a store", f"lui a0, 0x10013; sw zero, 0(a0); {EXIT}", 0, "rv32im", None, []),
+    ("what is no device", f"lui a0, 0x60000; lw a1, 0(a0); {EXIT}", 0, "rv32im", None, []),
+    ("a load of nothing", f"lui a0, 0x10013; lw zero, 0(a0); {EXIT}", 0, "rv32im", None, []),
+]
+
+
+def polled_devices(bench):
+    """Of loads of a device that a run has errors at, the page says where they are, and a button has each give all ones, as edits."""
+    with bench.page() as page, tempfile.NamedTemporaryFile(suffix=".elf") as file:
+        for label, text, flags, isa, told, edits in POLLING:
+            data = file_of(text, flags)
+            page.run(f"replaycheck.opening.again({{ isa: '{isa}', furthest: 10000 }})")
+            bench.give(page, {"program": data}, name=NAME)
+            bench.settle(page)
+            offers = page.run("[...document.querySelectorAll('#offers li')].map((it) => it.textContent)")
+            same(f"{label}: whether anything is offered", len(offers), int(told is not None))
+            if told is None:
+                continue
+            expect(offers[0].startswith(told), f"{label}: it says {offers[0]!r}")
+            page.click_on("#offers button")
+            pathlib.Path(file.name).write_bytes(data)
+            bench.same_report(page, [file.name, f"--isa={isa}"], f"{label}: the report then")
+            same(f"{label}: the edits", page.run("replaycheck.scenario.lines"), edits)
+            same(f"{label}: how the run ends", page.run("replaycheck.shown.report.state"), "exited 0")
 
 
 def region_files(bench):

@@ -273,6 +273,7 @@ def machine_in_turn(bench):
         page.set("memory-at", "0x20000")
         page.click_on("#memory-form button")
         page.until("replaycheck.machine.bytes[0]?.value === 1")
+        bench.tab(page, "memory")
         page.click_on("#memory-rows button", 2)
         page.set("new-byte", "0x41")
         page.focus("new-byte")

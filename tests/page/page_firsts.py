@@ -28,9 +28,10 @@ def first_screen(bench):
         bench.settle(page)
         bench.same_report(page, STATION, "the first screen")
         same("its edit", page.run("replaycheck.scenario.lines"), ["input 1 8"])
-        page.until(f"{SWEPT} && document.getElementById('before').textContent.includes('break it')", 120)
+        page.until(f"{SWEPT} && !document.getElementById('counted').textContent.includes('so far')", 120)
         total, new = broken(bench, STATION, [], page.run("replaycheck.step"))
-        same("the unedited run", page.text("before"), f"unedited: exited with 0 · no errors · {new} of {total:,} one-byte edits break it")
+        same("the edits", page.text("counted"), f"Of the unedited run: {new} of {total:,} one-byte edits break it")
+        same("the unedited run", page.text("before"), "unedited: exited with 0 · no errors")
         same("examples", page.run("[...document.querySelectorAll('#examples button')].map((it) => it.getAttribute('aria-pressed'))"),
              ["true"] + ["false"] * 5)
         same("complaints", page.complaints(), [])
@@ -121,6 +122,7 @@ def counts(bench):
 RECORD = """(() => { globalThis.seen = [];
   const note = () => { const { swept } = replaycheck.sweeps.picture;
     seen.push([document.getElementById('counted').textContent, replaycheck.scenario.lines.join(), replaycheck.sweeps.isStale,
+      replaycheck.sweeps.isRecorded,
       swept ? [swept.edits, [...swept.tallies], [...swept.outcomes]] : null]); };
   new MutationObserver(note).observe(document.getElementById('counted'), { childList: true, characterData: true, subtree: true }); })()"""
 
@@ -134,17 +136,21 @@ def recounted(swept):
 
 def counts_on_the_way(bench):
     """While a sweep goes on, after an edit, an undo and a stop, each sentence is true of what the table had then, and says of which run it
-    is."""
+    is. The edits of an edited run are tried where one asks for them, and stay until it isn't shown any more."""
     with bench.open(words="?workers=2") as page:
         page.run(RECORD)
         page.until(SWEPT, 120)
         page.run("replaycheck.use('input 1 8')")
         bench.settle(page)
         expect(page.run(COUNTED).startswith("Of the unedited run: "), f"after an edit it says {page.run(COUNTED)!r}")
-        page.until(f"{SWEPT} && !{STALE}", 120)
-        page.click_on("#undo")
-        bench.settle(page)
-        expect(page.run(COUNTED).startswith("Of the run with 1 edit: "), f"after an undo it says {page.run(COUNTED)!r}")
+        page.click_on("#sweep")
+        page.until(f"{SWEPT} && !replaycheck.sweeps.isRecorded", 120)
+        told = page.run("(async () => { document.getElementById('undo').click(); await replaycheck.isBusy;"
+                        f" return {COUNTED}; }})()")
+        expect(told.startswith("Of the run with 1 edit: "), f"after an undo it says {told!r}")
+        page.until("replaycheck.sweeps.isRecorded", 10)
+        page.until(f"!{COUNTED}.startsWith('Of the')", 10)
+        page.click_on("#sweep")
         page.until(f"replaycheck.sweeps.sweep?.swept.edits > 0 && !{STALE}", 60)
         page.click_on("#stop")
         page.until("document.getElementById('stop').disabled", 10)
@@ -159,12 +165,13 @@ def counts_on_the_way(bench):
     expect(" tried before the stop " in stopped, f"after a stop it says {stopped!r}")
     going = [it for it in seen if "so far" in it[0]]
     expect(len(going) > 3, f"{len(going)} sentences alone were told on the way")
-    for text, lines, is_stale, swept in seen:
+    for text, lines, is_stale, is_recorded, swept in seen:
         if swept and text:
             new, said = recounted(swept), text.split(": ")[-1]
             expect(said.startswith(f"{f'{new:,}' if new else 'none'} of ") and f" {swept[0]:,} one-byte edit" in said,
                    f"{text!r} of {swept[0]} edits, {new} of them new")
-            expect(text.startswith("Of ") == is_stale, f"{text!r} with the lines {lines!r}, of another run: {is_stale}")
+            is_other = is_stale or (is_recorded and lines != "")
+            expect(text.startswith("Of ") == is_other, f"{text!r} with the lines {lines!r}, of another run: {is_other}")
 
 
 # ---- uninitialised memory
@@ -230,10 +237,11 @@ def verdict_of_the_run(bench):
 
 
 def in_short(told):
-    """How a run ends and how many errors it has, by a line of the page."""
+    """How a run ends and how many errors it has, by a line of the page, which may begin with the worst error."""
     words = told.split(" · ")
-    found = re.match(r"([\d,]+) errors? in ([\d,]+) places?$", words[1])
-    return words[0].replace(" with", "") if words[0].startswith("exited") else "running", found and found[1], found and found[2]
+    state, count = next(pair for pair in zip(words, words[1:]) if re.match("exited|running|stopped", pair[0]))
+    found = re.match(r"([\d,]+) errors? in ([\d,]+) places?$", count)
+    return state.replace(" with", "") if state.startswith("exited") else "running", found and found[1], found and found[2]
 
 
 def in_report(report):
@@ -253,8 +261,7 @@ def new_leaks(bench):
             fresh = page.run("replaycheck.reports.groups.filter((it) => it.how === 'new').map((it) => [it.group.isError, it.group.text])")
             errors, leaks, told = sum(it for it, _ in fresh), sum(not it for it, _ in fresh), page.text("verdict")
             if len(fresh) == 1:
-                expect(f"new: {fresh[0][1]} in " in told, f"{value}: it says {told!r}")
-                expect(re.search(r"\.[chS]:\d+$", told), f"{value}: it says no line: {told!r}")
+                expect(re.match(f"{re.escape(fresh[0][1])} in .*\\.[chS]:\\d+ \\(new\\) · ", told), f"{value}: it says {told!r}")
             elif fresh:
                 counts = [f"{count} {what}{'s' * (count > 1)}" for count, what in ((errors, "error"), (leaks, "leak")) if count]
                 expect(f"{' and '.join(counts)}, new" in told, f"{value}: it says {told!r}")

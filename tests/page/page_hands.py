@@ -18,7 +18,7 @@ CONTROL = 2  # of a key that is pressed
 
 # Parts that are one stop of the Tab key, with keys from their first thing on and the thing that then has the focus.
 STOPS = [
-    ("examples", ["ArrowRight", "ArrowRight"], "kinds"), ("legend-rows", ["ArrowDown", "ArrowRight"], "running"),
+    ("examples", ["ArrowRight", "ArrowRight"], "kinds"), ("legend-rows", ["ArrowDown", "ArrowRight"], "Invalid write"),
     ("chips", ["ArrowDown"], "✕"), ("code-rows", ["ArrowDown", "ArrowRight"], "word…"), ("registers", ["ArrowDown", "ArrowDown"], "gp"),
     ("bits", [], ""), ("memory-rows", [], ""), ("report", ["ArrowDown"], "by "), ("landmarks", ["ArrowRight"], ""),
     ("calls", ["ArrowDown"], "by "), ("block-rows", ["ArrowDown"], "0x4000"),
@@ -34,6 +34,8 @@ def tab_stops(bench):
         page.until("replaycheck.machine.step === 600 && replaycheck.steps.landmarks.some((it) => it.kinds.includes('end'))", 20)
         page.until(f"{SWEPT} && !replaycheck.sweeps.isStale", 60)
         for part, keys, want in STOPS:
+            page.run(f"""(() => {{ const panel = document.getElementById('{part}').closest('[role=tabpanel]');
+              if (panel) replaycheck.tabs.open(panel.id.replace('-panel', '')); }})()""")
             stops = page.run(f"""[...document.querySelectorAll('#{part} :is(button, input, summary, [tabindex])')]
               .filter((it) => it.tabIndex === 0 && !it.disabled).length""")
             same(f"stops in {part}", stops, 1)
@@ -108,7 +110,7 @@ MOST_SPOKEN = 4
 
 
 def spoken(bench):
-    """One typed byte has a screen reader say few things: how the run ends, what the byte is, and at last what its edits do."""
+    """One typed byte has a screen reader say few things: how the run ends, and what the byte is."""
     with bench.open(words="?workers=2") as page:
         page.until(f"{SWEPT} && !replaycheck.sweeps.isStale", 120)
         page.until("replaycheck.strip.plain?.isDone && replaycheck.machine.rested", 60)
@@ -123,7 +125,7 @@ def spoken(bench):
         page.until("replaycheck.strip.edited?.isDone", 60)
         told = page.run("spoken")
         expect(len(told) <= MOST_SPOKEN, f"{len(told)} things are said: {told}")
-        for it in ("verdict", "sweep-told"):
+        for it in ("verdict", "byte-told"):
             expect(any(where == it for where, _ in told), f"nothing is said of {it}: {told}")
 
 
@@ -275,9 +277,9 @@ def in_firefox(bench):
         page.open(bench.address)
         page.until("replaycheck.shown")
         bench.same_report(page, STATION, "the first screen in Firefox")
-        page.until(f"{SWEPT} && document.getElementById('before').textContent.includes('break it')")
+        page.until(f"{SWEPT} && document.getElementById('counted').textContent.endsWith('break it')")
         total, new = broken(bench, STATION, [], page.run("replaycheck.step"))
-        expect(f"{new} of {total:,} one-byte edits break it" in page.text("before"), f"it says {page.text('before')!r}")
+        same("its count", page.text("counted"), f"Of the unedited run: {new} of {total:,} one-byte edits break it")
         page.run("replaycheck.use('input 37 5')")
         bench.same_report(page, STATION, "an edit in Firefox")
         page.until("document.getElementById('certified').title.startsWith('not clean: first use at step 684')", 10)

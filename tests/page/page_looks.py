@@ -6,6 +6,7 @@ import struct
 import subprocess
 
 from page_bench import SWEPT, TOP, expect, same, sweep_flips
+from page_tabs import NAMES as TABS
 
 WIDTHS = (360, 768, 1280, 1920, 2560)
 USED = {"button", "checkbox", "combobox", "slider", "spinbutton", "textbox", "grid", "gridcell", "application", "disclosuretriangle",
@@ -59,9 +60,12 @@ def opened(bench, **shape):
 
 
 def names_and_roles(bench):
-    """What can be used has a name and a role, and the page has its landmarks."""
+    """What can be used has a name and a role, and the page has its landmarks, whichever tab is open."""
     with opened(bench) as page:
-        nodes = [it for it in page.call("Accessibility.getFullAXTree")["nodes"] if not it.get("ignored")]
+        nodes = []
+        for name in TABS:
+            bench.tab(page, name)
+            nodes += [it for it in page.call("Accessibility.getFullAXTree")["nodes"] if not it.get("ignored")]
         roles = [it["role"]["value"].lower() for it in nodes]
         nameless = [role for role, it in zip(roles, nodes) if role in USED and not it.get("name", {}).get("value", "").strip()]
         same("roles of nodes without a name", nameless, [])
@@ -79,13 +83,15 @@ def contrast(bench):
     """No text has less contrast than 4.5 to 1, and nothing that is drawn less than 3 to 1, in light and in dark."""
     for dark in (False, True):
         with opened(bench, dark=dark) as page:
-            found = page.run(CONTRASTS)
-            expect(len(found) > 100, f"{len(found)} texts alone were looked at")
-            poor = [it for it in found if it[0] < 4.5]
-            same(f"texts of poor contrast, {'dark' if dark else 'light'}", poor, [])
-            found = page.run(DRAWN)
-            expect(len(found) > 40, f"{len(found)} drawn things alone were looked at")
-            same(f"drawn things of poor contrast, {'dark' if dark else 'light'}", [it for it in found if it[0] < 3], [])
+            page.run("replaycheck.linked.show(replaycheck.opened.lines.placeAt(replaycheck.code.at), true)")
+            for name in TABS:
+                bench.tab(page, name)
+                found, label = page.run(CONTRASTS), f"{name}, {'dark' if dark else 'light'}"
+                expect(len(found) > 100, f"{len(found)} texts alone were looked at")
+                same(f"texts of poor contrast, {label}", [it for it in found if it[0] < 4.5], [])
+                found = page.run(DRAWN)
+                expect(len(found) > 30, f"{len(found)} drawn things alone were looked at")
+                same(f"drawn things of poor contrast, {label}", [it for it in found if it[0] < 3], [])
 
 
 def widths(bench):
@@ -94,7 +100,9 @@ def widths(bench):
         same("the width before a program", page.run("document.documentElement.scrollWidth"), WIDTHS[0])
     for width in WIDTHS:
         with opened(bench, width=width) as page:
-            same(f"the width at {width}", page.run("document.documentElement.scrollWidth"), width)
+            for name in TABS:
+                bench.tab(page, name)
+                same(f"the width at {width}, {name}", page.run("document.documentElement.scrollWidth"), width)
             same(f"bytes beyond their part at {width}", page.run("(({ scrollWidth, clientWidth }) => scrollWidth - clientWidth)"
                                                                  "(document.getElementById('bytes'))"), 0)
 
@@ -185,9 +193,8 @@ def picture_file(bench, path):
     """Writes the picture of docs/manual/page.md: what a page begins with, once both runs are counted."""
     with bench.page("", width=1280, height=2000) as page:
         page.run("replaycheck.opening.choose('station', ['input 1 8'])")
-        page.until(f"{SWEPT} && document.getElementById('before').textContent.includes('break it')", 120)
+        page.until(f"{SWEPT} && document.getElementById('counted').textContent.endsWith('break it')", 120)
         page.until("['error', 'end'].every((kind) => replaycheck.steps.landmarks.some((it) => it.kinds.includes(kind)))")
-        page.run("document.getElementById('code').style.maxHeight = '20rem'")
         page.run("document.activeElement.blur()")
         below = page.run("document.getElementById('main').getBoundingClientRect().bottom + scrollY")
         path.write_bytes(page.picture(below, 0.7))

@@ -169,8 +169,9 @@ def picture_of_edits(bench):
 
 
 def picture_of_the_run(bench):
-    """After an edit the picture and what is said of a byte are of the run that is shown: greyed, and named as another's, until
-    they are made anew. What a sweep can't have of a run is named too."""
+    """The picture stays that of the recorded run, which what is said of a byte names after an edit. That of an edited run is made where one
+    asks for it, and is greyed where another run is shown, until the recorded one's is there again. What a sweep can't have of a run is
+    named too."""
     with bench.open(words="") as page, tempfile.TemporaryDirectory() as folder:
         page.until(SWEPT, 120)
         same("a byte of the unedited run", page.run("replaycheck.byteTold(2)"),
@@ -178,9 +179,10 @@ def picture_of_the_run(bench):
         page.run("replaycheck.use('input 0 0')")
         bench.settle(page)
         stale = "document.getElementById('picture-parts').classList.contains('stale')"
-        expect(page.run(stale), "the picture of another run isn't greyed")
+        expect(not page.run(stale), "the picture of the recorded run is greyed")
         expect("Of the unedited run: " in page.run("replaycheck.byteTold(2)"), "a byte's sentence doesn't say of which run it is")
-        page.until(f"{SWEPT} && !{stale}", 120)
+        page.click_on("#sweep")
+        page.until(f"{SWEPT} && !replaycheck.sweeps.isRecorded", 120)
         given = pathlib.Path(folder, "input")
         given.write_bytes(b"\0" + (TOP / "examples/firmware/station.input").read_bytes()[1:])
         words, step = [STATION[0], "--input", str(given)], page.run("replaycheck.step")
@@ -190,13 +192,105 @@ def picture_of_the_run(bench):
         told = page.run("replaycheck.byteTold(2)")
         expect(f"Of 255 other values, {alike} change" in told, f"it says {told!r}, and {alike} values change nothing")
         expect("of the run with 1 edit" in page.text("sweep-told"), f"it says {page.text('sweep-told')!r}")
-        page.run("replaycheck.go(500)")
-        bench.settle(page)
-        expect("Of the run with 1 edit" in page.run("replaycheck.sweeps.otherRun"), "another step isn't another run")
-        page.until(f"{SWEPT} && !{stale}", 120)
+        is_stale, other = page.run(f"(async () => {{ replaycheck.go(500); await replaycheck.isBusy;"
+                                   f" return [{stale}, replaycheck.sweeps.otherRun]; }})()")
+        expect(is_stale, "the picture of another run isn't greyed")
+        expect("Of the run with 1 edit" in other, f"another step isn't another run: {other!r}")
+        page.until("replaycheck.sweeps.isRecorded", 20)
+        same("the recorded run's sentence again", page.run("replaycheck.byteTold(2)"),
+             "byte 2: 0x68. Of the unedited run: None of 255 other values changes anything.")
+        swept_places = page.run("replaycheck.sweeps.picture.cells.filter((it) => it).length")
+        same("the recorded run's cells again", swept_places, 10455)
         page.run("replaycheck.use('mark 55 0x20011 2 undefined')")
+        bench.settle(page)
+        page.click_on("#sweep")
         page.until(f"{SWEPT} && replaycheck.sweeps.of.left.length && !{stale}", 120)
         same("what is left out", page.run("replaycheck.sweeps.otherRun"), "Of this run, without marks: ")
+
+
+# Edits, and which cells of the recorded run's picture are ringed: of each the byte and the value.
+RINGED = [([], []), (["input 1 8"], [[1, 8]]), (["input 1 8", "input 37 250"], [[1, 8], [37, 250]]), (["input append 7"], []),
+          (["input 1 8", "mark 55 0x20011 2 undefined"], [[1, 8]])]
+
+
+def rings(bench):
+    """The edits that stand are ringed in the picture of the recorded run, and a click there makes its edit of that run."""
+    with bench.open(words="?workers=2") as page:
+        page.until(f"{SWEPT} && replaycheck.sweeps.isRecorded", 120)
+        inked = """(([at, value]) => { const { picture } = replaycheck.sweeps, on = picture.canvas.getContext('2d');
+          picture.draw();
+          const [x, y, wide, tall] = picture.box(at * picture.rows + value), t = Math.max(9, tall), top = Math.max(1, y + (tall - t) / 2);
+          const { data } = on.getImageData(Math.round(x + wide / 2), Math.round(top) - 1, 1, 2);
+          return Math.max(...[...data].filter((_, i) => i % 4 < 3)) < 90;
+        })"""
+        for edits, wanted in RINGED:
+            page.run(f"replaycheck.use({json.dumps(chr(10).join(edits))})")
+            bench.settle(page)
+            same(f"{edits}: rings", page.run("replaycheck.sweeps.chosen.filter(([at]) => at < 41)"), wanted)
+            for cell in ([1, 8], [37, 250]):
+                same(f"{edits}: whether {cell} is ringed", page.run(f"{inked}({cell})"), cell in wanted)
+        page.run("document.getElementById('picture').scrollIntoView({ block: 'center' })")
+        page.click(*place_of(page, 37, 250))
+        bench.same_report(page, STATION, "a click on the recorded run's picture")
+        same("the edit of the click, in place of those before", page.run("replaycheck.scenario.lines"), ["input 37 250"])
+        page.run("replaycheck.use('input 0 0')")
+        bench.settle(page)
+        page.set("sweep-bytes", "37")
+        page.click_on("#sweep")
+        page.until(f"{SWEPT} && !replaycheck.sweeps.isRecorded", 60)
+        same("rings of another run", page.run("replaycheck.sweeps.chosen"), [])
+        page.run("replaycheck.sweeps.picture.here = { column: 0, row: 250 }; replaycheck.sweeps.picture.choose()")
+        bench.same_report(page, STATION, "a cell of the edited run's picture")
+        same("its edit beside the other one", page.run("replaycheck.scenario.lines"), ["input 0 0", "input 37 250"])
+
+
+ABOVE = """(() => { const { picture } = replaycheck.sweeps, { drawing } = replaycheck.strip, scale = devicePixelRatio || 1;
+  const [one, other] = ['picture', 'strip'].map((it) => document.getElementById(it).getBoundingClientRect());
+  const found = picture.cells.map((cell, index) => [cell, index]).filter(([cell]) => cell);
+  return [Math.abs(one.left - other.left) + Math.abs(one.width - other.width), one.bottom <= other.top,
+    Math.max(...found.map(([cell, index]) => Math.abs(picture.box(index)[0] / scale - drawing.x(cell.at)))),
+    found.every(([cell, index]) => picture.columnNear((picture.box(index)[0] + picture.box(index)[2] / 2) / scale, index % picture.rows)
+      === Math.floor(index / picture.rows)), found.length]; })()"""
+
+
+def picture_over_the_strip(bench):
+    """The picture of faults at steps is above the strip, each cell over its step, also where the strip is zoomed; pointer and keys reach
+    its cells. That of bytes is below the bytes again."""
+    with bench.open("boot", words="?workers=2") as page:
+        page.until(SWEPT, 120)
+        page.run("""(() => { const it = replaycheck.opened.program.elf.functions.find((it) => it.name === 'verify');
+          replaycheck.code.visit(it.address); })()""")
+        page.set("sweep-what", "steps", "change")
+        page.run("replaycheck.steps.choose(1262)")
+        bench.settle(page)
+        for fault, zoom in (("skip", 1), ("skip", 0.1), ("zero", 1)):
+            page.set("sweep-values", fault)
+            page.click_on("#sweep")
+            page.until(f"{SWEPT} && replaycheck.sweeps.picture.isOfSteps && replaycheck.strip.plain.isDone", 60)
+            page.run(f"replaycheck.strip.all(); replaycheck.strip.zoom({zoom}, 1262)")
+            page.run("new Promise((done) => { requestAnimationFrame(() => requestAnimationFrame(done)); })")
+            beside, is_above, far, is_met, count = page.run(ABOVE)
+            expect(beside < 1 and is_above and far < 1 and count > 10, f"{fault}, zoomed {zoom}: {beside, is_above, far, count}")
+            expect(is_met or zoom == 1, f"{fault}, zoomed {zoom}: a pointer doesn't meet each cell")
+        page.run("(() => { const { picture } = replaycheck.sweeps; picture.here = { column: 0, row: 0 }; picture.canvas.focus(); })()")
+        page.press("ArrowRight")
+        first = page.text("picture-told")
+        page.press("ArrowRight")
+        told = page.text("picture-told")
+        steps = [int(re.match(r"set (\d+) x1 0x00000000", text)[1]) for text in (first, told)]
+        same("the next cell by a key", steps[1] > steps[0], True)
+        page.press("Enter")
+        bench.same_report(page, words_of("boot"), "a cell by Enter")
+        same("its edit", page.run("replaycheck.scenario.lines"), [f"set {steps[1]} x1 0x00000000"])
+        same("its ring", page.run("replaycheck.sweeps.chosen"), [[steps[1], 0]])
+        page.until("location.hash.includes('set+')", 10)
+        same("whether the picture stays", page.run("[replaycheck.sweeps.isRecorded, replaycheck.sweeps.picture.isOfSteps]"), [True, True])
+        page.set("sweep-what", "bytes", "change")
+        page.set("sweep-values", "edges")
+        page.click_on("#sweep")
+        page.until(f"{SWEPT} && replaycheck.sweeps.picture.isOfBytes", 60)
+        home = "document.getElementById('picture-home')"
+        same("where the picture of bytes is", page.run(f"{home}.contains(replaycheck.sweeps.picture.canvas)"), True)
 
 
 def goal(bench):

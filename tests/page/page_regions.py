@@ -1,5 +1,7 @@
 """The cases of test-page about where heap and stack are: chosen, undone, kept and sent, and runs with others beside the program's."""
 import json
+import subprocess
+import tempfile
 
 from checkout import TOP
 from guest_files import elf
@@ -7,6 +9,7 @@ from page_bench import expect, same, words_of
 from page_hands import STORED
 from page_pictures import swept
 from page_state import Program, same_panes
+from replaycheck.guest.assembly import assemble
 
 SOME = {"heap": "0x90000000", "stack": "0x3fc81000..0x3fca0000"}
 OPTIONS = ["--heap-region", SOME["heap"], "--stack-region", SOME["stack"]]
@@ -31,6 +34,63 @@ def opened_for(page, isa, regions):
     """Whether the page comes to have something open for an instruction set, with regions as it shows them."""
     page.until(f"{WAITS} && replaycheck.opened.isa === '{isa}' && document.getElementById('regions-told').textContent === '{regions}'")
     same("the set that is shown", page.run("document.getElementById('isa').value"), isa)
+
+
+# Limits that are typed or named by a link, and what is said of one that there isn't.
+LIMITS = [("0", "isn’t a last step"), ("2147483648", "isn’t a last step"), ("x", "isn’t a last step"), ("12000000", None)]
+TURNS = 2 << 20  # of three steps
+
+
+def limits(bench):
+    """A run that is longer than the page looks at is cut off there, which it says; a button or a field has it look further, as the program
+    does with the same limit. A link has the limit, undo goes back, and memory that runs out before is named."""
+    program = elf(assemble(f"lui t0, {TURNS >> 12}; again: addi t0, t0, -1; sb t0, 0(sp); bne t0, zero, again; li a7, 93; ecall"))
+    with bench.page() as page, tempfile.NamedTemporaryFile(suffix=".elf") as file:
+        file.write(program)
+        file.flush()
+        bench.give(page, {"program": program}, name="long.elf")
+        bench.settle(page)
+        page.until("!document.getElementById('limit-told').hidden", 10)
+        same("what is said", page.text("limit-text").strip(), "The run goes on after step 4,194,304, where this page stops looking.")
+        same("how it ends", page.text("verdict").startswith("running at "), True)
+        for text, said in LIMITS:
+            page.run("document.getElementById('regions').open = true")
+            page.set("limit", text)
+            page.click_on("#regions-form button")
+            if said:
+                expect(said in page.text("regions-wrong"), f"{text}: {page.text('regions-wrong')!r}")
+        limited(bench, page, file.name, 12000000)
+        link = page.run("replaycheck.edits.link()")
+        same("the lines", page.run("document.getElementById('lines').value").split("\n")[0], "# --isa rv32im --limit 12000000")
+        expect("limit=12000000" in link, link)
+        page.click_on("#undo")
+        page.until("replaycheck.opened.target.furthest === 4194304", 30)
+        page.click_on("#limit-more")
+        limited(bench, page, file.name, 33554432)
+        page.run("replaycheck.use('goto 33554433')")
+        expect("was refused" in page.text("notice"), f"a step after the limit: {page.text('notice')!r}")
+    with bench.page("?still#example=station&limit=2147483648") as page:
+        page.until("document.getElementById('notice').textContent", 10)
+        expect("isn’t a last step" in page.text("notice"), page.text("notice"))
+    with bench.page("?still&memory=6000000") as page:
+        page.run("replaycheck.opening.again({ furthest: 2147483647 })")
+        writing = "again: addi t0, t0, -1; slli t1, t0, 3; sub t1, sp, t1; sb t0, -1(t1); bne t0, zero, again"
+        bench.give(page, {"program": elf(assemble(f"lui t0, {1 << 10}; {writing}; li a7, 93; ecall"))})
+        page.until("document.getElementById('notice').textContent.includes('Memory ran out')", 60)
+
+
+def limited(bench, page, path, limit):
+    """Whether the report and a look at a late step are the program's with this limit."""
+    page.until(f"replaycheck.opened?.target.furthest === {limit} && replaycheck.shown && !replaycheck.isBusy", 60)
+    page.until("document.getElementById('limit-told').hidden", 10)
+    last = page.run("replaycheck.opened.last")
+    same("how many steps", last, 3 * TURNS + 3)
+    for step in (last - 2, last):
+        page.run(f"replaycheck.go({step})")
+        bench.settle(page)
+        given = f"goto {step}\nreport\n".encode()
+        ran = subprocess.run([bench.program, "look", f"--limit={limit}", path], input=given, capture_output=True, check=True)
+        same(f"the report at step {step}", page.text("report-text").rstrip("\n"), ran.stdout.decode().removeprefix("ok\n").rstrip("\n"))
 
 
 def told(regions):

@@ -201,6 +201,7 @@ def variables_shown(bench):
         page.run("replaycheck.use('goto 684')")
         bench.settle(page)
         page.until(f"{ROWS}.some(([name]) => name === 'unit')", 10)
+        bench.tab(page, "variables")
         page.run("document.querySelector('#variable-rows button').focus()")
         at = int(page.run("document.activeElement.title").split("0x")[1], 16)
         page.press("Enter")
@@ -222,8 +223,9 @@ def sections_seen(bench):
             page.until("document.querySelector('#variable-rows .undefined') && document.querySelector('#source-rows .now') && true", 10)
             page.run("(() => { document.getElementById('globals').open = true; })()")
             page.until("document.getElementById('global-rows').children.length", 10)
+            bench.tab(page, "variables")
             same("texts of poor contrast", [it for it in page.run(CONTRASTS) if it[0] < 4.5], [])
             same("the width", page.run("document.documentElement.scrollWidth"), width)
-            for part in ("variables-part", "source-part"):
+            for part in ("variables-panel", "source-part"):
                 beyond = page.run(f"(({{ scrollWidth, clientWidth }}) => scrollWidth - clientWidth)(document.getElementById('{part}'))")
                 same(f"what is beyond {part} at {width}", beyond, 0)
