@@ -50,7 +50,7 @@ bytes_text (Some input) None =
 bytes_text None (Some memory) = codes "these bytes of memory"
 bytes_text None None = codes "these bytes"
 
--- ` that leaves the same L bytes at A before step N`
+-- ` that leaves the same L bytes at A, all defined, before step N`
 unfoldable pub revealed_len : ℕ → List ℕ
 revealed_len len = codes " that leaves the same " ++ decimal len
 
@@ -58,7 +58,7 @@ unfoldable pub revealed_at : ℕ → List ℕ
 revealed_at start = codes " bytes at " ++ address_text start
 
 unfoldable pub revealed_step : ℕ → List ℕ
-revealed_step step = codes " before step " ++ decimal step
+revealed_step step = codes ", all defined, before step " ++ decimal step
 
 unfoldable pub revealed_text : ℕ → ℕ → ℕ → List ℕ
 revealed_text step start len = revealed_len len ++ revealed_at start ++ revealed_step step
@@ -135,7 +135,7 @@ unfoldable pub at_text : ℕ → List ℕ → List ℕ
 at_text step text = codes "at step " ++ decimal step ++ codes ": " ++ text
 
 abbrev pub pointer_text : List ℕ
-pointer_text = codes "the stack pointer depends on them"
+pointer_text = codes "the stack pointer may depend on them"
 
 abbrev pub write_text : List ℕ
 write_text = codes "a write has a byte that may not be accessed behind one that depends on them"

@@ -114,7 +114,7 @@ fn push_revealed_at(out: &mut Vec<u8>, start: u32) -> Result<(), AllocError>
 fn push_revealed_step(out: &mut Vec<u8>, step: u32) -> Result<(), AllocError>
     ensures { OnOk result (out.new.items ≡ out.old.items ++ revealed_step step) }
 {
-    push_text(out, b" before step ")?;
+    push_text(out, b", all defined, before step ")?;
     push_number(out, u64::from(step))
 }
 
@@ -370,7 +370,7 @@ fn push_no(out: &mut Vec<u8>, image: &Image, verdict: &AnyVerdict) -> Result<(),
         AnyVerdict::Same { .. } => Ok(()),
         AnyVerdict::Use(found) => push_use(out, image, found),
         AnyVerdict::StackPointer(step) => {
-            push_at(out, *step, b"the stack pointer depends on them")
+            push_at(out, *step, b"the stack pointer may depend on them")
         }
         AnyVerdict::Write(step) => push_at(
             out,

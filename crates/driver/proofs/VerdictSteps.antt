@@ -1,6 +1,6 @@
 -- The verdict on a run without edits.
 use Rattle.std.proofs.Common.{◌≡◌, ℕ, ◌^◌, ◌<◌, Bool, true, false, List, [], All, Option, Some, None, inl, inr}
-use Rattle.std.proofs.Common.{refl, subst, sym}
+use Rattle.std.proofs.Common.{refl, subst, subst₂, sym}
 use Rattle.std.specs.Prelude.{is_some}
 use Rattle.std.specs.Io.KnownBytes.{Appends}
 use Rattle.checkpoints.specs.Trails.{IsRightFor}
@@ -11,12 +11,21 @@ use Rattle.guest_machine.specs.State.{State}
 use Rattle.guest_machine.specs.declared.setup.Setup.{Setup}
 use Rattle.run_values.specs.declared.alteration.Alteration.{Alteration}
 use Rattle.scenario.specs.Setups.{setup_with}
+use Rattle.clean_reports.specs.Agreement.{AreBytes}
 use Rattle.clean_reports.specs.Disturbed.{HasBytes, IsStartOf}
 use Rattle.clean_reports.specs.Lines.{verdict_line}
 use Rattle.clean_reports.specs.Uses.{NoUse}
 use Rattle.clean_reports.specs.Verdicts.{IsCertified, IsVerdict}
 use Rattle.clean_reports.specs.declared.verdict.Verdict.{Verdict}
 use Rattle.clean_reports.specs.declared.verdict.Verdict.TheVariants.{Clean, Use, Mark as ByMark}
+use Rattle.any_runs.specs.Echoes.{kept}
+use Rattle.any_runs.specs.Secrets.{Secrets}
+use Rattle.any_verdicts.specs.Chosen.{has_address, has_position, is_revealed, listed, secrets_of}
+use Rattle.any_verdicts.specs.Verdicts.{AllOthersAreSame, IsAnyVerdict}
+use Rattle.any_verdicts.specs.declared.any_bytes.AnyBytes.{AnyBytes}
+use Rattle.any_verdicts.specs.declared.chosen.Chosen.{Chosen}
+use Rattle.any_verdicts.specs.declared.verdict.AnyVerdict.{AnyVerdict}
+use Rattle.driver.specs.AnyCertified.{AreSameOnce, IsAnyOnce, chosen_secrets, clean_end}
 use Rattle.driver.specs.Certified.{Certifies, IsCertifiedOnce, IsVerdictOnce, end_of_verdict, step_for}
 
 -- a program begins with no errors
@@ -48,6 +57,48 @@ module _ (image : Image) (input : List ℕ) (step : ℕ) (setup : Setup) (plain 
         subst (λ (s : Setup). IsCertified image (start_state image) s [] step) plain
         (certified image (start_state image) (right setup []) (begins image)
         (subst (λ (s : Setup). HasBytes s) (sym plain) bytes))
+
+-- for every value of what is chosen --
+
+none-kept : (image : Image) → NoUse (kept (start_state image).events)
+unfolding start_state kept
+none-kept image = tt
+
+pub secrets-are : (chosen : Chosen) (bytes : AnyBytes) → bytes.input.items ≡ listed chosen.input
+    → bytes.memory.items ≡ listed chosen.memory → bytes.revealed.items ≡ listed chosen.reveal
+    → secrets_of bytes ≡ chosen_secrets chosen
+unfolding secrets_of
+secrets-are chosen bytes input memory revealed = λ i. record {
+  input = has_position (input i);
+  memory = has_address (memory i);
+  revealed = is_revealed (revealed i);
+}
+
+module _ (image : Image) (input : List ℕ) (step : ℕ) (setup : Setup) (plain : setup ≡ setup_with image input)
+    (chosen : Chosen) (bytes : AnyBytes) (is : secrets_of bytes ≡ chosen_secrets chosen)
+  where
+    pub any-once : (verdict : AnyVerdict)
+        → (NoUse (kept (start_state image).events)
+        → IsAnyVerdict (secrets_of bytes) (start_state image) setup step verdict)
+        → IsAnyOnce image input step chosen verdict
+    any-once verdict tells =
+        subst₂ (λ (secrets : Secrets) (s : Setup). IsAnyVerdict secrets (start_state image) s step verdict) is plain
+        (tells (none-kept image))
+
+    pub same-once : All (λ byte. byte < 2 ^ 8) input
+        → (IsStartOf image (start_state image) → AreBytes (start_state image).bytes → HasBytes setup
+        → AllOthersAreSame (secrets_of bytes) (start_state image) setup step)
+        → AreSameOnce image input step chosen
+    same-once small same loaded =
+        subst₂ (λ (secrets : Secrets) (s : Setup). AllOthersAreSame secrets (start_state image) s step) is plain
+        (same (begins image) loaded (subst (λ (s : Setup). HasBytes s) (sym plain) small))
+
+-- a verdict with a clean end is a clean one
+pub is-clean : (verdict : Verdict) (P : Type 0) → is_some (clean_end verdict) ≡ true
+    → ((ended : Bool) → verdict ≡ Clean ended → P) → P
+is-clean (Clean ended) P some told = told ended refl
+is-clean (ByMark index mark) P some told = cc
+is-clean (Use found) P some told = cc
 
 -- what was written for a verdict
 pub certifies : (image : Image) (input : List ℕ) (asked : Option ℕ) (old new : Option (List ℕ)) (verdict : Verdict)

@@ -47,11 +47,18 @@ abbrev pub is_right : Bool → AnyVerdict → Bool
 is_right asked (Same ended read) = ended || asked
 is_right asked verdict = false
 
+-- has a clean run ended?
+abbrev pub clean_end : Verdict → Option Bool
+clean_end (Clean ended) = Some ended
+clean_end (ByMark index mark) = None
+clean_end (FirstUsed found) = None
+
 -- a clean run that is judged for every value, and the line that says so
 pub record IsJudged (image : Image) (input : List ℕ) (n : ℕ) (asked : Bool) (chosen : Chosen) (text : List ℕ)
     (right : Bool) : Type 0 where
-  pub ended : Bool
-  pub clean : IsVerdictOnce image input n (Clean ended)
+  pub plain : Verdict
+  pub clean : is_some (clean_end plain) ≡ true
+  pub first : IsVerdictOnce image input n plain
   pub certified : IsCertifiedOnce image input n
   pub verdict : AnyVerdict
   pub once : IsAnyOnce image input n chosen verdict
@@ -63,7 +70,7 @@ pub record IsJudged (image : Image) (input : List ℕ) (n : ℕ) (asked : Bool) 
 pub record IsUnclean (image : Image) (input : List ℕ) (n : ℕ) (text : List ℕ) (right : Bool) : Type 0 where
   pub verdict : Verdict
   pub once : IsVerdictOnce image input n verdict
-  pub unclean : (ended : Bool) → verdict ≡ Clean ended → ⊥
+  pub unclean : clean_end verdict ≡ None
   pub line : text ≡ verdict_line image n verdict
   pub is : right ≡ false
 

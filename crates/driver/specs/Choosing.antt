@@ -1,6 +1,7 @@
 -- The bytes that may be any, as the arguments of `certify` name them.
-use Rattle.std.specs.Prelude.{◌≡◌, ◌⊎◌, ◌-◌, ℕ, Bool, true, List, [], ◌∷◌, Option, Some, None, if◌then◌else◌, is_some}
-use Rattle.std.specs.Prelude.{nat_lt}
+use Rattle.std.specs.Prelude.{◌≡◌, ◌⊎◌, ◌+◌, ◌-◌, ◌&&◌, ℕ, Bool, true, List, [], ◌∷◌, Option, Some, None}
+use Rattle.std.specs.Prelude.{if◌then◌else◌, is_some}
+use Rattle.std.specs.Prelude.{nat_le, nat_lt}
 use Rattle.command_line.specs.Orders.{text_of}
 use Rattle.command_line.specs.declared.order.CertifyArgs.{CertifyArgs}
 use Rattle.commands.specs.Commands.{number}
@@ -11,6 +12,7 @@ use Rattle.exit_status.specs.declared.ends.LoneOption.TheVariants.{Reveal as Lon
 use Rattle.exit_status.specs.declared.ends.SweepOption.{SweepOption}
 use Rattle.exit_status.specs.declared.ends.SweepOption.TheVariants.{Any, AnyMemory, Reveal as RevealOption}
 use Rattle.run_values.specs.declared.span.Span.{Span}
+use Rattle.scenario.specs.Limits.{most_steps}
 use Rattle.sweep_plans.specs.Planned.{bytes_by}
 use Rattle.sweep_plans.specs.Requests.{NamesText, closed_range_of, range_of}
 use Rattle.sweep_plans.specs.declared.plan.Places.{Places}
@@ -58,10 +60,14 @@ memory_by (Some range) = until range.first range.last
 abbrev pub memory_of : List ℕ → Option Span
 memory_of text = memory_by (closed_range_of text)
 
+-- a step that a run may have, and some bytes of memory
+unfoldable pub can_reveal : ℕ → ℕ → ℕ → Bool
+can_reveal step addr len = nat_le step most_steps && (nat_lt 0 len && nat_le (addr + len) 4294967296)
+
 -- a step, an address and a number of bytes
 abbrev pub reveal_by : Option ℕ → Option ℕ → Option ℕ → Option Reveal
 reveal_by (Some step) (Some addr) (Some len) =
-    Some (record { step = step; span = record { start = addr; len = len } })
+    if can_reveal step addr len then Some (record { step = step; span = record { start = addr; len = len } }) else None
 reveal_by _ _ _ = None
 
 unfoldable pub reveal_in : List (List ℕ) → Option Reveal

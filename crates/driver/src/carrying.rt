@@ -116,7 +116,7 @@ fn follow_order<'a, F: Files, R: Read, W: Write>(
     reader: &mut R,
     writer: &mut W,
 ) -> Result<(), End<'a>>
-    ensures { Carried (F.gives files.now) order.now action
+    ensures { Carried (F.gives files.now) order.now action.entry
         (streams (R.remaining reader.old) (W.contents writer.old)) (streams (R.remaining reader.new) (W.contents writer.new)) (end_of result) }
 {
     let profile = profile_named(order.profile)?;

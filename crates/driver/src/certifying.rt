@@ -3,7 +3,7 @@ ghost use Rattle.std.specs.Prelude.{◌≡◌, ◌≤◌, ℕ, Bool, IfOk, Ok, l
 ghost use Rattle.scenario.specs.Limits.{longest_input};
 ghost use Rattle.any_verdicts.specs.Lines.{any_line};
 ghost use Rattle.any_verdicts.specs.declared.verdict.AnyVerdict.TheVariants.{Same};
-ghost use Rattle.driver.specs.AnyCertified.{AreSameOnce, CertifiesAny, CertifiesBy, IsAnyOnce, IsTold, is_right};
+ghost use Rattle.driver.specs.AnyCertified.{AreSameOnce, CertifiesAny, CertifiesBy, IsAnyOnce, IsTold, clean_end, is_right};
 ghost use Rattle.clean_reports.specs.Lines.{verdict_line};
 ghost use Rattle.clean_reports.specs.declared.verdict.Verdict.TheVariants.{Clean};
 ghost use Rattle.driver.specs.Certified.{Certifies, IsCertifiedOnce, IsVerdictOnce, end_of_verdict};
@@ -137,6 +137,16 @@ fn is_right(verdict: &AnyVerdict, is_asked: bool) -> bool
     }
 }
 
+/// Returns whether a clean run has ended.
+fn clean_end(verdict: &Verdict) -> Option<bool>
+    ensures { result ≡ clean_end verdict.now }
+{
+    match verdict {
+        Verdict::Clean(ended) => Some(*ended),
+        Verdict::Mark(..) | Verdict::Use(_) => None,
+    }
+}
+
 /// What is said of a run, and whether it is all right.
 #[derive(Drop)]
 struct Told {
@@ -157,11 +167,13 @@ fn told_of(
     ensures { IfOk result (λ told. IsTold image.now input.items step is_asked chosen.now told.line.items told.right) }
 {
     let copy = input.as_slice().to_vec(alloc)?;
-    let plain = verdict_once(alloc, image, copy, step)?;
-    let Verdict::Clean(_) = plain else {
+    let Ok(plain) = verdict_once(alloc, image, copy, step) else {
+        return Err(AllocError);
+    };
+    if clean_end(&plain).is_none() {
         let line = line_of(alloc, image, step, &plain)?;
         return Ok(Told { line, right: false });
-    };
+    }
     let verdict = any_once(alloc, image, input, chosen, step)?;
     let line = any_line_of(alloc, image, chosen, step, &verdict)?;
     let right = is_right(&verdict, is_asked);
@@ -179,12 +191,12 @@ fn print_any<'a, W: Write>(
 ) -> Result<(), End<'a>>
     ensures { CertifiesAny image.now input.items asked chosen.now (W.contents writer.old) (W.contents writer.new) (end_of result) }
 {
-    let step = asked.unwrap_or(MOST_STEPS);
-    let Ok(told) = told_of(alloc, image, input, chosen, step, asked.is_some()) else {
+    let last = asked.unwrap_or(MOST_STEPS);
+    let Ok(told) = told_of(alloc, image, input, chosen, last, asked.is_some()) else {
         return Err(End::NoMemory);
     };
-    let Sent { whole, .. } = send(writer, &told.line);
-    if !whole {
+    let sent = send(writer, &told.line);
+    if !sent.whole {
         return Err(End::CannotWrite);
     }
     if told.right {

@@ -2,13 +2,14 @@
 ghost use Rattle.std.specs.Prelude.{◌≡◌, IfErr, IfOk};
 ghost use Rattle.command_line.specs.Orders.{text_of};
 ghost use Rattle.exit_status.specs.declared.ends.SweepOption.TheVariants.{AnyMemory, Reveal as RevealOption};
-ghost use Rattle.driver.specs.Choosing.{IsChosen, IsNotChosen, Names, NamesInput, NamesNoInput, NamesNone, memory_of, reveal_in, reveal_of};
+ghost use Rattle.driver.specs.Choosing.{IsChosen, IsNotChosen, Names, NamesInput, NamesNoInput, NamesNone, can_reveal, memory_of, reveal_in, reveal_of};
 
 use any_verdicts::{Chosen, Reveal};
 use command_line::CertifyArgs;
 use commands::number;
 use exit_status::{End, LoneOption, SweepOption};
 use run_values::Span;
+use scenario::MOST_STEPS;
 use sweep_plans::{bytes_of, closed_range, open_range};
 use texts::Parts;
 
@@ -66,6 +67,14 @@ fn named_memory<'a>(text: Option<&'a str>) -> Result<Option<Span>, End<'a>>
     }
 }
 
+/// Returns whether bytes can be revealed before a step: the step may be made, and they are bytes of memory, one at least.
+#[tactic(auto, unfolding(crate::specs::Choosing::can_reveal))]
+fn can_reveal(step: u32, start: u32, len: u32) -> bool
+    ensures { result ≡ can_reveal step start len }
+{
+    step <= MOST_STEPS && len > 0 && u64::from(start) + u64::from(len) <= 0x1_0000_0000
+}
+
 /// Returns what is revealed, given its parts between commas.
 #[tactic(auto, unfolding(crate::specs::Choosing::reveal_in))]
 fn reveal_in(mut parts: Parts<'_>) -> Option<Reveal>
@@ -80,6 +89,9 @@ fn reveal_in(mut parts: Parts<'_>) -> Option<Reveal>
     let step = number(step)?;
     let start = number(addr)?;
     let len = number(len)?;
+    if !can_reveal(step, start, len) {
+        return None;
+    }
     let span = Span { start, len };
     Some(Reveal { step, span })
 }

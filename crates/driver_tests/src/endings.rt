@@ -1,7 +1,7 @@
 //! How orders are carried out and what they write, over files, readers and writers that fail.
 use crate::shelf::Shelf;
 use crate::words::{Given, profile_of};
-use command_line::{Action, Order, SweepArgs, Task};
+use command_line::{Action, CertifyArgs, Order, SweepArgs, Task};
 use driver::{RunFault, run_once, run_order, tell};
 use guest_elf::{Image, read};
 use replay_session::LONGEST_INPUT;
@@ -137,9 +137,47 @@ type Case = (
     Written,
 );
 
+/// A verdict, up to no step that is given.
+const PLAIN: CertifyArgs<'static> = CertifyArgs {
+    step: None,
+    any: None,
+    any_memory: None,
+    reveal: None,
+};
+
+/// Up to step 2, and up to step 3.
+const TO_2: CertifyArgs<'static> = CertifyArgs {
+    step: Some(2),
+    any: None,
+    any_memory: None,
+    reveal: None,
+};
+
+const TO_3: CertifyArgs<'static> = CertifyArgs {
+    step: Some(3),
+    any: None,
+    any_memory: None,
+    reveal: None,
+};
+
+/// For every value of a byte of the input, which has none; and of bytes of memory, the second of which isn't loaded.
+const OF_INPUT: CertifyArgs<'static> = CertifyArgs {
+    step: Some(3),
+    any: Some("0"),
+    any_memory: None,
+    reveal: None,
+};
+
+const OF_MEMORY: CertifyArgs<'static> = CertifyArgs {
+    step: Some(3),
+    any: None,
+    any_memory: Some("0x1000b..0x1000d"),
+    reveal: None,
+};
+
 /// A command.
 enum Asked {
-    Do(Action),
+    Do(Action<'static>),
     /// A sweep over the input of the shelf: its bytes, words and part.
     Sweep(Option<&'static str>, Option<&'static str>, &'static str),
 }
@@ -298,7 +336,7 @@ const NAMED: [Named; 9] = [
         Given::Isa(""),
         (
             "a verdict for none",
-            ("program", false, Asked::Do(Action::Certify(Some(3)))),
+            ("program", false, Asked::Do(Action::Certify(TO_3))),
             b"",
             2,
             Written::Nothing,
@@ -322,7 +360,7 @@ const GOOD_RULES: &[u8] = b"{\n  any\n  Memcheck:Cond\n  fun:*\n}\n";
 const BAD_RULES: &[u8] = b"# an empty block\n{\n}\n";
 
 /// A report, a session, one that also looks, one that also tries, and a verdict.
-const ORDERS: [Case; 8] = [
+const ORDERS: [Case; 10] = [
     (
         "a report",
         ("program", false, Asked::Do(Action::Report(3))),
@@ -360,24 +398,40 @@ const ORDERS: [Case; 8] = [
     ),
     (
         "a verdict",
-        ("program", false, Asked::Do(Action::Certify(Some(3)))),
+        ("program", false, Asked::Do(Action::Certify(TO_3))),
         b"",
         0,
         Written::Line(b"clean to step 3: "),
     ),
     (
         "a verdict on a run that goes on after the step",
-        ("program", false, Asked::Do(Action::Certify(Some(2)))),
+        ("program", false, Asked::Do(Action::Certify(TO_2))),
         b"",
         0,
         Written::Line(b"clean up to step 2: "),
     ),
     (
         "a verdict up to the greatest step",
-        ("program", false, Asked::Do(Action::Certify(None))),
+        ("program", false, Asked::Do(Action::Certify(PLAIN))),
         b"",
         0,
         Written::Line(b"clean to step 4194304: "),
+    ),
+    (
+        "a verdict for every value of a byte that the input hasn't",
+        ("program", false, Asked::Do(Action::Certify(OF_INPUT))),
+        b"",
+        3,
+        Written::Nothing,
+    ),
+    (
+        "a verdict for every value of bytes that may not be accessed",
+        ("program", false, Asked::Do(Action::Certify(OF_MEMORY))),
+        b"",
+        5,
+        Written::Line(
+            b"not the same for any memory 0x0001000b..0x0001000d: 0x0001000c may not be accessed",
+        ),
     ),
 ];
 

@@ -1,7 +1,7 @@
 //! The orders of command lines.
 use crate::words::{Given, profile_of};
 use clap::error::ErrorKind;
-use command_line::{Action, Order, ProfileArgs, SweepArgs, Task, read_order};
+use command_line::{Action, CertifyArgs, Order, ProfileArgs, SweepArgs, Task, read_order};
 use std::alloc::{AllocError, Global};
 use std::process::Abort;
 
@@ -40,6 +40,14 @@ fn is_sweep(asked: &SweepArgs<'_>, want: &SweepArgs<'_>) -> bool {
         && asked.with_sides == want.with_sides
 }
 
+/// Whether the arguments of two verdicts are.
+fn is_certify(asked: &CertifyArgs<'_>, want: &CertifyArgs<'_>) -> bool {
+    asked.step == want.step
+        && asked.any == want.any
+        && asked.any_memory == want.any_memory
+        && asked.reveal == want.reveal
+}
+
 /// Whether two commands are.
 fn is_task(asked: &Task<'_>, want: &Task<'_>) -> bool {
     match (asked, want) {
@@ -48,7 +56,9 @@ fn is_task(asked: &Task<'_>, want: &Task<'_>) -> bool {
         (Task::Do(Action::Look(limit)), Task::Do(Action::Look(other))) => limit == other,
         (Task::Do(Action::Tries(limit)), Task::Do(Action::Tries(other))) => limit == other,
         (Task::Sweep(asked), Task::Sweep(want)) => is_sweep(asked, want),
-        (Task::Do(Action::Certify(step)), Task::Do(Action::Certify(at))) => step == at,
+        (Task::Do(Action::Certify(asked)), Task::Do(Action::Certify(want))) => {
+            is_certify(asked, want)
+        }
         _ => false,
     }
 }
@@ -110,7 +120,7 @@ fn assert_given(rt: &impl Abort, alloc: Global, lines: &[Line]) {
     }
 }
 
-const REPORTS: [Line; 5] = [
+const REPORTS: [Line; 6] = [
     (
         "the usual step",
         &["run", "program"],
@@ -137,14 +147,45 @@ const REPORTS: [Line; 5] = [
         &["certify", "f", "--input", "i", "--step", "7"],
         ("f", Some("i"), None),
         Given::Nothing,
-        Task::Do(Action::Certify(Some(7))),
+        Task::Do(Action::Certify(CertifyArgs {
+            step: Some(7),
+            any: None,
+            any_memory: None,
+            reveal: None,
+        })),
+    ),
+    (
+        "a verdict for every value",
+        &[
+            "certify",
+            "f",
+            "--any",
+            "0..3",
+            "--any-memory",
+            "8..9",
+            "--reveal",
+            "1,2,3",
+        ],
+        ("f", None, None),
+        Given::Nothing,
+        Task::Do(Action::Certify(CertifyArgs {
+            step: None,
+            any: Some("0..3"),
+            any_memory: Some("8..9"),
+            reveal: Some("1,2,3"),
+        })),
     ),
     (
         "a verdict on no step that is given",
         &["certify", "f"],
         ("f", None, None),
         Given::Nothing,
-        Task::Do(Action::Certify(None)),
+        Task::Do(Action::Certify(CertifyArgs {
+            step: None,
+            any: None,
+            any_memory: None,
+            reveal: None,
+        })),
     ),
 ];
 
