@@ -111,6 +111,7 @@ GATE = (
     GateCheck("tests/program/test-changes PROGRAM 15", of_proved=LONG),
     GateCheck("tests/sweep/test-faults PROGRAM 15", of_proved=MANY),
     GateCheck("tests/program/test-clean PROGRAM"),
+    GateCheck("tests/program/test-any PROGRAM", of_proved=LONG),
     GateCheck("tests/gdb/test-gdb PROGRAM", seconds=40, of_proved=LONG),
     GateCheck("tests/page/test-page PROGRAM", seconds=270, without_proofs="tests/page/test-page --kept PROGRAM",
               of_proved="the page has the proved program"),

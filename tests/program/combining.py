@@ -32,6 +32,7 @@ VALUES = {
     "--demangle": "yes", "--from": "table", "--code": "main", "--seed": "1", "--sample": "1", "--jobs": "1", "--parts": "1",
     "--keep": "kept", "--sshlogin": ":", "--script": "slurm", "--goal": "exited", "--table": "out", "--svg": "out",
     "--html": "out", "--lcov": "out", "--port": "0", "--map": "map", "--pad": "script", "--undefined": "main",
+    "--any": "0..2", "--any-memory": "0x1000c..0x10010", "--reveal": "1,0x1000c,4",
 }
 # What comes after the options of a tool, if it isn't a file only.
 OPERANDS = {"compare": ("FILE", "input 0 7"), "talk": ("FILE", "-"), "when": ("FILE", "x"), "word": ("nop",), "suppress": (), "page": ()}
@@ -137,7 +138,7 @@ class Commands:
     def __init__(self, program: str, folder: pathlib.Path) -> None:
         self.program, self.folder = program, folder
         tools = sorted(path.name.removeprefix("replaycheck-") for path in (TOP / "cli/bin").glob("replaycheck-*"))
-        self.names = (*OF_PROGRAM, "run+", "exec+", *tools)
+        self.names = (*OF_PROGRAM, "run+", "exec+", "certify+", *tools)
         for name, text in PROGRAMS.items():
             words = assemble(text)
             (folder / name).write_bytes(elf(words, symbols=[("main", ENTRY, 4 * len(words))]))
@@ -168,8 +169,8 @@ class Commands:
 
     def arguments(self, command: str, options: list[str], file: str = CLEAN) -> list[str]:
         """Returns the arguments of a command: each of these options, with its value, and operands, without a file if that is empty. A sweep
-        of bytes has an input."""
-        given = ["--input"] * (command == "sweep" and "--input" not in options) + options
+        of bytes has an input, and so have bytes that are any."""
+        given = ["--input"] * ((command == "sweep" or "--any" in options) and "--input" not in options) + options
         valued = [f"{option}={VALUES[option]}" if option in VALUES else option for option in given]
         operands = [file if name == "FILE" else name for name in OPERANDS.get(command, ("FILE",))]
         return [*valued, *filter(None, operands)]

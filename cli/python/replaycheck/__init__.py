@@ -14,6 +14,7 @@ if TYPE_CHECKING:
     from replaycheck.options import LAST_STEP
     from replaycheck.reports import Address, Frame, Leak, Note, Report, State, Sum
     from replaycheck.reports import Error as ReportedError
+    from replaycheck.scripting.any_bytes import AnyCertificate
     from replaycheck.scripting.errors import Ended, Error, OutOfMemory, Refused, Unreadable, Usage
     from replaycheck.scripting.inputs import Input
     from replaycheck.scripting.runs import Run
@@ -21,13 +22,14 @@ if TYPE_CHECKING:
     from replaycheck.scripting.sweeps import Outcome, hinders, sweep
 
 __all__ = [
-    "LAST_STEP", "Address", "Block", "Certificate", "Ended", "Error", "Frame", "Happened", "Input", "Leak", "Memory", "Note", "OutOfMemory",
-    "Outcome", "Refused", "Registers", "Report", "ReportedError", "Run", "State", "Step", "Sum", "Unreadable", "Usage", "hinders",
-    "sweep"]
+    "LAST_STEP", "Address", "AnyCertificate", "Block", "Certificate", "Ended", "Error", "Frame", "Happened", "Input", "Leak", "Memory",
+    "Note", "OutOfMemory", "Outcome", "Refused", "Registers", "Report", "ReportedError", "Run", "State", "Step", "Sum", "Unreadable",
+    "Usage", "hinders", "sweep"]
 # Where each name is: its module is imported when the name is asked for, as the tools need none of these.
 _HOMES = {
     "options": ("LAST_STEP",),
     "reports": ("Address", "Frame", "Leak", "Note", "Report", "State", "Sum"),
+    "scripting.any_bytes": ("AnyCertificate",),
     "scripting.errors": ("Ended", "Error", "OutOfMemory", "Refused", "Unreadable", "Usage"),
     "scripting.inputs": ("Input",),
     "scripting.runs": ("Run",),

@@ -50,15 +50,15 @@ bytes_text (Some input) None =
 bytes_text None (Some memory) = codes "these bytes of memory"
 bytes_text None None = codes "these bytes"
 
--- ` that leaves the same L bytes at A, all defined, before step N`
+-- ` that leaves the same L defined bytes at A before step N`
 unfoldable pub revealed_len : ℕ → List ℕ
 revealed_len len = codes " that leaves the same " ++ decimal len
 
 unfoldable pub revealed_at : ℕ → List ℕ
-revealed_at start = codes " bytes at " ++ address_text start
+revealed_at start = codes " defined bytes at " ++ address_text start
 
 unfoldable pub revealed_step : ℕ → List ℕ
-revealed_step step = codes ", all defined, before step " ++ decimal step
+revealed_step step = codes " before step " ++ decimal step
 
 unfoldable pub revealed_text : ℕ → ℕ → ℕ → List ℕ
 revealed_text step start len = revealed_len len ++ revealed_at start ++ revealed_step step

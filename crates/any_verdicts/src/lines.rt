@@ -101,11 +101,10 @@ fn push_revealed_len(out: &mut Vec<u8>, len: u32) -> Result<(), AllocError>
 }
 
 /// Appends where they are.
-#[tactic(auto, unfolding(crate::specs::Lines::revealed_at), using(std::proofs::Common::append_assoc))]
 fn push_revealed_at(out: &mut Vec<u8>, start: u32) -> Result<(), AllocError>
     ensures { OnOk result (out.new.items ≡ out.old.items ++ revealed_at start) }
 {
-    push_text(out, b" bytes at ")?;
+    push_text(out, b" defined bytes at ")?;
     push_address(out, start)
 }
 
@@ -114,7 +113,7 @@ fn push_revealed_at(out: &mut Vec<u8>, start: u32) -> Result<(), AllocError>
 fn push_revealed_step(out: &mut Vec<u8>, step: u32) -> Result<(), AllocError>
     ensures { OnOk result (out.new.items ≡ out.old.items ++ revealed_step step) }
 {
-    push_text(out, b", all defined, before step ")?;
+    push_text(out, b" before step ")?;
     push_number(out, u64::from(step))
 }
 

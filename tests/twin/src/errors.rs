@@ -43,7 +43,7 @@ impl Kind {
 }
 
 /// The errors of one kind with one trace: how many there are, and the address of the first, if it has one.
-#[derive(Clone)]
+#[derive(Clone, Debug)]
 pub struct Group {
     pub kind: Kind,
     pub trace: Vec<u32>,

@@ -42,7 +42,7 @@ impl Function {
     }
 }
 
-#[derive(Clone)]
+#[derive(Clone, Debug)]
 pub struct Block {
     pub start: u32,
     pub size: u32,

@@ -74,7 +74,7 @@ const STACK_ROOM: u32 = 16;
 /// The most bytes of a stack frame: Memcheck's default for `--max-stackframe`.
 const LARGEST_FRAME: u32 = 2_000_000;
 
-const STACK_POINTER: usize = 2;
+pub const STACK_POINTER: usize = 2;
 
 /// The opcodes of loads and stores.
 const LOAD: u32 = 0x03;
@@ -254,6 +254,7 @@ impl Machine {
         self.heap.clone_from(&other.heap);
         self.errors.clone_from(&other.errors);
         (self.position, self.output, self.limits) = (other.position, other.output, other.limits);
+        self.heap_calls = other.heap_calls;
         self.said.clone_from(&other.said);
         (self.isa, self.reserved, self.steps) = (other.isa, other.reserved, other.steps);
         self.controls.clone_from(&other.controls);
@@ -523,7 +524,7 @@ impl Machine {
     }
 
     /// The word of the next instruction, if it can be taken and there is one.
-    fn next_word(&self) -> Option<u32> {
+    pub fn next_word(&self) -> Option<u32> {
         let (taken, len) = if self.isa.unit() == WORD { self.take::<WORD>() } else { self.take::<HALF>() };
         let can_be_taken = self.status == Status::Running && self.pc % self.isa.unit() == 0 && taken.bad.is_none();
         if can_be_taken { if len == HALF { expand(taken.value) } else { Some(taken.value) } } else { None }

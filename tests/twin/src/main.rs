@@ -1,11 +1,13 @@
 //! A plain interpreter of RV32IM, by `--isa` also of RV32IMC and RV32IMAC, with accessible and undefined bits: what a step costs where
 //! nothing is proved. It runs the loop that `bench/run` gives the program too, and prints where it leads; or a program of words from a
 //! file, and prints where it is after them, or answers looks at its run, or tells whether noise changes it. Of an ELF file it answers the
-//! lines of a session that looks, or writes the table of a sweep of alterations at steps. `--heap-region` and `--stack-region` say where
+//! lines of a session that looks, writes the table of a sweep of alterations at steps, or certifies a run, also for each value of some bytes. `--heap-region` and `--stack-region` say where
 //! heap and stack are.
 
+mod any;
 mod atomics;
 mod calls;
+mod certify;
 mod changes;
 mod controls;
 mod elf;
@@ -33,6 +35,7 @@ mod suppressions;
 mod sweep;
 #[cfg(test)]
 mod tests;
+mod vary;
 mod work;
 
 use elf::Image;
@@ -70,6 +73,9 @@ fn main() {
     });
     if words.first().is_some_and(|word| word == "sweep") {
         std::process::exit(sweep_of(setup, &words[1..]));
+    }
+    if words.first().is_some_and(|word| word == "certify" || word == "vary") {
+        std::process::exit(certify(setup, &words));
     }
     let number = |at: usize| words.get(at).and_then(|word| word.parse().ok());
     let given = |at: usize| std::fs::read(&words[at]).ok();
@@ -110,6 +116,8 @@ fn main() {
             "usage: twin STEPS | twin STEPS MEMORY FILE | twin looks MEMORY FILE | twin clean STEPS MEMORY FILE \
              | twin session PROGRAM [INPUT] [--limit N] | twin summary STEPS PROGRAM [INPUT] | twin errors STEPS PROGRAM [INPUT] \
              | twin streams STEPS PROGRAM [INPUT] | twin halves \
+             | twin certify PROGRAM .. | twin vary SEED PROGRAM [--any A..B].. [--any-memory A..B].. \
+             [--reveal STEP,ADDR,LEN].. [--timing div|mul,div] [--step N] [--input F] \
              | twin sweep PROGRAM --at A..B --faults LIST [--code-range LO..HI] [--pairs skip] \
              [--step N] [--input F] [--supp F] [--with-output] [--part I/N]; each with [--isa rv32im|rv32imc|rv32imac] \
              [--heap-region BEGIN] [--stack-region A..B] [--most-moved N] [--most-output N|none]"
@@ -159,6 +167,27 @@ fn sweep_of(setup: Setup, words: &[String]) -> i32 {
         Err(fault) => {
             eprintln!("twin: {fault}");
             2
+        }
+    }
+}
+
+/// Says whether a run is clean, or the same for each value of some bytes, and answers the exit status. `vary SEED` runs it with other values
+/// too.
+fn certify(setup: Setup, words: &[String]) -> i32 {
+    let seed = words.get(1).filter(|_| words[0] == "vary").map(|text| text.parse().unwrap_or_default());
+    match certify::Request::of(setup.isa, setup.regions, &words[if seed.is_some() { 2 } else { 1 }..]) {
+        Ok(request) => {
+            if let Some(seed) = seed {
+                print!("{}", vary::tell(&request, seed));
+                return 0;
+            }
+            let answer = request.answer();
+            print!("{}", answer.lines);
+            answer.status
+        }
+        Err(fault) => {
+            eprintln!("twin: {}", fault.text);
+            fault.status
         }
     }
 }

@@ -176,6 +176,19 @@ impl Memory {
         self.page(number).bytes[at] ^= bits;
     }
 
+    /// Whether another memory has the same accessible bytes, and of these each bit that this one has defined.
+    pub fn stands_for(&self, other: &Memory) -> bool {
+        let empty = Page { bytes: [0; PAGE], accessible: [0; PAGE], undef: [0; PAGE] };
+        let numbers = self.used.iter().chain(&other.used);
+        let mut pages = numbers.map(|number| [self, other].map(|it| it.pages[*number].as_deref().unwrap_or(&empty)));
+        let has_byte = |[one, other]: [&Page; 2], at: usize| {
+            let undef = one.undef[at];
+            let is_same = (one.bytes[at] ^ other.bytes[at]) & !undef == 0 && other.undef[at] & !undef == 0;
+            one.accessible[at] == other.accessible[at] && (is_same || one.accessible[at] != ACCESSIBLE)
+        };
+        pages.all(|pair| (0..PAGE).all(|at| has_byte(pair, at)))
+    }
+
     /// Makes the `len` bytes from an address on (modulo 2^32) inaccessible, undefined or defined.
     pub fn set_range(&mut self, start: u32, len: u32, kind: RangeKind) {
         let (accessible, undef) = match kind {

@@ -1,7 +1,7 @@
 //! Runs with noise: before each step, undefined bits of registers and control registers, and what undefined and inaccessible bytes hold,
 //! become others by chance. A run that has made no use of them must go the same way.
 
-use crate::errors::Kind;
+use crate::errors::{Kind, Wrong};
 use crate::machine::{Machine, Status};
 
 /// A generator of numbers by chance (xorshift, Marsaglia 2003), the same ones for the same seed.
@@ -14,7 +14,7 @@ impl Noise {
         Noise { state: seed.wrapping_mul(0x9E37_79B9_7F4A_7C15) | 1 }
     }
 
-    fn next(&mut self) -> u32 {
+    pub fn next(&mut self) -> u32 {
         self.state ^= self.state << 13;
         self.state ^= self.state >> 7;
         self.state ^= self.state << 17;
@@ -41,9 +41,9 @@ impl Noise {
     }
 }
 
-/// Whether an error is a use of undefined bits, or a read of inaccessible bytes.
-fn is_use(kind: Kind) -> bool {
-    !matches!(kind, Kind::Write(_) | Kind::Jump)
+/// Whether an error is a use of undefined bits, or a read of inaccessible bytes. A `read` only fills its buffer.
+pub fn is_use(kind: Kind) -> bool {
+    !matches!(kind, Kind::Write(_) | Kind::Free | Kind::Jump | Kind::Parameter("read(buf)", Wrong::Inaccessible))
 }
 
 fn has_use(machine: &Machine) -> bool {

@@ -79,7 +79,7 @@ pub fn summary(image: &Image, machine: &Machine) -> String {
 }
 
 /// A name: `?` for a byte that is no printable ASCII character.
-fn shown(name: &[u8]) -> String {
+pub fn shown(name: &[u8]) -> String {
     name.iter().map(|byte| if byte.is_ascii_graphic() { char::from(*byte) } else { '?' }).collect()
 }
 

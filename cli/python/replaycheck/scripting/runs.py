@@ -5,13 +5,14 @@ import contextlib
 import operator
 import os
 import warnings
-from typing import Iterator, List, Optional, Tuple, Union
+from typing import Iterator, List, Optional, Tuple, Union, overload
 
 from replaycheck.guest.regions import USUAL_MOVED, USUAL_OUTPUT, USUAL_REGIONS
 from replaycheck.looking import ALL, MOST_SEEN, TOP
 from replaycheck.options import FURTHEST_STEP, LAST_STEP
 from replaycheck.programs import ISAS
 from replaycheck.reports import Address, Lines, NoReport, Report, read_report
+from replaycheck.scripting.any_bytes import AnyCertificate, Areas, Bytes, Known, certified, options_of
 from replaycheck.scripting.errors import Error, Usage
 from replaycheck.scripting.files import Source
 from replaycheck.scripting.inputs import Input
@@ -236,9 +237,30 @@ class Run:
             met.update((begin + apart * at, int(digit)) for at, digit in enumerate(digits) if digit != "0")
         return met
 
-    def certify(self, step: Optional[int] = None) -> Certificate:
+    @overload
+    def certify(self, step: Optional[int] = None) -> Certificate: ...
+
+    @overload
+    def certify(self, step: Optional[int] = None, *, any: Bytes, memory: Areas = (), reveal: Known = ()  # noqa: A002
+                ) -> AnyCertificate: ...
+
+    @overload
+    def certify(self, step: Optional[int] = None, *, any: Bytes = (), memory: Areas, reveal: Known = ()  # noqa: A002
+                ) -> AnyCertificate: ...
+
+    def certify(self, step: Optional[int] = None, *, any: Bytes = (), memory: Areas = (), reveal: Known = ()  # noqa: A002
+                ) -> Union[Certificate, AnyCertificate]:
         """Returns whether anything that uninitialised, freed or unmapped memory holds has an influence on the run up to a step, without
-        one up to `limit`."""
+        one up to `limit`. With `any` bytes of the input, or bytes of `memory`: whether the run is the same for each value of them. What is
+        in `reveal`, steps with an address and a number of bytes, may then be known. Such a run has no edits but of its input.
+
+        # Errors
+
+        `Usage` for bytes that there are not, and beside other edits."""
+        at = None if step is None else number("step", step)
+        options = options_of(self._open(), any, memory, reveal)
+        if options:
+            return certified(self._open(), options, at)
         return Certificate(self._at(step).look("certify")[0], step is not None)
 
     # ---- looks

@@ -1,0 +1,8 @@
+set(CMAKE_SYSTEM_NAME Generic)
+set(CMAKE_SYSTEM_PROCESSOR riscv32)
+set(CMAKE_TRY_COMPILE_TARGET_TYPE STATIC_LIBRARY)
+set(CMAKE_C_COMPILER riscv64-unknown-elf-gcc)
+set(CMAKE_ASM_COMPILER riscv64-unknown-elf-gcc)
+set(target "-march=rv32im -mabi=ilp32")
+set(CMAKE_C_FLAGS_INIT "${target} --specs=picolibc.specs -O2 -g")
+set(CMAKE_ASM_FLAGS_INIT "${target} -g")
