@@ -12,7 +12,7 @@ use Rattle.exit_status.specs.declared.ends.LoneOption.TheVariants.{Reveal as Lon
 use Rattle.exit_status.specs.declared.ends.SweepOption.{SweepOption}
 use Rattle.exit_status.specs.declared.ends.SweepOption.TheVariants.{Any, AnyMemory, Reveal as RevealOption}
 use Rattle.run_values.specs.declared.span.Span.{Span}
-use Rattle.scenario.specs.Limits.{most_steps}
+use Rattle.scenario.specs.Limits.{furthest_step}
 use Rattle.sweep_plans.specs.Planned.{bytes_by}
 use Rattle.sweep_plans.specs.Requests.{NamesText, closed_range_of, range_of}
 use Rattle.sweep_plans.specs.declared.plan.Places.{Places}
@@ -62,7 +62,7 @@ memory_of text = memory_by (closed_range_of text)
 
 -- a step that a run may have, and some bytes of memory
 unfoldable pub can_reveal : ℕ → ℕ → ℕ → Bool
-can_reveal step addr len = nat_le step most_steps && (nat_lt 0 len && nat_le (addr + len) 4294967296)
+can_reveal step addr len = nat_le step furthest_step && (nat_lt 0 len && nat_le (addr + len) 4294967296)
 
 -- a step, an address and a number of bytes
 abbrev pub reveal_by : Option ℕ → Option ℕ → Option ℕ → Option Reveal

@@ -9,7 +9,7 @@ use command_line::CertifyArgs;
 use commands::number;
 use exit_status::{End, LoneOption, SweepOption};
 use run_values::Span;
-use scenario::MOST_STEPS;
+use scenario::FURTHEST_STEP;
 use sweep_plans::{bytes_of, closed_range, open_range};
 use texts::Parts;
 
@@ -72,7 +72,7 @@ fn named_memory<'a>(text: Option<&'a str>) -> Result<Option<Span>, End<'a>>
 fn can_reveal(step: u32, start: u32, len: u32) -> bool
     ensures { result ≡ can_reveal step start len }
 {
-    step <= MOST_STEPS && len > 0 && u64::from(start) + u64::from(len) <= 0x1_0000_0000
+    step <= FURTHEST_STEP && len > 0 && u64::from(start) + u64::from(len) <= 0x1_0000_0000
 }
 
 /// Returns what is revealed, given its parts between commas.
