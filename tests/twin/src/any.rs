@@ -191,7 +191,7 @@ impl Asked {
         };
         for (i, it) in self.reveals.iter().enumerate() {
             let word = if i == 0 { "that leaves" } else { "and" };
-            let place = format!("{} bytes at {:#010x} before step {}", it.len, it.start, it.step);
+            let place = format!("{} defined bytes at {:#010x} before step {}", it.len, it.start, it.step);
             write!(text, " {word} the same {place}").expect("a string takes all");
         }
         text
@@ -256,7 +256,7 @@ impl No {
     fn text(&self, image: &Image) -> String {
         match self {
             No::Use(step, group) => format!("first use at step {step}: {}{}", group.kind.text(), trace(image, &group.trace)),
-            No::StackPointer(step) => format!("at step {step}: the stack pointer depends on them"),
+            No::StackPointer(step) => format!("at step {step}: the stack pointer may depend on them"),
             No::Operand(step, name) => format!("at step {step}: {name}'s operand depends on them"),
             No::Outside(step, place) => format!("input {place} is read at step {step} into bytes that may not be accessed"),
             No::Closed(step, address) => format!("{address:#010x} may not be accessed at step {step}"),
