@@ -32,10 +32,11 @@ STEP = re.compile(r"\bat step (\d+)\b")
 @dataclass(frozen=True)
 class AnyCertificate:
     """What `replaycheck certify --any` says of a run up to a step, which is proved: `text` has its lines. `same` says that for each value
-    of the bytes the run has the same instructions, addresses, status and errors up to there. `goes_on` says of such a run that it has not
-    ended by then and doesn't rest in a jump to itself. `clean` says whether the run without these bytes is clean: if it isn't, nothing is
-    said of other values. `step` is the step that the line names where the run isn't the same, or not clean. `asked` says whether a step
-    was given. It is true where the command ends with 0: the run is the same, and doesn't go on unless its step was given."""
+    of the bytes the run has the same instructions, addresses and status up to there, and the same errors but for writes of uninitialised
+    bytes. `goes_on` says of such a run that it has not ended by then and doesn't rest in a jump to itself. `clean` says whether the run
+    without these bytes is clean: if it isn't, nothing is said of other values. `step` is the step that the line names where the run isn't
+    the same, or not clean. `asked` says whether a step was given. It is true where the command ends with 0: the run is the same, and
+    doesn't go on unless its step was given."""
 
     text: str
     asked: bool = False
