@@ -86,7 +86,7 @@ SCRIPTED = [
     ("what may be known", "print(run.certify(any=0, reveal=[(7, 0x10800, 1)]).same)", ["True"]),
     ("without bytes", "print(type(run.certify()).__name__, type(run.certify(memory=range(0x10800, 0x10804))).__name__)",
      ["Certificate AnyCertificate"]),
-    ("no such byte", "run.certify(any=4)", ["Usage"]),
+    ("no such byte", "run.certify(any=4)", ["Refused"]),
     ("no bytes", "run.certify(any='x')", ["Usage"]),
     ("a range with gaps", "run.certify(any=range(0, 4, 2))", ["Usage"]),
     ("no such symbol", "run.certify(memory='kez')", ["Usage"]),

@@ -11,7 +11,6 @@ from replaycheck.children import outcome
 from replaycheck.endings import Fault
 from replaycheck.programs import built_program, isa_words
 from replaycheck.refusals import Ended
-from replaycheck.scripting.errors import Ended as EndedEarly
 from replaycheck.scripting.errors import Error, Usage, of_end
 from replaycheck.scripting.files import Room
 from replaycheck.scripting.scenarios import USUAL, Scenario
@@ -24,7 +23,7 @@ Areas = Union[range, str, Iterable[Union[range, str]]]
 # What may be known: a step, an address and a number of bytes.
 Known = Iterable[Tuple[int, int, int]]
 OF_RUNS = ("redzone", "queue")  # the options of a session that change a run
-STATUSES, BAD_BYTES = (0, 5), 3  # the answers of `certify`, and the status for bytes that there are not
+STATUSES = (0, 5)  # the answers of `certify`
 SAME, NOT_THE_SAME, NOT_CLEAN, GOES_ON = ": the run is the same up to step ", "not the same for any ", "not clean: ", "; the run goes on"
 STEP = re.compile(r"\bat step (\d+)\b")
 
@@ -122,9 +121,7 @@ def certified(talk: Talk, options: List[str], step: Optional[int]) -> AnyCertifi
         except (Fault, OSError) as fault:
             raise Error(str(fault)) from None
     if status not in STATUSES:
-        end = Ended(status, said)
-        meant = of_end(end, talk.names)
-        raise Usage("\n".join(end.lines)) if status == BAD_BYTES and isinstance(meant, EndedEarly) else meant
+        raise of_end(Ended(status, said), talk.names)
     return AnyCertificate(out.decode("utf-8", "surrogateescape").rstrip("\n"), step is not None)
 
 
